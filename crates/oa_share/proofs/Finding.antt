@@ -5,8 +5,8 @@ use Rattle.std.proofs.lemmas.List.{append_assoc, length-append, length-take-le, 
 use Rattle.std.specs.Int.{w32, from_le_bytes}
 use Rattle.oa_model.specs.Limits.{max_request_bytes}
 use Rattle.oa_frame.specs.declared.ends.End.TheVariants.{Closed}
-use Rattle.oa_share.specs.Readers.{IsPart, said}
-use Rattle.oa_share.specs.Steps.{Finds}
+use Rattle.oa_share.specs.Readers.{IsPartRecord, said}
+use Rattle.oa_share.specs.Steps.{FindsEnd}
 use Rattle.oa_share.specs.declared.found.Found.TheVariants as found
 
 long_front : (front bytes : List ℕ) (k : ℕ) → k ≤ length bytes → length (front ++ take k bytes) ≡ length front + k
@@ -23,15 +23,15 @@ same_front : (front bytes : List ℕ) → 4 ≤ length front → said (front ++ 
 same_front front bytes h = ap (from_le_bytes w32) (take-append-le 4 front bytes h)
 
 pub finds_closed : (n : ℕ) (front bytes : List ℕ) → n ≡ said (front ++ bytes) → 4 ≤ length front + length bytes → length front < 4 → n ≡ 0
-    → Finds (found.Ends Closed (4 - length front)) front bytes
+    → FindsEnd (found.Ends Closed (4 - length front)) front bytes
 finds_closed n front bytes s four few zero =
     let k : 4 - length front ≤ length bytes = omega (arith, four) in
     let len = long_front front bytes (4 - length front) k in
     (omega (arith, few), k, (omega (arith, len, few), same_said front bytes (4 - length front) k (omega (arith, few)) ∙ sym s ∙ zero))
 
-pub finds_whole : (n : ℕ) (front bytes : List ℕ) → IsPart front → n ≡ said (front ++ bytes) → 4 ≤ length front + length bytes
+pub finds_whole : (n : ℕ) (front bytes : List ℕ) → IsPartRecord front → n ≡ said (front ++ bytes) → 4 ≤ length front + length bytes
     → ((length front < 4) × (n ≡ 0 → ⊥)) ⊎ (4 ≤ length front) → ((length front < 4) × (n ≤ max_request_bytes)) ⊎ (4 ≤ length front) → 4 + n - length front ≤ length bytes
-    → Finds (found.Whole (4 + n - length front)) front bytes
+    → FindsEnd (found.Whole (4 + n - length front)) front bytes
 finds_whole n front bytes part s four has fits all = by part
   where
     some : length front < 4 → 0 < n
@@ -48,17 +48,17 @@ finds_whole n front bytes part s four has fits all = by part
         below (inl h) = h.1
         below (inr h) = absurd (omega (arith, few, h))
 
-    given : (k : ℕ) → 0 < n → n ≤ max_request_bytes → length front + k ≡ 4 + n → k ≤ length bytes → 0 < k → Finds (found.Whole k) front bytes
+    given : (k : ℕ) → 0 < n → n ≤ max_request_bytes → length front + k ≡ 4 + n → k ≤ length bytes → 0 < k → FindsEnd (found.Whole k) front bytes
     given k some short sum all more =
         let len = long_front front bytes k all in
         let says = same_said front bytes k all (omega (arith, sum)) ∙ sym s in
         (more, all, record { some = omega (arith, says, some); short = omega (arith, says, short); all = omega (arith, len, sum, says) })
 
-    by : IsPart front → Finds (found.Whole (4 + n - length front)) front bytes
+    by : IsPartRecord front → FindsEnd (found.Whole (4 + n - length front)) front bytes
     by (inl few) = given (4 + n - length front) (some few) (short few) (omega (arith, few)) all (omega (arith, few))
     by (inr b) = begun (cases_lt (length front) 4)
       where
-        begun : (length front < 4) ⊎ (4 ≤ length front) → Finds (found.Whole (4 + n - length front)) front bytes
+        begun : (length front < 4) ⊎ (4 ≤ length front) → FindsEnd (found.Whole (4 + n - length front)) front bytes
         begun (inl few) = given (4 + n - length front) (some few) (short few) (omega (arith, few)) all (omega (arith, few))
         begun (inr h) =
             let e = s ∙ same_front front bytes h in

@@ -4,12 +4,12 @@ use Rattle.std.specs.Prelude.{nat_lt, ◌==◌}
 use Rattle.std.specs.Int.{w32, from_le_bytes, to_le_bytes}
 use Rattle.std.proofs.lemmas.List.{append_assoc, length-append, take_at, drop_at}
 use Rattle.std.proofs.lemmas.Nat.{from_le_bytes-to_le_bytes_4}
-use Rattle.oa_share.specs.Marks.{Piece, Byte, Last, Item, Of, Now, named, pieces}
-use Rattle.oa_share.specs.Frames.{InHead, Place, Within, all_clients, begun, frame_of, framed, head_bytes, head_of, headed, heading, items_in, max_frame_bytes, within}
-use Rattle.oa_share.specs.declared.frame.Head.TheVariants as head
+use Rattle.oa_share.specs.Marks.{StreamPiece, Byte, Last, Owned, Of, Now, named, pieces}
+use Rattle.oa_share.specs.Frames.{InHead, FramePlace, Within, all_clients, begun, frame_of, framed, frame_head, frame_head_of, headed, heading, items_in, max_frame_bytes, within}
+use Rattle.oa_share.specs.declared.frame.FrameHead.TheVariants as head
 
 -- a byte, and those behind it
-one_byte : (at : Place) (x : ℕ) (xs : List ℕ) → items_in at (x ∷ xs) ≡ (framed at x).0 ++ items_in (framed at x).1 xs
+one_byte : (at : FramePlace) (x : ℕ) (xs : List ℕ) → items_in at (x ∷ xs) ≡ (framed at x).0 ++ items_in (framed at x).1 xs
 unfolding items_in
 one_byte at x xs = refl
 
@@ -19,29 +19,29 @@ head_part bytes h =
     let a : nat_lt (length bytes) 8 ≡ true = search (arith, h) in
     rw a refl
 
-pub head_whole : (bytes : List ℕ) → length bytes ≡ 8 → heading bytes ≡ begun (head_of bytes)
+pub head_whole : (bytes : List ℕ) → length bytes ≡ 8 → heading bytes ≡ begun (frame_head_of bytes)
 head_whole bytes h =
     let a : nat_lt (length bytes) 8 ≡ false = search (arith, h) in
     rw a refl
 
 -- what a reading brings, and what follows from where it stands then
-goes_on : List (Item Piece) × Place → List ℕ → List (Item Piece)
+goes_on : List (Owned StreamPiece) × FramePlace → List ℕ → List (Owned StreamPiece)
 goes_on r rest = r.0 ++ items_in r.1 rest
 
 head_first : (front : List ℕ) (x : ℕ) (back rest : List ℕ) → length (front ++ x ∷ back) ≡ 8
-    → items_in (InHead front) (x ∷ back ++ rest) ≡ (begun (head_of (front ++ x ∷ back))).0 ++ items_in (begun (head_of (front ++ x ∷ back))).1 rest
+    → items_in (InHead front) (x ∷ back ++ rest) ≡ (begun (frame_head_of (front ++ x ∷ back))).0 ++ items_in (begun (frame_head_of (front ++ x ∷ back))).1 rest
 unfolding goes_on
-head_first front x [] rest h = one_byte (InHead front) x rest ∙ ap (λ (r : List (Item Piece) × Place). goes_on r rest) (head_whole (front ++ x ∷ []) h)
+head_first front x [] rest h = one_byte (InHead front) x rest ∙ ap (λ (r : List (Owned StreamPiece) × FramePlace). goes_on r rest) (head_whole (front ++ x ∷ []) h)
 head_first front x (y ∷ ys) rest h =
     let e : (front ++ x ∷ []) ++ y ∷ ys ≡ front ++ x ∷ (y ∷ ys) = append_assoc front (x ∷ []) (y ∷ ys) in
     let len = length-append front (x ∷ (y ∷ ys)) in
     let len' = length-append front (x ∷ []) in
     one_byte (InHead front) x (y ∷ ys ++ rest)
-    ∙ ap (λ (r : List (Item Piece) × Place). goes_on r (y ∷ ys ++ rest)) (head_part (front ++ x ∷ []) (omega (arith, len, len', h)))
+    ∙ ap (λ (r : List (Owned StreamPiece) × FramePlace). goes_on r (y ∷ ys ++ rest)) (head_part (front ++ x ∷ []) (omega (arith, len, len', h)))
     ∙ head_first (front ++ x ∷ []) y ys rest (ap length e ∙ h)
-    ∙ ap (λ l. goes_on (begun (head_of l)) rest) e
+    ∙ ap (λ l. goes_on (begun (frame_head_of l)) rest) e
 
-at_head : (bytes rest : List ℕ) → length bytes ≡ 8 → items_in (InHead []) (bytes ++ rest) ≡ goes_on (begun (head_of bytes)) rest
+at_head : (bytes rest : List ℕ) → length bytes ≡ 8 → items_in (InHead []) (bytes ++ rest) ≡ goes_on (begun (frame_head_of bytes)) rest
 unfolding goes_on
 at_head [] rest h = absurd (omega (arith, h))
 at_head (x ∷ xs) rest h = head_first [] x xs rest h
@@ -49,18 +49,18 @@ at_head (x ∷ xs) rest h = head_first [] x xs rest h
 four : (n : ℕ) → length (to_le_bytes w32 n) ≡ 4
 four n = refl
 
-said_back : (client n : ℕ) → client < 2 ^ 32 → n < 2 ^ 32 → head_of (head_bytes client n) ≡ headed client n
+said_back : (client n : ℕ) → client < 2 ^ 32 → n < 2 ^ 32 → frame_head_of (frame_head client n) ≡ headed client n
 said_back client n a b =
-    ap (λ l. headed (from_le_bytes w32 l) (from_le_bytes w32 (drop 4 (head_bytes client n)))) (take_at (to_le_bytes w32 client) (to_le_bytes w32 n) 4 (four client))
+    ap (λ l. headed (from_le_bytes w32 l) (from_le_bytes w32 (drop 4 (frame_head client n)))) (take_at (to_le_bytes w32 client) (to_le_bytes w32 n) 4 (four client))
     ∙ ap (λ l. headed (from_le_bytes w32 (to_le_bytes w32 client)) (from_le_bytes w32 l)) (drop_at (to_le_bytes w32 client) (to_le_bytes w32 n) 4 (four client))
     ∙ ap (λ k. headed k (from_le_bytes w32 (to_le_bytes w32 n))) (from_le_bytes-to_le_bytes_4 client a)
     ∙ ap (λ k. headed client k) (from_le_bytes-to_le_bytes_4 n b)
 
-eight : (client n : ℕ) → length (head_bytes client n) ≡ 8
+eight : (client n : ℕ) → length (frame_head client n) ≡ 8
 eight client n = length-append (to_le_bytes w32 client) (to_le_bytes w32 n)
 
-head_read : (client n : ℕ) (rest : List ℕ) → client < 2 ^ 32 → n < 2 ^ 32 → items_in (InHead []) (head_bytes client n ++ rest) ≡ goes_on (begun (headed client n)) rest
-head_read client n rest a b = at_head (head_bytes client n) rest (eight client n) ∙ ap (λ h. goes_on (begun h) rest) (said_back client n a b)
+head_read : (client n : ℕ) (rest : List ℕ) → client < 2 ^ 32 → n < 2 ^ 32 → items_in (InHead []) (frame_head client n ++ rest) ≡ goes_on (begun (headed client n)) rest
+head_read client n rest a b = at_head (frame_head client n) rest (eight client n) ∙ ap (λ h. goes_on (begun h) rest) (said_back client n a b)
 
 -- ---- a client's bytes
 bytes_read : (client : ℕ) (bytes rest : List ℕ) → 0 < length bytes → items_in (Within client (length bytes)) (bytes ++ rest) ≡ named client (pieces bytes) ++ items_in (InHead []) rest
@@ -87,7 +87,7 @@ frame_read client bytes rest other some short =
     let b : (length bytes == 0) ≡ false = search (arith, some) in
     let c : nat_lt max_frame_bytes (length bytes) ≡ false = search (arith, short) in
     let h : headed client (length bytes) ≡ head.Bytes client (length bytes) = rw (a, b, c) refl in
-    ap (items_in (InHead [])) (append_assoc (head_bytes client (length bytes)) bytes rest)
+    ap (items_in (InHead [])) (append_assoc (frame_head client (length bytes)) bytes rest)
     ∙ head_read client (length bytes) (bytes ++ rest) (omega (arith, other)) (omega (arith, short))
     ∙ ap (λ h. goes_on (begun h) (bytes ++ rest)) h
     ∙ bytes_read client bytes rest some
@@ -97,14 +97,14 @@ unfolding goes_on
 last_read client rest other =
     let a = not_all client other in
     let h : headed client 0 ≡ head.Last client = rw a refl in
-    ap (items_in (InHead [])) (append_assoc (head_bytes client 0) [] rest)
+    ap (items_in (InHead [])) (append_assoc (frame_head client 0) [] rest)
     ∙ head_read client 0 rest (omega (arith, other)) (omega arith)
     ∙ ap (λ h. goes_on (begun h) rest) h
 
 pub now_read : (rest : List ℕ) → items_in (InHead []) (frame_of all_clients [] ++ rest) ≡ Now ∷ items_in (InHead []) rest
 unfolding goes_on
 now_read rest =
-    ap (items_in (InHead [])) (append_assoc (head_bytes all_clients 0) [] rest)
+    ap (items_in (InHead [])) (append_assoc (frame_head all_clients 0) [] rest)
     ∙ head_read all_clients 0 rest (omega arith) (omega arith)
 
 -- ---- where frames are cut

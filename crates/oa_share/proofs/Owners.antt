@@ -1,7 +1,7 @@
 -- What each client brings, among all.
 use Rattle.std.proofs.Common.{◌≡◌, ℕ, Bool, true, false, if◌then◌else◌, List, [], ◌∷◌, ◌++◌, refl, sym, ap, ◌∙◌, eqb}
 use Rattle.std.proofs.lemmas.Bool.{eqb-true, eq-eqb}
-use Rattle.oa_share.specs.Marks.{Piece, Item, Of, Now, States, if_own, named, own, put_at}
+use Rattle.oa_share.specs.Marks.{StreamPiece, Owned, Of, Now, States, if_own, named, own, put_at}
 use Rattle.oa_share.specs.Readers.{Reads, asked_in, brought_in}
 
 own_named_same : {X : Type 0} (c d : ℕ) (xs : List X) → eqb d c ≡ true → own c (named d xs) ≡ xs
@@ -18,20 +18,20 @@ cons_if : {X : Type 0} (b : Bool) (x : X) (xs ys : List X) → if_own b x (xs ++
 cons_if true x xs ys = refl
 cons_if false x xs ys = refl
 
-own_append : {X : Type 0} (c : ℕ) (xs ys : List (Item X)) → own c (xs ++ ys) ≡ own c xs ++ own c ys
+own_append : {X : Type 0} (c : ℕ) (xs ys : List (Owned X)) → own c (xs ++ ys) ≡ own c xs ++ own c ys
 unfolding own
 own_append c [] ys = refl
 own_append c (Of d x ∷ xs) ys = ap (if_own (eqb d c) x) (own_append c xs ys) ∙ cons_if (eqb d c) x (own c xs) (own c ys)
 own_append c (Now ∷ xs) ys = own_append c xs ys
 
 module _ {Z : Type 0} (reads : Reads Z) where
-  one_step : (at new other : Z) (p : Piece) (d c : ℕ) (rest : List Piece) (b : Bool) → eqb d c ≡ b → (reads at p).1 ≡ new → (b ≡ true → other ≡ at)
+  one_step : (at new other : Z) (p : StreamPiece) (d c : ℕ) (rest : List StreamPiece) (b : Bool) → eqb d c ≡ b → (reads at p).1 ≡ new → (b ≡ true → other ≡ at)
       → own c (named d (reads at p).0) ++ brought_in reads (if b then new else other) rest ≡ brought_in reads other (if_own b p rest)
   unfolding brought_in
   one_step at new other p d c rest true e n s = rw (own_named_same c d (reads at p).0 e, s refl, sym n) refl
   one_step at new other p d c rest false e n s = rw (own_named_other c d (reads at p).0 e) refl
 
-  pub each : (states : States Z) (stream : List (Item Piece)) (c : ℕ) → own c (asked_in reads states stream) ≡ brought_in reads (states c) (own c stream)
+  pub each : (states : States Z) (stream : List (Owned StreamPiece)) (c : ℕ) → own c (asked_in reads states stream) ≡ brought_in reads (states c) (own c stream)
   unfolding asked_in own brought_in
   each states [] c = refl
   each states (Of d p ∷ rest) c =
@@ -48,7 +48,7 @@ module _ {Z : Type 0} (reads : Reads Z) where
   pub at_self : (c : ℕ) (at : Z) (states : States Z) → put_at c at states c ≡ at
   at_self c at states = let e = eq-eqb c c refl in rw e refl
 
-  pub alone : (states : States Z) (c : ℕ) (stream : List Piece) → asked_in reads states (named c stream) ≡ named c (brought_in reads (states c) stream)
+  pub alone : (states : States Z) (c : ℕ) (stream : List StreamPiece) → asked_in reads states (named c stream) ≡ named c (brought_in reads (states c) stream)
   unfolding asked_in brought_in named
   alone states c [] = refl
   alone states c (p ∷ ps) =

@@ -11,20 +11,20 @@ use Rattle.oa_frame.specs.Framings.{Length, NextRecord, RecordStop, SaysLength, 
 use Rattle.oa_frame.specs.Sessions.{Bodies, ReadTo}
 use Rattle.oa_frame.specs.Sessions.Halt.{At}
 use Rattle.oa_share.specs.Marks.{Last, pieces}
-use Rattle.oa_share.specs.Readers.{Body, Brings, Brought, Ends, Held, IsEnd, IsPart, IsWhole, Over, Partial, behind, brought_in, ended, records_of, said}
+use Rattle.oa_share.specs.Readers.{Body, ClientBrings, Brought, Ends, Held, IsEnd, IsPartRecord, IsWholeRecord, Over, ClientState, behind, brought_in, ended, records_of, said}
 use Rattle.oa_share.proofs.Records.{brings_end, brings_over, brings_part, brings_whole, brought_append, pieces_append}
 
 -- what these bytes bring, and the end of the stream
-brought_to_end : Option Partial → List ℕ → List Brought
+brought_to_end : Option ClientState → List ℕ → List Brought
 brought_to_end at bytes = brought_in records_of at (pieces bytes ++ Last ∷ [])
 
-after_bytes : (at new : Option Partial) (xs ys : List ℕ) (all : List Brought) → Brings at xs all new → brought_to_end at (xs ++ ys) ≡ all ++ brought_to_end new ys
+after_bytes : (at new : Option ClientState) (xs ys : List ℕ) (all : List Brought) → ClientBrings at xs all new → brought_to_end at (xs ++ ys) ≡ all ++ brought_to_end new ys
 unfolding brought_to_end
 after_bytes at new xs ys all b =
     ap (brought_in records_of at) (ap (λ l. l ++ Last ∷ []) (pieces_append xs ys) ∙ append_assoc (pieces xs) (pieces ys) (Last ∷ []))
     ∙ brought_append records_of at (pieces xs) (pieces ys ++ Last ∷ [])
     ∙ ap (λ l. l ++ brought_in records_of (behind records_of at (pieces xs)) (pieces ys ++ Last ∷ [])) b.brought
-    ∙ ap (λ (z : Option Partial). all ++ brought_in records_of z (pieces ys ++ Last ∷ [])) b.after
+    ∙ ap (λ (z : Option ClientState). all ++ brought_in records_of z (pieces ys ++ Last ∷ [])) b.after
 
 -- the end where nothing is left to be read
 at_last : (front : List ℕ) → brought_to_end (Some (Held front)) [] ≡ ended front ∷ []
@@ -38,11 +38,11 @@ over_last = refl
 over_all : (bytes : List ℕ) → brought_to_end (Some Over) bytes ≡ []
 over_all bytes = ap (brought_to_end (Some Over)) (sym (append-nil bytes)) ∙ after_bytes (Some Over) (Some Over) bytes [] [] (brings_over bytes) ∙ over_last
 
-nothing_yet : Option Partial
+nothing_yet : Option ClientState
 nothing_yet = Some (Held [])
 
 -- a part of a record is all
-part_all : (bytes : List ℕ) → IsPart bytes → brought_to_end nothing_yet bytes ≡ ended bytes ∷ []
+part_all : (bytes : List ℕ) → IsPartRecord bytes → brought_to_end nothing_yet bytes ≡ ended bytes ∷ []
 unfolding nothing_yet
 part_all bytes p = ap (brought_to_end (Some (Held []))) (sym (append-nil bytes)) ∙ after_bytes (Some (Held [])) (Some (Held bytes)) bytes [] [] (brings_part [] bytes p) ∙ at_last bytes
 
@@ -71,7 +71,7 @@ at_end Closed bytes rest (inr l) fair =
     ap (brought_to_end nothing_yet) l.whole ∙ end_first Closed l.head rest (l.says.four, said_alone l.head l.n l.says ∙ l.is) (four_some l.head l.n l.says)
 at_end Cut bytes rest s fair = part_all bytes (by s.few) ∙ ap (λ (b : Brought). b ∷ []) (some_cut bytes s.some)
   where
-    by : (length bytes < 4) ⊎ ((more : List ℕ) × Length (λ n. (0 < n) × (n ≤ max_request_bytes) × (length more < n)) bytes more) → IsPart bytes
+    by : (length bytes < 4) ⊎ ((more : List ℕ) × Length (λ n. (0 < n) × (n ≤ max_request_bytes) × (length more < n)) bytes more) → IsPartRecord bytes
     by (inl h) = inl h
     by (inr l) =
         let n : said bytes ≡ l.1.n = ap said l.1.whole ∙ said_first l.1.head l.0 l.1.n l.1.says in
@@ -89,7 +89,7 @@ at_end (BadHex line) bytes rest s fair = absurd s
 at_end ReadFault bytes rest s fair = absurd (fair refl)
 at_end WriteFault bytes rest s fair = absurd s
 
-whole_first : (bytes rest : List ℕ) → IsWhole bytes → brought_to_end nothing_yet (bytes ++ rest) ≡ Body (drop 4 bytes) ∷ brought_to_end nothing_yet rest
+whole_first : (bytes rest : List ℕ) → IsWholeRecord bytes → brought_to_end nothing_yet (bytes ++ rest) ≡ Body (drop 4 bytes) ∷ brought_to_end nothing_yet rest
 unfolding nothing_yet
 whole_first [] rest w = let all = w.all in absurd (omega (arith, all))
 whole_first (y ∷ ys) rest w = after_bytes (Some (Held [])) (Some (Held [])) (y ∷ ys) rest (Body (drop 4 (y ∷ ys)) ∷ []) (brings_whole [] y ys w)
@@ -101,7 +101,7 @@ one_body bytes body rest n =
     let short = n.short in
     let four = n.says.four in
     let len = length-append n.head body in
-    let w : IsWhole (n.head ++ body) = record { some = omega (arith, says, some); short = omega (arith, says, short); all = omega (arith, says, four, len) } in
+    let w : IsWholeRecord (n.head ++ body) = record { some = omega (arith, says, some); short = omega (arith, says, short); all = omega (arith, says, four, len) } in
     ap (brought_to_end nothing_yet) (n.whole ∙ sym (append_assoc n.head body rest))
     ∙ whole_first (n.head ++ body) rest w
     ∙ ap (λ l. Body l ∷ brought_to_end nothing_yet rest) (drop_at n.head body 4 four)

@@ -13,14 +13,14 @@ use Rattle.std.proofs.lemmas.Map.{lookup-remove_entry}
 use Rattle.std.proofs.lemmas.Map.Keys.{IsDistinct-from_sorted}
 use Rattle.oa_frame.specs.declared.ends.End.{End}
 use Rattle.oa_frame.specs.declared.ends.End.TheVariants.{Closed}
-use Rattle.oa_share.specs.Readers.{Brings, Brought, Held, Partial, records_of}
+use Rattle.oa_share.specs.Readers.{ClientBrings, Brought, Held, ClientState, records_of}
 use Rattle.oa_share.specs.Steps.{EndsWith, Takes, state_of}
 use Rattle.oa_share.specs.declared.step.What.{What}
 use Rattle.oa_share.specs.declared.step.What.TheVariants as things
 use Rattle.oa_share.proofs.Records.{from_none}
 
 Clients : Type 0
-Clients = List (ℕ × Partial)
+Clients = List (ℕ × ClientState)
 
 -- whether a key is this client's
 at : ℕ → ℕ → Bool
@@ -41,20 +41,20 @@ at_other client key apart = by (at client key) refl
     by true e = absurd (apart (at_true client key e))
     by false e = e
 
-found_head : (client : ℕ) (key : ℕ) (state : Partial) (rest : List (ℕ × Partial)) (b : Bool) → at client key ≡ b → state_of ((key, state) ∷ rest) client ≡ cond b (Some state) (state_of rest client)
+found_head : (client : ℕ) (key : ℕ) (state : ClientState) (rest : List (ℕ × ClientState)) (b : Bool) → at client key ≡ b → state_of ((key, state) ∷ rest) client ≡ cond b (Some state) (state_of rest client)
 unfolding at
 found_head client key state rest b e = rw e refl
 
 -- ---- a state that is changed
-abbrev set_at : ℕ → List (ℕ × Partial) → Partial → List (ℕ × Partial)
+abbrev set_at : ℕ → List (ℕ × ClientState) → ClientState → List (ℕ × ClientState)
 set_at client es new = set_value (is_at (nat_cmp client)) es new
 
-set_head : (client key : ℕ) (state new : Partial) (rest : List (ℕ × Partial)) (b : Bool) → at client key ≡ b
+set_head : (client key : ℕ) (state new : ClientState) (rest : List (ℕ × ClientState)) (b : Bool) → at client key ≡ b
     → set_at client ((key, state) ∷ rest) new ≡ cond b ((key, new) ∷ rest) ((key, state) ∷ set_at client rest new)
 unfolding at
 set_head client key state new rest b e = rw e refl
 
-pub changed : (client : ℕ) (es : List (ℕ × Partial)) (old new : Partial) → Some old ≡ state_of es client → state_of (set_at client es new) client ≡ Some new
+pub changed : (client : ℕ) (es : List (ℕ × ClientState)) (old new : ClientState) → Some old ≡ state_of es client → state_of (set_at client es new) client ≡ Some new
 changed client [] old new found = absurd cc
 changed client ((key, state) ∷ rest) old new found = by (at client key) refl (changed client rest old new)
   where
@@ -65,7 +65,7 @@ changed client ((key, state) ∷ rest) old new found = by (at client key) refl (
         ∙ found_head client key state (set_at client rest new) false e
         ∙ next (found ∙ found_head client key state rest false e)
 
-pub others_unchanged : (client : ℕ) (es : List (ℕ × Partial)) (new : Partial) (other : ℕ) → (client ≡ other → ⊥) → state_of (set_at client es new) other ≡ state_of es other
+pub others_unchanged : (client : ℕ) (es : List (ℕ × ClientState)) (new : ClientState) (other : ℕ) → (client ≡ other → ⊥) → state_of (set_at client es new) other ≡ state_of es other
 others_unchanged client [] new other apart = refl
 others_unchanged client ((key, state) ∷ rest) new other apart = by (at client key) refl (others_unchanged client rest new other apart)
   where
@@ -81,10 +81,10 @@ others_unchanged client ((key, state) ∷ rest) new other apart = by (at client 
         ∙ sym (found_head other key state rest (at other key) refl)
 
 -- ---- a client that comes
-abbrev insert_at : ℕ → List (ℕ × Partial) → Partial → List (ℕ × Partial)
+abbrev insert_at : ℕ → List (ℕ × ClientState) → ClientState → List (ℕ × ClientState)
 insert_at client es new = insert_entry nat_cmp es client new
 
-insert_head : (client key : ℕ) (state new : Partial) (rest : List (ℕ × Partial)) (o : Ordering) → nat_cmp client key ≡ o
+insert_head : (client key : ℕ) (state new : ClientState) (rest : List (ℕ × ClientState)) (o : Ordering) → nat_cmp client key ≡ o
     → insert_at client ((key, state) ∷ rest) new ≡ match_ordering o ((client, new) ∷ (key, state) ∷ rest) ((key, new) ∷ rest) ((key, state) ∷ insert_at client rest new)
 insert_head client key state new rest o e = rw e refl
 
@@ -92,7 +92,7 @@ is_equal : (client key : ℕ) (o : Ordering) → nat_cmp client key ≡ o → at
 unfolding at
 is_equal client key o e = ap is_eq e
 
-pub entered : (client : ℕ) (es : List (ℕ × Partial)) (new : Partial) → state_of (insert_at client es new) client ≡ Some new
+pub entered : (client : ℕ) (es : List (ℕ × ClientState)) (new : ClientState) → state_of (insert_at client es new) client ≡ Some new
 entered client [] new = found_head client client new [] true (at_self client)
 entered client ((key, state) ∷ rest) new = by (nat_cmp client key) refl (entered client rest new)
   where
@@ -104,7 +104,7 @@ entered client ((key, state) ∷ rest) new = by (nat_cmp client key) refl (enter
         ∙ found_head client key state (insert_at client rest new) false (is_equal client key Greater e)
         ∙ next
 
-pub others_stay : (client : ℕ) (es : List (ℕ × Partial)) (new : Partial) (other : ℕ) → (client ≡ other → ⊥) → state_of (insert_at client es new) other ≡ state_of es other
+pub others_stay : (client : ℕ) (es : List (ℕ × ClientState)) (new : ClientState) (other : ℕ) → (client ≡ other → ⊥) → state_of (insert_at client es new) other ≡ state_of es other
 others_stay client [] new other apart = found_head other client new [] false (at_other other client (λ e. apart (sym e)))
 others_stay client ((key, state) ∷ rest) new other apart = by (nat_cmp client key) refl (others_stay client rest new other apart)
   where
@@ -122,15 +122,15 @@ others_stay client ((key, state) ∷ rest) new other apart = by (nat_cmp client 
         ∙ sym (found_head other key state rest (at other key) refl)
 
 -- ---- a client that goes
-abbrev remove_at : ℕ → List (ℕ × Partial) → List (ℕ × Partial)
+abbrev remove_at : ℕ → List (ℕ × ClientState) → List (ℕ × ClientState)
 remove_at client es = remove_entry (is_at (nat_cmp client)) es
 
-remove_head : (client key : ℕ) (state : Partial) (rest : List (ℕ × Partial)) (b : Bool) → at client key ≡ b
+remove_head : (client key : ℕ) (state : ClientState) (rest : List (ℕ × ClientState)) (b : Bool) → at client key ≡ b
     → remove_at client ((key, state) ∷ rest) ≡ cond b rest ((key, state) ∷ remove_at client rest)
 unfolding at
 remove_head client key state rest b e = rw e refl
 
-pub others_left : (client : ℕ) (es : List (ℕ × Partial)) (other : ℕ) → (client ≡ other → ⊥) → state_of (remove_at client es) other ≡ state_of es other
+pub others_left : (client : ℕ) (es : List (ℕ × ClientState)) (other : ℕ) → (client ≡ other → ⊥) → state_of (remove_at client es) other ≡ state_of es other
 others_left client [] other apart = refl
 others_left client ((key, state) ∷ rest) other apart = by (at client key) refl (others_left client rest other apart)
   where
@@ -144,22 +144,22 @@ others_left client ((key, state) ∷ rest) other apart = by (at client key) refl
         ∙ ap (cond (at other key) (Some state)) next
         ∙ sym (found_head other key state rest (at other key) refl)
 
-pub gone : (client : ℕ) (es : List (ℕ × Partial)) → IsStrictlySortedBy nat_cmp (keys_of es) → state_of (remove_at client es) client ≡ None
+pub gone : (client : ℕ) (es : List (ℕ × ClientState)) → IsStrictlySortedBy nat_cmp (keys_of es) → state_of (remove_at client es) client ≡ None
 gone client es rise =
     lookup-remove_entry (eq_by_cmp_equiv nat_cmp_total) (is_at (nat_cmp client)) (λ x y e. ap (λ k. is_at (nat_cmp k) y) (eqb-true client x (sym (unsigned_tied client x) ∙ e))) client es
     (IsDistinct-from_sorted nat_cmp (keys_of es) rise)
     ∙ ap (λ b. cond b None (state_of es client)) (unsigned_tied client client ∙ eq-eqb client client refl)
 
 -- ---- what is said of a state, where it stands in a list
-pub ends_as : (result result' : Option End) (old old' new new' : Option Partial) → result ≡ result' → old ≡ old' → new ≡ new' → EndsWith result' old' new' → EndsWith result old new
+pub ends_as : (result result' : Option End) (old old' new new' : Option ClientState) → result ≡ result' → old ≡ old' → new ≡ new' → EndsWith result' old' new' → EndsWith result old new
 ends_as result result' old old' new new' r o n e = rw (r, o, n) e
 
-pub brings_as : (old old' new new' : Option Partial) (bytes : List ℕ) (all : List Brought) → old ≡ old' → new ≡ new' → Brings old' bytes all new' → Brings old bytes all new
-brings_as old old' new new' bytes all o n b = subst (λ z. Brings z bytes all new) (sym o) (subst (λ z. Brings old' bytes all z) (sym n) b)
+pub brings_as : (old old' new new' : Option ClientState) (bytes : List ℕ) (all : List Brought) → old ≡ old' → new ≡ new' → ClientBrings old' bytes all new' → ClientBrings old bytes all new
+brings_as old old' new new' bytes all o n b = subst (λ z. ClientBrings z bytes all new) (sym o) (subst (λ z. ClientBrings old' bytes all z) (sym n) b)
 
 -- a client that was not there is as one that has sent nothing yet
-pub brings_first : (at : Partial) (bytes : List ℕ) (all : List Brought) (new : Option Partial) → at ≡ Held [] → 0 < length bytes → Brings (Some at) bytes all new → Brings None bytes all new
-brings_first at bytes all new is some b = from_none bytes all new some (subst (λ z. Brings (Some z) bytes all new) is b)
+pub brings_first : (at : ClientState) (bytes : List ℕ) (all : List Brought) (new : Option ClientState) → at ≡ Held [] → 0 < length bytes → ClientBrings (Some at) bytes all new → ClientBrings None bytes all new
+brings_first at bytes all new is some b = from_none bytes all new some (subst (λ z. ClientBrings (Some z) bytes all new) is b)
 
 pub absent_ends : EndsWith (Some Closed) None None
 unfolding records_of

@@ -4,32 +4,32 @@ use Rattle.std.specs.Prelude.{nat_lt, if◌then◌else◌, ◌==◌}
 use Rattle.std.proofs.lemmas.Bool.{cases_lt, eq-eqb, eqb-true}
 use Rattle.std.proofs.lemmas.List.{append-nil, append_assoc, length-append, length-take-le, take_all}
 use Rattle.oa_frame.specs.declared.ends.End.{End}
-use Rattle.oa_share.specs.Marks.{Piece, Byte, Last, Item, Of, Now, States, named, pieces, put_at}
-use Rattle.oa_share.specs.Readers.{Brings, Brought, Ends, Partial, Reads, asked_in, behind, brought_in, records_of}
-use Rattle.oa_share.specs.Frames.{Broken, InHead, Place, SaysSome, Within, begun, framed, head_of, heading, items_in, within}
-use Rattle.oa_share.specs.Shared.{Asks, Begins, IsClients, IsHeads, SharedState, place_behind, place_of, states_behind}
+use Rattle.oa_share.specs.Marks.{StreamPiece, Byte, Last, Owned, Of, Now, States, named, pieces, put_at}
+use Rattle.oa_share.specs.Readers.{ClientBrings, Brought, Ends, ClientState, Reads, asked_in, behind, brought_in, records_of}
+use Rattle.oa_share.specs.Frames.{Broken, InHead, FramePlace, SaysSome, Within, begun, framed, frame_head_of, heading, items_in, within}
+use Rattle.oa_share.specs.Shared.{TakesApart, Begins, IsClients, IsHeads, SharedState, place_behind, place_of, states_behind}
 use Rattle.oa_share.specs.Steps.{EndsWith, OthersStay, Takes, brought, brought_last, state_of}
 use Rattle.oa_share.specs.declared.step.What.{What}
 use Rattle.oa_share.specs.declared.step.What.TheVariants as things
-use Rattle.oa_share.specs.declared.frame.Head.{Head}
-use Rattle.oa_share.specs.declared.frame.Head.TheVariants as head
+use Rattle.oa_share.specs.declared.frame.FrameHead.{FrameHead}
+use Rattle.oa_share.specs.declared.frame.FrameHead.TheVariants as head
 use Rattle.oa_share.proofs.Framed.{head_part, head_whole}
 use Rattle.oa_share.proofs.Owners.{alone, at_self}
 
 -- ---- where the reading stands, and what comes
-item_first : (at : Place) (x : ℕ) (xs : List ℕ) → items_in at (x ∷ xs) ≡ (framed at x).0 ++ items_in (framed at x).1 xs
+item_first : (at : FramePlace) (x : ℕ) (xs : List ℕ) → items_in at (x ∷ xs) ≡ (framed at x).0 ++ items_in (framed at x).1 xs
 unfolding items_in
 item_first at x xs = refl
 
-place_first : (at : Place) (x : ℕ) (xs : List ℕ) → place_behind at (x ∷ xs) ≡ place_behind (framed at x).1 xs
+place_first : (at : FramePlace) (x : ℕ) (xs : List ℕ) → place_behind at (x ∷ xs) ≡ place_behind (framed at x).1 xs
 unfolding place_behind
 place_first at x xs = refl
 
-no_items : (at : Place) → items_in at [] ≡ []
+no_items : (at : FramePlace) → items_in at [] ≡ []
 unfolding items_in
 no_items at = refl
 
-same_place : (at : Place) → place_behind at [] ≡ at
+same_place : (at : FramePlace) → place_behind at [] ≡ at
 unfolding place_behind
 same_place at = refl
 
@@ -42,7 +42,7 @@ broken_place [] = same_place Broken
 broken_place (x ∷ xs) = place_first Broken x xs ∙ broken_place xs
 
 -- behind some of a client's bytes
-abbrev place_left : ℕ → ℕ → Place
+abbrev place_left : ℕ → ℕ → FramePlace
 place_left client n = if n == 0 then InHead [] else Within client n
 
 within_more : (client n : ℕ) → 1 < n → within client n ≡ Within client (n - 1)
@@ -81,23 +81,23 @@ within_place client n x (y ∷ ys) h =
     ∙ ap (place_left client) e
 
 -- in a head
-goes : List (Item Piece) × Place → List ℕ → List (Item Piece) × Place
+goes : List (Owned StreamPiece) × FramePlace → List ℕ → List (Owned StreamPiece) × FramePlace
 goes r rest = (r.0 ++ items_in r.1 rest, place_behind r.1 rest)
 
-both_first : (at : Place) (x : ℕ) (xs : List ℕ) → (items_in at (x ∷ xs), place_behind at (x ∷ xs)) ≡ goes (framed at x) xs
+both_first : (at : FramePlace) (x : ℕ) (xs : List ℕ) → (items_in at (x ∷ xs), place_behind at (x ∷ xs)) ≡ goes (framed at x) xs
 unfolding goes items_in place_behind
 both_first at x xs = refl
 
-both : Place → List ℕ → List (Item Piece) × Place
+both : FramePlace → List ℕ → List (Owned StreamPiece) × FramePlace
 both at bytes = (items_in at bytes, place_behind at bytes)
 
-goes_none : (r : List (Item Piece) × Place) → goes r [] ≡ r
+goes_none : (r : List (Owned StreamPiece) × FramePlace) → goes r [] ≡ r
 unfolding goes items_in place_behind
 goes_none r = ap (λ l. (l, r.1)) (append-nil r.0)
 
 head_goes : (front : List ℕ) (x : ℕ) (xs : List ℕ) → length (front ++ x ∷ []) < 8 → both (InHead front) (x ∷ xs) ≡ both (InHead (front ++ x ∷ [])) xs
 unfolding both goes
-head_goes front x xs h = both_first (InHead front) x xs ∙ ap (λ (r : List (Item Piece) × Place). goes r xs) (head_part (front ++ x ∷ []) h)
+head_goes front x xs h = both_first (InHead front) x xs ∙ ap (λ (r : List (Owned StreamPiece) × FramePlace). goes r xs) (head_part (front ++ x ∷ []) h)
 
 in_head_part : (front bytes : List ℕ) → length (front ++ bytes) < 8 → both (InHead front) bytes ≡ ([], InHead (front ++ bytes))
 unfolding both items_in place_behind
@@ -110,16 +110,16 @@ in_head_part front (x ∷ xs) h =
     ∙ in_head_part (front ++ x ∷ []) xs (subst (λ (l : List ℕ). length l < 8) (sym e) h)
     ∙ ap (λ l. ([], InHead l)) e
 
-in_head_whole : (front : List ℕ) (x : ℕ) (xs : List ℕ) → length (front ++ x ∷ xs) ≡ 8 → both (InHead front) (x ∷ xs) ≡ begun (head_of (front ++ x ∷ xs))
+in_head_whole : (front : List ℕ) (x : ℕ) (xs : List ℕ) → length (front ++ x ∷ xs) ≡ 8 → both (InHead front) (x ∷ xs) ≡ begun (frame_head_of (front ++ x ∷ xs))
 unfolding both
-in_head_whole front x [] h = both_first (InHead front) x [] ∙ ap (λ (r : List (Item Piece) × Place). goes r []) (head_whole (front ++ x ∷ []) h) ∙ goes_none (begun (head_of (front ++ x ∷ [])))
+in_head_whole front x [] h = both_first (InHead front) x [] ∙ ap (λ (r : List (Owned StreamPiece) × FramePlace). goes r []) (head_whole (front ++ x ∷ []) h) ∙ goes_none (begun (frame_head_of (front ++ x ∷ [])))
 in_head_whole front x (y ∷ ys) h =
     let e : (front ++ x ∷ []) ++ y ∷ ys ≡ front ++ x ∷ (y ∷ ys) = append_assoc front (x ∷ []) (y ∷ ys) in
     let len = length-append front (x ∷ (y ∷ ys)) in
     let len' = length-append front (x ∷ []) in
     head_goes front x (y ∷ ys) (omega (arith, len, len', h))
     ∙ in_head_whole (front ++ x ∷ []) y ys (ap length e ∙ h)
-    ∙ ap (λ l. begun (head_of l)) e
+    ∙ ap (λ l. begun (frame_head_of l)) e
 
 -- ---- the states of the clients
 module _ {Z : Type 0} (reads : Reads Z) where
@@ -137,7 +137,7 @@ module _ {Z : Type 0} (reads : Reads Z) where
       by true e = rw e refl
       by false e = rw e refl
 
-  named_behind : (states : States Z) (client : ℕ) (ps : List Piece) (other : ℕ) → states_behind reads states (named client ps) other ≡ put_at client (behind reads (states client) ps) states other
+  named_behind : (states : States Z) (client : ℕ) (ps : List StreamPiece) (other : ℕ) → states_behind reads states (named client ps) other ≡ put_at client (behind reads (states client) ps) states other
   unfolding states_behind named behind
   named_behind states client [] other = same_put client other states
   named_behind states client (p ∷ ps) other =
@@ -146,7 +146,7 @@ module _ {Z : Type 0} (reads : Reads Z) where
       ∙ ap (λ (w : Z). put_at client (behind reads w ps) (put_at client z states) other) (at_self reads client z states)
       ∙ put_twice client other (behind reads z ps) z states
 
-state_put : (client : ℕ) (old new : List (ℕ × Partial)) (at : Option Partial) (other : ℕ) → at ≡ state_of new client → OthersStay client old new → put_at client at (state_of old) other ≡ state_of new other
+state_put : (client : ℕ) (old new : List (ℕ × ClientState)) (at : Option ClientState) (other : ℕ) → at ≡ state_of new client → OthersStay client old new → put_at client at (state_of old) other ≡ state_of new other
 state_put client old new at other is stay = by (eqb client other) refl
   where
     by : (b : Bool) → eqb client other ≡ b → put_at client at (state_of old) other ≡ state_of new other
@@ -154,14 +154,14 @@ state_put client old new at other is stay = by (eqb client other) refl
     by false e = rw e (sym (stay other (λ same. true≢false (sym (eq-eqb client other same) ∙ e))))
 
 -- ---- what is taken
-no_asks : (place : Place) (old new : SharedState) → old.place ≡ place → new.place ≡ place → ((client : ℕ) → state_of old.clients client ≡ state_of new.clients client) → Asks old [] [] new
+no_asks : (place : FramePlace) (old new : SharedState) → old.place ≡ place → new.place ≡ place → ((client : ℕ) → state_of old.clients client ≡ state_of new.clients client) → TakesApart old [] [] new
 unfolding asked_in states_behind items_in place_behind
 no_asks place old new a b s = record { brought = refl; place = a ∙ sym b; states = s }
 
-pub nothing_asked : (old new : SharedState) → new.place ≡ old.place → ((client : ℕ) → state_of new.clients client ≡ state_of old.clients client) → Asks old [] [] new
+pub nothing_asked : (old new : SharedState) → new.place ≡ old.place → ((client : ℕ) → state_of new.clients client ≡ state_of old.clients client) → TakesApart old [] [] new
 nothing_asked old new b s = no_asks old.place old new refl b (λ client. sym (s client))
 
-pub broken_asks : (old : SharedState) (bytes : List ℕ) → old.place ≡ Broken → Asks old bytes [] old
+pub broken_asks : (old : SharedState) (bytes : List ℕ) → old.place ≡ Broken → TakesApart old bytes [] old
 unfolding asked_in states_behind
 broken_asks old bytes is =
     let none : items_in old.place bytes ≡ [] = ap (λ p. items_in p bytes) is ∙ broken_items bytes in record {
@@ -171,8 +171,8 @@ broken_asks old bytes is =
     }
 
 pub within_asks : (old new : SharedState) (client n : ℕ) (part : List ℕ) (all : List Brought) → old.place ≡ Within client n → 0 < length part → length part ≤ n
-    → Brings (state_of old.clients client) part all (state_of new.clients client) → OthersStay client old.clients new.clients → new.place ≡ place_left client (n - length part)
-    → Asks old part (named client all) new
+    → ClientBrings (state_of old.clients client) part all (state_of new.clients client) → OthersStay client old.clients new.clients → new.place ≡ place_left client (n - length part)
+    → TakesApart old part (named client all) new
 within_asks old new client n [] all is some short b stay to = absurd (omega (arith, some))
 within_asks old new client n (x ∷ xs) all is some short b stay to =
     let items : items_in old.place (x ∷ xs) ≡ named client (pieces (x ∷ xs)) = ap (λ p. items_in p (x ∷ xs)) is ∙ within_items client n (x ∷ xs) short in record {
@@ -185,39 +185,39 @@ within_asks old new client n (x ∷ xs) all is some short b stay to =
     }
 
 pub part_asks : (old new : SharedState) (front bytes : List ℕ) → old.place ≡ InHead front → length (front ++ bytes) < 8 → new.place ≡ InHead (front ++ bytes)
-    → ((client : ℕ) → state_of new.clients client ≡ state_of old.clients client) → Asks old bytes [] new
+    → ((client : ℕ) → state_of new.clients client ≡ state_of old.clients client) → TakesApart old bytes [] new
 unfolding both asked_in states_behind
 part_asks old new front bytes is short to same =
     let r = in_head_part front bytes short in
-    let none : items_in old.place bytes ≡ [] = ap (λ p. items_in p bytes) is ∙ ap (λ (b : List (Item Piece) × Place). b.0) r in record {
+    let none : items_in old.place bytes ≡ [] = ap (λ p. items_in p bytes) is ∙ ap (λ (b : List (Owned StreamPiece) × FramePlace). b.0) r in record {
       brought = ap (asked_in records_of (state_of old.clients)) none;
-      place = ap (λ p. place_behind p bytes) is ∙ ap (λ (b : List (Item Piece) × Place). b.1) r ∙ sym to;
+      place = ap (λ p. place_behind p bytes) is ∙ ap (λ (b : List (Owned StreamPiece) × FramePlace). b.1) r ∙ sym to;
       states = λ client. ap (λ l. states_behind records_of (state_of old.clients) l client) none ∙ sym (same client);
     }
 
-pub whole_asks : (old mid new : SharedState) (front bytes : List ℕ) (all : List (Item Brought)) → old.place ≡ InHead front → 0 < length bytes → length (front ++ bytes) ≡ 8 → mid.clients ≡ old.clients
-    → Begins (head_of (front ++ bytes)) mid all new → Asks old bytes all new
+pub whole_asks : (old mid new : SharedState) (front bytes : List ℕ) (all : List (Owned Brought)) → old.place ≡ InHead front → 0 < length bytes → length (front ++ bytes) ≡ 8 → mid.clients ≡ old.clients
+    → Begins (frame_head_of (front ++ bytes)) mid all new → TakesApart old bytes all new
 unfolding both
 whole_asks old mid new front [] all is some eight same b = absurd (omega (arith, some))
 whole_asks old mid new front (x ∷ xs) all is some eight same b =
     let r = in_head_whole front x xs eight in
-    let items : items_in old.place (x ∷ xs) ≡ (begun (head_of (front ++ x ∷ xs))).0 = ap (λ p. items_in p (x ∷ xs)) is ∙ taken_items r in record {
-      brought = ap (asked_in records_of (state_of old.clients)) items ∙ ap (λ c. asked_in records_of (state_of c) (begun (head_of (front ++ x ∷ xs))).0) (sym same) ∙ b.brought;
+    let items : items_in old.place (x ∷ xs) ≡ (begun (frame_head_of (front ++ x ∷ xs))).0 = ap (λ p. items_in p (x ∷ xs)) is ∙ taken_items r in record {
+      brought = ap (asked_in records_of (state_of old.clients)) items ∙ ap (λ c. asked_in records_of (state_of c) (begun (frame_head_of (front ++ x ∷ xs))).0) (sym same) ∙ b.brought;
       place = ap (λ p. place_behind p (x ∷ xs)) is ∙ taken_place r ∙ sym b.place;
       states = λ client.
           ap (λ l. states_behind records_of (state_of old.clients) l client) items
-          ∙ ap (λ c. states_behind records_of (state_of c) (begun (head_of (front ++ x ∷ xs))).0 client) (sym same)
+          ∙ ap (λ c. states_behind records_of (state_of c) (begun (frame_head_of (front ++ x ∷ xs))).0 client) (sym same)
           ∙ b.states client;
     }
   where
-    taken_items : both (InHead front) (x ∷ xs) ≡ begun (head_of (front ++ x ∷ xs)) → items_in (InHead front) (x ∷ xs) ≡ (begun (head_of (front ++ x ∷ xs))).0
-    taken_items r = ap (λ (b : List (Item Piece) × Place). b.0) r
+    taken_items : both (InHead front) (x ∷ xs) ≡ begun (frame_head_of (front ++ x ∷ xs)) → items_in (InHead front) (x ∷ xs) ≡ (begun (frame_head_of (front ++ x ∷ xs))).0
+    taken_items r = ap (λ (b : List (Owned StreamPiece) × FramePlace). b.0) r
 
-    taken_place : both (InHead front) (x ∷ xs) ≡ begun (head_of (front ++ x ∷ xs)) → place_behind (InHead front) (x ∷ xs) ≡ (begun (head_of (front ++ x ∷ xs))).1
-    taken_place r = ap (λ (b : List (Item Piece) × Place). b.1) r
+    taken_place : both (InHead front) (x ∷ xs) ≡ begun (frame_head_of (front ++ x ∷ xs)) → place_behind (InHead front) (x ∷ xs) ≡ (begun (frame_head_of (front ++ x ∷ xs))).1
+    taken_place r = ap (λ (b : List (Owned StreamPiece) × FramePlace). b.1) r
 
 -- ---- behind a head
-pub begins_plain : (h : Head) (old new : SharedState) (all : List (Item Brought)) → (begun h).0 ≡ [] → all ≡ [] → new.place ≡ (begun h).1 → new.clients ≡ old.clients → Begins h old all new
+pub begins_plain : (h : FrameHead) (old new : SharedState) (all : List (Owned Brought)) → (begun h).0 ≡ [] → all ≡ [] → new.place ≡ (begun h).1 → new.clients ≡ old.clients → Begins h old all new
 unfolding asked_in states_behind
 begins_plain h old new all none is to same = record {
   brought = ap (asked_in records_of (state_of old.clients)) none ∙ sym is;
@@ -229,13 +229,13 @@ pub begins_now : (old new : SharedState) → new.place ≡ InHead [] → new.cli
 unfolding asked_in states_behind
 begins_now old new to same = record { brought = refl; place = to; states = λ client. ap (λ c. state_of c client) (sym same) }
 
-pub begins_last : (client : ℕ) (result : Option End) (old new : SharedState) (all : List (Item Brought)) → new.place ≡ InHead [] → all ≡ named client (brought_last result)
+pub begins_last : (client : ℕ) (result : Option End) (old new : SharedState) (all : List (Owned Brought)) → new.place ≡ InHead [] → all ≡ named client (brought_last result)
     → EndsWith result (state_of old.clients client) (state_of new.clients client) → OthersStay client old.clients new.clients → Begins (head.Last client) old all new
 unfolding asked_in states_behind
 begins_last client result old new all to is ends stay = record {
-  brought = append-nil (named client (records_of (state_of old.clients client) Last).0) ∙ ap (λ (r : List Brought × Option Partial). named client r.0) ends ∙ sym is;
+  brought = append-nil (named client (records_of (state_of old.clients client) Last).0) ∙ ap (λ (r : List Brought × Option ClientState). named client r.0) ends ∙ sym is;
   place = to;
-  states = λ other. state_put client old.clients new.clients (records_of (state_of old.clients client) Last).1 other (ap (λ (r : List Brought × Option Partial). r.1) ends) stay;
+  states = λ other. state_put client old.clients new.clients (records_of (state_of old.clients client) Last).1 other (ap (λ (r : List Brought × Option ClientState). r.1) ends) stay;
 }
 
 -- ---- what is kept of a place
@@ -286,14 +286,14 @@ taken_some taken things.Nothing all t h = omega (arith, t, h)
 taken_some taken (things.Body r) all t h = t.0
 taken_some taken (things.Ends why) all t h = t.0
 
-module _ (old : SharedState) (clients : List (ℕ × Partial)) (broken : Bool) (left client have : ℕ) (bytes : List ℕ) (is : record { place = place_of broken left client have bytes; clients = clients } ≡ old) where
+module _ (old : SharedState) (clients : List (ℕ × ClientState)) (broken : Bool) (left client have : ℕ) (bytes : List ℕ) (is : record { place = place_of broken left client have bytes; clients = clients } ≡ old) where
   place_is : place_of broken left client have bytes ≡ old.place
   place_is = ap (λ (s : SharedState). s.place) is
 
   clients_are : clients ≡ old.clients
   clients_are = ap (λ (s : SharedState). s.clients) is
 
-  pub broken_taken : (more : List ℕ) → broken ≡ true → Asks old (take (length more) more) [] old
+  pub broken_taken : (more : List ℕ) → broken ≡ true → TakesApart old (take (length more) more) [] old
   broken_taken more b = broken_asks old (take (length more) more) (sym place_is ∙ at_broken broken left client have bytes b)
 
   head_is : IsHeads old.place → old.place ≡ InHead (take have bytes)
@@ -301,7 +301,7 @@ module _ (old : SharedState) (clients : List (ℕ × Partial)) (broken : Bool) (
 
   pub part_taken : (filled more : List ℕ) (count : ℕ) → IsHeads old.place → length bytes ≡ 8 → count ≤ length more → have + count < 8
       → take (have + length (take count more)) filled ≡ take have bytes ++ take count more
-      → Asks old (take count more) [] (record { place = place_of broken left client (have + count) filled; clients = clients })
+      → TakesApart old (take count more) [] (record { place = place_of broken left client (have + count) filled; clients = clients })
   part_taken filled more count h eight few short fill =
       let k = kept_head broken left client have bytes (subst IsHeads (sym place_is) h) in
       let len = length-take-le count more few in
@@ -310,19 +310,19 @@ module _ (old : SharedState) (clients : List (ℕ × Partial)) (broken : Bool) (
       part_asks old (record { place = place_of broken left client (have + count) filled; clients = clients }) (take have bytes) (take count more) (head_is h) (omega (arith, all, len, len', short))
       (at_head broken left client (have + count) filled k.0 k.1 ∙ ap InHead (ap (λ n. take (have + n) filled) (sym len) ∙ fill)) (λ c. ap (λ cs. state_of cs c) clients_are)
 
-  pub whole_taken : (filled more : List ℕ) (count : ℕ) (h : Head) (all : List (Item Brought)) (mid new : SharedState) → IsHeads old.place → length bytes ≡ 8 → length filled ≡ 8 → have < 8 → count ≤ length more
-      → have + count ≡ 8 → take (have + length (take count more)) filled ≡ take have bytes ++ take count more → h ≡ head_of filled → mid.clients ≡ clients → Begins h mid all new → Asks old (take count more) all new
+  pub whole_taken : (filled more : List ℕ) (count : ℕ) (h : FrameHead) (all : List (Owned Brought)) (mid new : SharedState) → IsHeads old.place → length bytes ≡ 8 → length filled ≡ 8 → have < 8 → count ≤ length more
+      → have + count ≡ 8 → take (have + length (take count more)) filled ≡ take have bytes ++ take count more → h ≡ frame_head_of filled → mid.clients ≡ clients → Begins h mid all new → TakesApart old (take count more) all new
   whole_taken filled more count h all mid new heads eight eight' under few sum fill is_head same b =
       let len = length-take-le count more few in
       let len' = length-take-le have bytes (omega (arith, eight, under)) in
       let total = length-append (take have bytes) (take count more) in
       let full : filled ≡ take have bytes ++ take count more = sym (take_all (have + length (take count more)) filled (omega (arith, len, sum, eight'))) ∙ fill in
       whole_asks old mid new (take have bytes) (take count more) all (head_is heads) (omega (arith, len, sum, under)) (omega (arith, total, len, len', sum)) (same ∙ clients_are)
-      (subst (λ (g : Head). Begins g mid all new) (is_head ∙ ap head_of full) b)
+      (subst (λ (g : FrameHead). Begins g mid all new) (is_head ∙ ap frame_head_of full) b)
 
-  pub within_taken : (clients' : List (ℕ × Partial)) (more : List ℕ) (most taken : ℕ) (what : What) (all : List (Item Brought)) → IsClients old.place → 0 < length more → most ≡ min (length more) left → Takes taken what (length (take most more))
-      → Brings (state_of clients client) (take taken (take most more)) (brought what) (state_of clients' client) → OthersStay client clients clients' → all ≡ named client (brought what)
-      → Asks old (take taken more) all (record { place = place_of broken (left - taken) client 0 bytes; clients = clients' })
+  pub within_taken : (clients' : List (ℕ × ClientState)) (more : List ℕ) (most taken : ℕ) (what : What) (all : List (Owned Brought)) → IsClients old.place → 0 < length more → most ≡ min (length more) left → Takes taken what (length (take most more))
+      → ClientBrings (state_of clients client) (take taken (take most more)) (brought what) (state_of clients' client) → OthersStay client clients clients' → all ≡ named client (brought what)
+      → TakesApart old (take taken more) all (record { place = place_of broken (left - taken) client 0 bytes; clients = clients' })
   within_taken clients' more most taken what all cs some m t b stay named_are =
       let k = kept_client broken left client have bytes (subst IsClients (sym place_is) cs) in
       let left_some = k.1 in
@@ -334,60 +334,60 @@ module _ (old : SharedState) (clients : List (ℕ × Partial)) (broken : Bool) (
       let low = taken_some taken what (length (take most more)) t (omega (arith, len, first)) in
       let part : take taken (take most more) ≡ take taken more = take_less taken most more (omega (arith, up, len)) in
       let long = length-take-le taken more (omega (arith, up, len, inside)) in
-      let b' = subst (λ cs. Brings (state_of cs client) (take taken more) (brought what) (state_of clients' client)) clients_are (subst (λ l. Brings (state_of clients client) l (brought what) (state_of clients' client)) part b) in
+      let b' = subst (λ cs. ClientBrings (state_of cs client) (take taken more) (brought what) (state_of clients' client)) clients_are (subst (λ l. ClientBrings (state_of clients client) l (brought what) (state_of clients' client)) part b) in
       let stay' = subst (λ cs. OthersStay client cs clients') clients_are stay in
-      subst (λ l. Asks old (take taken more) l (record { place = place_of broken (left - taken) client 0 bytes; clients = clients' })) (sym named_are)
+      subst (λ l. TakesApart old (take taken more) l (record { place = place_of broken (left - taken) client 0 bytes; clients = clients' })) (sym named_are)
       (within_asks old (record { place = place_of broken (left - taken) client 0 bytes; clients = clients' }) client left (take taken more) (brought what)
       (sym place_is ∙ at_client broken left client have bytes k.0 k.1) (omega (arith, long, low)) (omega (arith, long, up, len, fits)) b' stay'
       (at_left broken (left - taken) client 0 bytes k.0 refl ∙ ap (λ n. place_left client (left - n)) (sym long)))
 
-  pub nothing_taken : (clients' : List (ℕ × Partial)) → state_of clients' client ≡ state_of clients client → OthersStay client clients clients'
-      → Asks old [] [] (record { place = place_of broken left client have bytes; clients = clients' })
+  pub nothing_taken : (clients' : List (ℕ × ClientState)) → state_of clients' client ≡ state_of clients client → OthersStay client clients clients'
+      → TakesApart old [] [] (record { place = place_of broken left client have bytes; clients = clients' })
   nothing_taken clients' same stay = nothing_asked old (record { place = place_of broken left client have bytes; clients = clients' }) place_is (λ other. by other (eqb client other) refl ∙ ap (λ cs. state_of cs other) clients_are)
     where
       by : (other : ℕ) (b : Bool) → eqb client other ≡ b → state_of clients' other ≡ state_of clients other
       by other true e = let is_same = eqb-true client other e in ap (state_of clients') (sym is_same) ∙ same ∙ ap (state_of clients) is_same
       by other false e = stay other (λ f. true≢false (sym (eq-eqb client other f) ∙ e))
 
-  pub begun_bytes : (h : Head) (number count : ℕ) → old.place ≡ InHead [] → h ≡ head.Bytes number count → SaysSome h
+  pub begun_bytes : (h : FrameHead) (number count : ℕ) → old.place ≡ InHead [] → h ≡ head.Bytes number count → SaysSome h
       → Begins h old [] (record { place = place_of broken count number have bytes; clients = clients })
   begun_bytes h number count at e some =
       let k = kept_head broken left client have bytes (subst IsHeads (sym at ∙ sym place_is) tt) in
       let n : 0 < count = subst SaysSome e some in
-      subst (λ (g : Head). Begins g old [] (record { place = place_of broken count number have bytes; clients = clients })) (sym e)
+      subst (λ (g : FrameHead). Begins g old [] (record { place = place_of broken count number have bytes; clients = clients })) (sym e)
       (begins_plain (head.Bytes number count) old (record { place = place_of broken count number have bytes; clients = clients }) [] refl refl (at_client broken count number have bytes k.0 n) clients_are)
 
-  pub begun_last : (h : Head) (number : ℕ) (result : Option End) (all : List (Item Brought)) (clients' : List (ℕ × Partial)) → old.place ≡ InHead [] → h ≡ head.Last number → all ≡ named number (brought_last result)
+  pub begun_last : (h : FrameHead) (number : ℕ) (result : Option End) (all : List (Owned Brought)) (clients' : List (ℕ × ClientState)) → old.place ≡ InHead [] → h ≡ head.Last number → all ≡ named number (brought_last result)
       → EndsWith result (state_of clients number) (state_of clients' number) → OthersStay number clients clients'
       → Begins h old all (record { place = place_of broken left client have bytes; clients = clients' })
   begun_last h number result all clients' at e is_all ends stay =
-      subst (λ (g : Head). Begins g old all (record { place = place_of broken left client have bytes; clients = clients' })) (sym e)
+      subst (λ (g : FrameHead). Begins g old all (record { place = place_of broken left client have bytes; clients = clients' })) (sym e)
       (begins_last number result old (record { place = place_of broken left client have bytes; clients = clients' }) all (place_is ∙ at) is_all
       (subst (λ cs. EndsWith result (state_of cs number) (state_of clients' number)) clients_are ends) (subst (λ cs. OthersStay number cs clients') clients_are stay))
 
-  pub begun_now : (h : Head) → old.place ≡ InHead [] → h ≡ head.Now → Begins h old (Now ∷ []) old
-  begun_now h at e = subst (λ (g : Head). Begins g old (Now ∷ []) old) (sym e) (begins_now old old at refl)
+  pub begun_now : (h : FrameHead) → old.place ≡ InHead [] → h ≡ head.Now → Begins h old (Now ∷ []) old
+  begun_now h at e = subst (λ (g : FrameHead). Begins g old (Now ∷ []) old) (sym e) (begins_now old old at refl)
 
-  pub begun_unknown : (h : Head) → h ≡ head.Unknown → Begins h old [] (record { place = place_of true left client have bytes; clients = clients })
+  pub begun_unknown : (h : FrameHead) → h ≡ head.Unknown → Begins h old [] (record { place = place_of true left client have bytes; clients = clients })
   begun_unknown h e =
-      subst (λ (g : Head). Begins g old [] (record { place = place_of true left client have bytes; clients = clients })) (sym e)
+      subst (λ (g : FrameHead). Begins g old [] (record { place = place_of true left client have bytes; clients = clients })) (sym e)
       (begins_plain head.Unknown old (record { place = place_of true left client have bytes; clients = clients }) [] refl refl refl clients_are)
 
 -- ---- one part of a stream after another
-items_append : (at : Place) (xs ys : List ℕ) → items_in at (xs ++ ys) ≡ items_in at xs ++ items_in (place_behind at xs) ys
+items_append : (at : FramePlace) (xs ys : List ℕ) → items_in at (xs ++ ys) ≡ items_in at xs ++ items_in (place_behind at xs) ys
 unfolding items_in place_behind
 items_append at [] ys = refl
 items_append at (x ∷ xs) ys =
     ap (λ l. (framed at x).0 ++ l) (items_append (framed at x).1 xs ys)
     ∙ sym (append_assoc (framed at x).0 (items_in (framed at x).1 xs) (items_in (place_behind (framed at x).1 xs) ys))
 
-place_append : (at : Place) (xs ys : List ℕ) → place_behind at (xs ++ ys) ≡ place_behind (place_behind at xs) ys
+place_append : (at : FramePlace) (xs ys : List ℕ) → place_behind at (xs ++ ys) ≡ place_behind (place_behind at xs) ys
 unfolding place_behind
 place_append at [] ys = refl
 place_append at (x ∷ xs) ys = place_append (framed at x).1 xs ys
 
 module _ {Z : Type 0} (reads : Reads Z) where
-  asked_append : (states : States Z) (ps qs : List (Item Piece)) → asked_in reads states (ps ++ qs) ≡ asked_in reads states ps ++ asked_in reads (states_behind reads states ps) qs
+  asked_append : (states : States Z) (ps qs : List (Owned StreamPiece)) → asked_in reads states (ps ++ qs) ≡ asked_in reads states ps ++ asked_in reads (states_behind reads states ps) qs
   unfolding asked_in states_behind
   asked_append states [] qs = refl
   asked_append states (Of client p ∷ ps) qs =
@@ -396,7 +396,7 @@ module _ {Z : Type 0} (reads : Reads Z) where
       (asked_in reads (states_behind reads (put_at client (reads (states client) p).1 states) ps) qs))
   asked_append states (Now ∷ ps) qs = ap (λ l. Now ∷ l) (asked_append states ps qs)
 
-  behind_append : (states : States Z) (ps qs : List (Item Piece)) (c : ℕ) → states_behind reads states (ps ++ qs) c ≡ states_behind reads (states_behind reads states ps) qs c
+  behind_append : (states : States Z) (ps qs : List (Owned StreamPiece)) (c : ℕ) → states_behind reads states (ps ++ qs) c ≡ states_behind reads (states_behind reads states ps) qs c
   unfolding states_behind
   behind_append states [] qs c = refl
   behind_append states (Of client p ∷ ps) qs c = behind_append (put_at client (reads (states client) p).1 states) ps qs c
@@ -410,7 +410,7 @@ module _ {Z : Type 0} (reads : Reads Z) where
       by false f = rw f (same c)
 
   -- equal states bring the same
-  asked_alike : (one two : States Z) (ps : List (Item Piece)) → ((c : ℕ) → one c ≡ two c) → asked_in reads one ps ≡ asked_in reads two ps
+  asked_alike : (one two : States Z) (ps : List (Owned StreamPiece)) → ((c : ℕ) → one c ≡ two c) → asked_in reads one ps ≡ asked_in reads two ps
   unfolding asked_in
   asked_alike one two [] same = refl
   asked_alike one two (Of client p ∷ ps) same =
@@ -420,14 +420,14 @@ module _ {Z : Type 0} (reads : Reads Z) where
       (asked_alike (put_at client (reads (one client) p).1 one) (put_at client (reads (two client) p).1 two) ps (put_alike client _ _ one two (ap (λ (z : Z). (reads z p).1) e) same))
   asked_alike one two (Now ∷ ps) same = ap (λ l. Now ∷ l) (asked_alike one two ps same)
 
-  behind_alike : (one two : States Z) (ps : List (Item Piece)) → ((c : ℕ) → one c ≡ two c) → (c : ℕ) → states_behind reads one ps c ≡ states_behind reads two ps c
+  behind_alike : (one two : States Z) (ps : List (Owned StreamPiece)) → ((c : ℕ) → one c ≡ two c) → (c : ℕ) → states_behind reads one ps c ≡ states_behind reads two ps c
   unfolding states_behind
   behind_alike one two [] same c = same c
   behind_alike one two (Of client p ∷ ps) same c =
       behind_alike (put_at client (reads (one client) p).1 one) (put_at client (reads (two client) p).1 two) ps (put_alike client _ _ one two (ap (λ (z : Z). (reads z p).1) (same client)) same) c
   behind_alike one two (Now ∷ ps) same c = behind_alike one two ps same c
 
-pub asks_then : (old mid new : SharedState) (xs ys : List ℕ) (before after : List (Item Brought)) → Asks old xs before mid → Asks mid ys after new → Asks old (xs ++ ys) (before ++ after) new
+pub asks_then : (old mid new : SharedState) (xs ys : List ℕ) (before after : List (Owned Brought)) → TakesApart old xs before mid → TakesApart mid ys after new → TakesApart old (xs ++ ys) (before ++ after) new
 asks_then old mid new xs ys before after a b =
     let start = state_of old.clients in
     let items : items_in old.place (xs ++ ys) ≡ items_in old.place xs ++ items_in mid.place ys = items_append old.place xs ys ∙ ap (λ p. items_in old.place xs ++ items_in p ys) a.place in record {

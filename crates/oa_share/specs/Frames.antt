@@ -1,9 +1,9 @@
 -- The frames of a shared session: whose bytes stand where in one stream of bytes. (This project's choice.)
 use Rattle.std.specs.Prelude.{ℕ, ◌<◌, ◌-◌, ◌==◌, nat_lt, if◌then◌else◌, List, [], ◌∷◌, ◌++◌, length, take, drop, ⊤}
 use Rattle.std.specs.Int.{w32, from_le_bytes, to_le_bytes}
-use Rattle.oa_share.specs.Marks.{Piece, Byte, Last, Item, Of, Now}
-use Rattle.oa_share.specs.declared.frame.Head.{Head}
-use Rattle.oa_share.specs.declared.frame.Head.TheVariants as head
+use Rattle.oa_share.specs.Marks.{StreamPiece, Byte, Last, Owned, Of, Now}
+use Rattle.oa_share.specs.declared.frame.FrameHead.{FrameHead}
+use Rattle.oa_share.specs.declared.frame.FrameHead.TheVariants as head
 
 -- the number that is no client's: it stands for all
 abbrev pub all_clients : ℕ
@@ -14,58 +14,58 @@ abbrev pub max_frame_bytes : ℕ
 max_frame_bytes = 1048576
 
 -- what a client's number and a length say
-abbrev pub headed : ℕ → ℕ → Head
+abbrev pub headed : ℕ → ℕ → FrameHead
 headed client n = if client == all_clients then (if n == 0 then head.Now else head.Unknown)
     else if n == 0 then head.Last client
     else if nat_lt max_frame_bytes n then head.Unknown
     else head.Bytes client n
 
 -- a frame's head is eight bytes: two numbers, each with its lowest byte first
-abbrev pub head_of : List ℕ → Head
-head_of bytes = headed (from_le_bytes w32 (take 4 bytes)) (from_le_bytes w32 (drop 4 bytes))
+abbrev pub frame_head_of : List ℕ → FrameHead
+frame_head_of bytes = headed (from_le_bytes w32 (take 4 bytes)) (from_le_bytes w32 (drop 4 bytes))
 
-abbrev pub head_bytes : ℕ → ℕ → List ℕ
-head_bytes client n = to_le_bytes w32 client ++ to_le_bytes w32 n
+abbrev pub frame_head : ℕ → ℕ → List ℕ
+frame_head client n = to_le_bytes w32 client ++ to_le_bytes w32 n
 
 -- where the reading of frames stands: in a head, of which these bytes came; among a client's bytes, of which so many are still to come, one
 -- at least; behind a head that says nothing, where all is passed over
-pub data Place : Type 0 where
-  InHead : List ℕ → Place
-  Within : ℕ → ℕ → Place
-  Broken : Place
+pub data FramePlace : Type 0 where
+  InHead : List ℕ → FramePlace
+  Within : ℕ → ℕ → FramePlace
+  Broken : FramePlace
 
 -- behind a head
-abbrev pub begun : Head → List (Item Piece) × Place
+abbrev pub begun : FrameHead → List (Owned StreamPiece) × FramePlace
 begun (head.Bytes client n) = ([], Within client n)
 begun (head.Last client) = (Of client Last ∷ [], InHead [])
 begun head.Now = (Now ∷ [], InHead [])
 begun head.Unknown = ([], Broken)
 
 -- behind one of a client's bytes
-abbrev pub within : ℕ → ℕ → Place
+abbrev pub within : ℕ → ℕ → FramePlace
 within client n = if nat_lt 1 n then Within client (n - 1) else InHead []
 
 -- the bytes of a head so far
-abbrev pub heading : List ℕ → List (Item Piece) × Place
-heading bytes = if nat_lt (length bytes) 8 then ([], InHead bytes) else begun (head_of bytes)
+abbrev pub heading : List ℕ → List (Owned StreamPiece) × FramePlace
+heading bytes = if nat_lt (length bytes) 8 then ([], InHead bytes) else begun (frame_head_of bytes)
 
 -- what a byte is, and where the reading stands behind it
-abbrev pub framed : Place → ℕ → List (Item Piece) × Place
+abbrev pub framed : FramePlace → ℕ → List (Owned StreamPiece) × FramePlace
 framed (InHead front) x = heading (front ++ x ∷ [])
 framed (Within client n) x = (Of client (Byte x) ∷ [], within client n)
 framed Broken x = ([], Broken)
 
 -- what these bytes are
-unfoldable pub items_in : Place → List ℕ → List (Item Piece)
+unfoldable pub items_in : FramePlace → List ℕ → List (Owned StreamPiece)
 items_in at [] = []
 items_in at (x ∷ xs) = (framed at x).0 ++ items_in (framed at x).1 xs
 
 -- a frame of a client's bytes
 abbrev pub frame_of : ℕ → List ℕ → List ℕ
-frame_of client bytes = head_bytes client (length bytes) ++ bytes
+frame_of client bytes = frame_head client (length bytes) ++ bytes
 
 -- a head of a client's bytes says some
-abbrev pub SaysSome : Head → Type 0
+abbrev pub SaysSome : FrameHead → Type 0
 SaysSome (head.Bytes client n) = 0 < n
 SaysSome (head.Last client) = ⊤
 SaysSome head.Now = ⊤

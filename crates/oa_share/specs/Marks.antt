@@ -2,17 +2,17 @@
 use Rattle.std.specs.Prelude.{ℕ, ◌==◌, Bool, if◌then◌else◌, List, [], ◌∷◌}
 
 -- a piece of one client's own stream: a byte of it, or its end
-pub data Piece : Type 0 where
-  Byte : ℕ → Piece
-  Last : Piece
+pub data StreamPiece : Type 0 where
+  Byte : ℕ → StreamPiece
+  Last : StreamPiece
 
 -- of one client, by its number, or of all: what was held is to be committed and answered now
-pub data Item (X : Type 0) : Type 0 where
-  Of : ℕ → X → Item X
-  Now : Item X
+pub data Owned (X : Type 0) : Type 0 where
+  Of : ℕ → X → Owned X
+  Now : Owned X
 
 -- all these of one client
-unfoldable pub named : {X : Type 0} → ℕ → List X → List (Item X)
+unfoldable pub named : {X : Type 0} → ℕ → List X → List (Owned X)
 named client [] = []
 named client (x ∷ xs) = Of client x ∷ named client xs
 
@@ -21,13 +21,13 @@ abbrev pub if_own : {X : Type 0} → Bool → X → List X → List X
 if_own own x xs = if own then x ∷ xs else xs
 
 -- those of one client, in order
-unfoldable pub own : {X : Type 0} → ℕ → List (Item X) → List X
+unfoldable pub own : {X : Type 0} → ℕ → List (Owned X) → List X
 own client [] = []
 own client (Of other x ∷ items) = if_own (other == client) x (own client items)
 own client (Now ∷ items) = own client items
 
 -- the pieces of these bytes
-unfoldable pub pieces : List ℕ → List Piece
+unfoldable pub pieces : List ℕ → List StreamPiece
 pieces [] = []
 pieces (x ∷ xs) = Byte x ∷ pieces xs
 

@@ -1,67 +1,67 @@
 -- One stream of the frames of many clients, taken apart. (This project's choice.)
 use Rattle.std.specs.Prelude.{◌≡◌, ◌<◌, ◌≤◌, ℕ, ◌==◌, Bool, if◌then◌else◌, List, [], ◌∷◌, ◌++◌, take, ⊤}
-use Rattle.oa_share.specs.Marks.{Item, Piece, Of, Now, States, put_at}
-use Rattle.oa_share.specs.Readers.{Body, Brought, Ends, Partial, Reads, asked_in, records_of}
-use Rattle.oa_share.specs.Frames.{Broken, InHead, Place, Within, begun, framed, items_in}
+use Rattle.oa_share.specs.Marks.{Owned, StreamPiece, Of, Now, States, put_at}
+use Rattle.oa_share.specs.Readers.{Body, Brought, Ends, ClientState, Reads, asked_in, records_of}
+use Rattle.oa_share.specs.Frames.{Broken, InHead, FramePlace, Within, begun, framed, items_in}
 use Rattle.oa_share.specs.Steps.{body_of, state_of}
-use Rattle.oa_share.specs.declared.frame.Head.{Head}
-use Rattle.oa_share.specs.declared.streams.Asked.{Asked}
-use Rattle.oa_share.specs.declared.streams.Asked.TheVariants as things
+use Rattle.oa_share.specs.declared.frame.FrameHead.{FrameHead}
+use Rattle.oa_share.specs.declared.streams.Arrival.{Arrival}
+use Rattle.oa_share.specs.declared.streams.Arrival.TheVariants as things
 
 -- where the reading stands behind these bytes
-unfoldable pub place_behind : Place → List ℕ → Place
+unfoldable pub place_behind : FramePlace → List ℕ → FramePlace
 place_behind at [] = at
 place_behind at (x ∷ xs) = place_behind (framed at x).1 xs
 
 -- the states of the clients behind these pieces
-unfoldable pub states_behind : {Z : Type 0} → Reads Z → States Z → List (Item Piece) → States Z
+unfoldable pub states_behind : {Z : Type 0} → Reads Z → States Z → List (Owned StreamPiece) → States Z
 states_behind reads states [] = states
 states_behind reads states (Of client piece ∷ rest) = states_behind reads (put_at client (reads (states client) piece).1 states) rest
 states_behind reads states (Now ∷ rest) = states_behind reads states rest
 
 -- where the reading stands, and the clients that are there
 pub record SharedState : Type 0 where
-  pub place : Place
-  pub clients : List (ℕ × Partial)
+  pub place : FramePlace
+  pub clients : List (ℕ × ClientState)
 
 abbrev pub starting : SharedState
 starting = record { place = InHead []; clients = [] }
 
 -- where the reading stands, by what is kept of it
-abbrev pub place_of : Bool → ℕ → ℕ → ℕ → List ℕ → Place
+abbrev pub place_of : Bool → ℕ → ℕ → ℕ → List ℕ → FramePlace
 place_of broken left client have head = if broken then Broken else if left == 0 then InHead (take have head) else Within client left
 
 -- these bytes, from this state on, bring these in this order, and leave that state
-pub record Asks (old : SharedState) (bytes : List ℕ) (all : List (Item Brought)) (new : SharedState) : Type 0 where
+pub record TakesApart (old : SharedState) (bytes : List ℕ) (all : List (Owned Brought)) (new : SharedState) : Type 0 where
   pub brought : asked_in records_of (state_of old.clients) (items_in old.place bytes) ≡ all
   pub place : place_behind old.place bytes ≡ new.place
   pub states : (client : ℕ) → states_behind records_of (state_of old.clients) (items_in old.place bytes) client ≡ state_of new.clients client
 
-abbrev pub asked : Asked → List (Item Brought)
-asked things.Nothing = []
-asked (things.Body client whole) = Of client (Body (body_of whole)) ∷ []
-asked (things.Ends client why) = Of client (Ends why) ∷ []
-asked things.Now = Now ∷ []
-asked things.Unknown = []
+abbrev pub arrived : Arrival → List (Owned Brought)
+arrived things.Nothing = []
+arrived (things.Body client whole) = Of client (Body (body_of whole)) ∷ []
+arrived (things.Ends client why) = Of client (Ends why) ∷ []
+arrived things.Now = Now ∷ []
+arrived things.Unknown = []
 
 -- some bytes were taken
-pub record IsTaken (count all : ℕ) : Type 0 where
+pub record TakesSome (count all : ℕ) : Type 0 where
   pub some : 0 < count
   pub within : count ≤ all
 
 -- whose bytes the next ones are
-abbrev pub IsClients : Place → Type 0
+abbrev pub IsClients : FramePlace → Type 0
 IsClients (InHead front) = ⊥
 IsClients (Within client n) = ⊤
 IsClients Broken = ⊥
 
-abbrev pub IsHeads : Place → Type 0
+abbrev pub IsHeads : FramePlace → Type 0
 IsHeads (InHead front) = ⊤
 IsHeads (Within client n) = ⊥
 IsHeads Broken = ⊥
 
 -- a head that is whole, behind which the reading goes on with its frame
-pub record Begins (head : Head) (old : SharedState) (all : List (Item Brought)) (new : SharedState) : Type 0 where
+pub record Begins (head : FrameHead) (old : SharedState) (all : List (Owned Brought)) (new : SharedState) : Type 0 where
   pub brought : asked_in records_of (state_of old.clients) (begun head).0 ≡ all
   pub place : new.place ≡ (begun head).1
   pub states : (client : ℕ) → states_behind records_of (state_of old.clients) (begun head).0 client ≡ state_of new.clients client

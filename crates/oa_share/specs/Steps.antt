@@ -5,21 +5,21 @@ use Rattle.std.specs.BTreeMap.{is_at}
 use Rattle.std.specs.Ordering.{nat_cmp}
 use Rattle.oa_frame.specs.declared.ends.End.{End}
 use Rattle.oa_share.specs.Marks.{Last}
-use Rattle.oa_share.specs.Readers.{Body, Brought, Ends, Held, IsEnd, IsPart, IsWhole, Over, Partial, records_of}
+use Rattle.oa_share.specs.Readers.{Body, Brought, Ends, Held, IsEnd, IsPartRecord, IsWholeRecord, Over, ClientState, records_of}
 use Rattle.oa_share.specs.declared.found.Found.{Found}
 use Rattle.oa_share.specs.declared.found.Found.TheVariants as found
-use Rattle.oa_share.specs.declared.step.Record.{Record}
-use Rattle.oa_share.specs.declared.step.Record.TheVariants as whole
+use Rattle.oa_share.specs.declared.step.WholeRecord.{WholeRecord}
+use Rattle.oa_share.specs.declared.step.WholeRecord.TheVariants as whole
 use Rattle.oa_share.specs.declared.step.What.{What}
 use Rattle.oa_share.specs.declared.step.What.TheVariants as what
 
 -- what is whole behind the bytes that came before
-abbrev pub Finds : Found → List ℕ → List ℕ → Type 0
-Finds found.Part front bytes = IsPart (front ++ bytes)
-Finds (found.Whole n) front bytes = (0 < n) × (n ≤ length bytes) × IsWhole (front ++ take n bytes)
-Finds (found.Ends why n) front bytes = (0 < n) × (n ≤ length bytes) × IsEnd why (front ++ take n bytes)
+abbrev pub FindsEnd : Found → List ℕ → List ℕ → Type 0
+FindsEnd found.Part front bytes = IsPartRecord (front ++ bytes)
+FindsEnd (found.Whole n) front bytes = (0 < n) × (n ≤ length bytes) × IsWholeRecord (front ++ take n bytes)
+FindsEnd (found.Ends why n) front bytes = (0 < n) × (n ≤ length bytes) × IsEnd why (front ++ take n bytes)
 
-abbrev pub body_of : Record → List ℕ
+abbrev pub body_of : WholeRecord → List ℕ
 body_of (whole.Here bytes) = drop 4 bytes.now
 body_of (whole.Gathered bytes) = drop 4 bytes.items
 
@@ -29,7 +29,7 @@ brought (what.Body r) = Body (body_of r) ∷ []
 brought (what.Ends why) = Ends why ∷ []
 
 -- the state of a client, among those that are there
-abbrev pub state_of : List (ℕ × Partial) → ℕ → Option Partial
+abbrev pub state_of : List (ℕ × ClientState) → ℕ → Option ClientState
 state_of clients client = lookup (is_at (nat_cmp client)) clients
 
 -- some bytes were taken, all of them where they brought nothing
@@ -39,12 +39,12 @@ Takes taken (what.Body r) all = (0 < taken) × (taken ≤ all)
 Takes taken (what.Ends why) all = (0 < taken) × (taken ≤ all)
 
 -- the bytes of a whole record behind what a client has sent of it
-abbrev pub IsWholeBehind : List ℕ → Partial → Type 0
-IsWholeBehind bytes (Held front) = (0 < length bytes) × IsWhole (front ++ bytes)
+abbrev pub IsWholeBehind : List ℕ → ClientState → Type 0
+IsWholeBehind bytes (Held front) = (0 < length bytes) × IsWholeRecord (front ++ bytes)
 IsWholeBehind bytes Over = ⊥
 
 -- every other client is as it was
-abbrev pub OthersStay : ℕ → List (ℕ × Partial) → List (ℕ × Partial) → Type 0
+abbrev pub OthersStay : ℕ → List (ℕ × ClientState) → List (ℕ × ClientState) → Type 0
 OthersStay client old new = (other : ℕ) → (client ≡ other → ⊥) → state_of new other ≡ state_of old other
 
 -- the end of a client's stream brings this end, or nothing where it has had one
@@ -52,10 +52,10 @@ abbrev pub brought_last : Option End → List Brought
 brought_last None = []
 brought_last (Some why) = Ends why ∷ []
 
-abbrev pub EndsWith : Option End → Option Partial → Option Partial → Type 0
+abbrev pub EndsWith : Option End → Option ClientState → Option ClientState → Type 0
 EndsWith result old new = records_of old Last ≡ (brought_last result, new)
 
 -- the lowest number, since they rise
-abbrev pub first_of : List (ℕ × Partial) → Option ℕ
+abbrev pub first_of : List (ℕ × ClientState) → Option ℕ
 first_of [] = None
 first_of (client ∷ clients) = Some client.0

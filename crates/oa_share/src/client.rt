@@ -1,12 +1,12 @@
 //! A client that is there.
 ghost use Rattle.std.specs.Prelude.{◌≡◌, ◌<◌, ◌≤◌, [], length, take, IfOk, OnErr, Some, None};
-ghost use Rattle.oa_share.specs.Readers.{Brings, IsWhole};
-ghost use Rattle.oa_share.specs.Readers.Partial.{Held, Over};
+ghost use Rattle.oa_share.specs.Readers.{ClientBrings, IsWholeRecord};
+ghost use Rattle.oa_share.specs.Readers.ClientState.{Held, Over};
 ghost use Rattle.oa_share.specs.Steps.{EndsWith, IsWholeBehind, Takes, brought};
 ghost use Rattle.oa_share.specs.declared.step.What.TheVariants as what;
 
 use crate::found::{Found, find};
-use crate::{Record, Step, What};
+use crate::{ClientStep, What, WholeRecord};
 use oa_frame::End;
 use std::alloc::{AllocError, Global};
 use std::marker::Model;
@@ -22,13 +22,13 @@ pub(crate) struct Client {
 
 impl Model for Client {
     ghost use Rattle.std.specs.Prelude.{◌≡◌, false};
-    ghost use Rattle.oa_share.specs.Readers.{Partial, IsPart, kept};
+    ghost use Rattle.oa_share.specs.Readers.{ClientState, IsPartRecord, kept};
 
-    ghost Value = { Partial };
+    ghost Value = { ClientState };
 
     ghost view = { λ c. kept c.over c.part.items };
 
-    ghost invariant = { λ c. c.over ≡ false → IsPart c.part.items };
+    ghost invariant = { λ c. c.over ≡ false → IsPartRecord c.part.items };
 }
 
 impl Client {
@@ -45,15 +45,15 @@ impl Client {
 
     /// Takes the first of these bytes, up to the first that brings something. Err where memory is refused for a part of a record:
     /// nothing is taken then.
-    pub(crate) fn advance<'a>(&mut self, bytes: &'a [u8]) -> Result<Step<'a>, AllocError>
+    pub(crate) fn advance<'a>(&mut self, bytes: &'a [u8]) -> Result<ClientStep<'a>, AllocError>
         requires { 0 < length bytes.now }
         ensures taken { IfOk result (λ s. Takes s.taken s.what (length bytes.now)) }
-        ensures brings { IfOk result (λ s. Brings (Some self.old) (take s.taken bytes.now) (brought s.what) (Some self.new)) }
+        ensures brings { IfOk result (λ s. ClientBrings (Some self.old) (take s.taken bytes.now) (brought s.what) (Some self.new)) }
         ensures err { OnErr result (self.new ≡ self.old) }
     {
         let taken = bytes.len();
         if self.over {
-            return Ok(Step {
+            return Ok(ClientStep {
                 taken,
                 what: What::Nothing,
             });
@@ -61,19 +61,19 @@ impl Client {
         match find(&self.part, bytes) {
             Found::Part => {
                 self.part.extend_from_slice(bytes)?;
-                Ok(Step {
+                Ok(ClientStep {
                     taken,
                     what: What::Nothing,
                 })
             }
             Found::Whole(taken) => {
                 let what = What::Body(self.gather(&bytes[..taken])?);
-                Ok(Step { taken, what })
+                Ok(ClientStep { taken, what })
             }
             Found::Ends(why, taken) => {
                 self.part = Vec::new(self.alloc);
                 self.over = true;
-                Ok(Step {
+                Ok(ClientStep {
                     taken,
                     what: What::Ends(why),
                 })
@@ -82,17 +82,17 @@ impl Client {
     }
 
     /// The record that these bytes end. Where no others stand before them nothing is copied.
-    fn gather<'a>(&mut self, bytes: &'a [u8]) -> Result<Record<'a>, AllocError>
+    fn gather<'a>(&mut self, bytes: &'a [u8]) -> Result<WholeRecord<'a>, AllocError>
         requires { IsWholeBehind bytes.now self.old }
-        ensures record { IfOk result (λ r. Brings (Some self.old) bytes.now (brought (what.Body r)) (Some self.new)) }
+        ensures record { IfOk result (λ r. ClientBrings (Some self.old) bytes.now (brought (what.Body r)) (Some self.new)) }
         ensures err { OnErr result (self.new ≡ self.old) }
     {
         if self.part.is_empty() {
-            return Ok(Record::Here(bytes));
+            return Ok(WholeRecord::Here(bytes));
         }
         self.part.extend_from_slice(bytes)?;
         let gathered = replace(&mut self.part, Vec::new(self.alloc));
-        Ok(Record::Gathered(gathered))
+        Ok(WholeRecord::Gathered(gathered))
     }
 
     /// What the end of the client's stream brings; None where the stream has ended before.

@@ -3,10 +3,10 @@ ghost use Rattle.std.specs.Prelude.{◌≡◌, ◌<◌, [], length, take, IfOk, 
 ghost use Rattle.std.specs.List.Sorted.{IsStrictlySortedBy};
 ghost use Rattle.std.specs.Map.{keys_of};
 ghost use Rattle.std.specs.Ordering.{nat_cmp};
-ghost use Rattle.oa_share.specs.Readers.{Brings};
+ghost use Rattle.oa_share.specs.Readers.{ClientBrings};
 ghost use Rattle.oa_share.specs.Steps.{EndsWith, OthersStay, Takes, brought, first_of, state_of};
 
-use crate::Step;
+use crate::ClientStep;
 use crate::client::Client;
 use oa_frame::End;
 use oa_ordered::OrderedMap;
@@ -25,9 +25,9 @@ pub struct Clients {
 
 impl Model for Clients {
     ghost use Rattle.std.specs.Prelude.{ℕ, List};
-    ghost use Rattle.oa_share.specs.Readers.{Partial};
+    ghost use Rattle.oa_share.specs.Readers.{ClientState};
 
-    ghost Value = { List (ℕ × Partial) };
+    ghost Value = { List (ℕ × ClientState) };
 
     ghost view = { λ c. c.clients };
 }
@@ -57,10 +57,10 @@ impl Clients {
     /// bring neither, and where the stream has ended before. A record that stands in them whole is lent, one that came in parts is handed out.
     ///
     /// Err where memory is refused, for a client that was not there or for the part of a record: nothing is taken then, and it may be tried again.
-    pub fn step<'a>(&mut self, client: u32, bytes: &'a [u8]) -> Result<Step<'a>, AllocError>
+    pub fn step<'a>(&mut self, client: u32, bytes: &'a [u8]) -> Result<ClientStep<'a>, AllocError>
         requires { 0 < length bytes.now }
         ensures taken { IfOk result (λ s. Takes s.taken s.what (length bytes.now)) }
-        ensures brings { IfOk result (λ s. Brings (state_of self.old client) (take s.taken bytes.now) (brought s.what) (state_of self.new client)) }
+        ensures brings { IfOk result (λ s. ClientBrings (state_of self.old client) (take s.taken bytes.now) (brought s.what) (state_of self.new client)) }
         ensures others { OthersStay client self.old self.new }
         ensures err { OnErr result (state_of self.new client ≡ state_of self.old client) }
     {
@@ -71,11 +71,11 @@ impl Clients {
     }
 
     /// The same for a client that is not there.
-    fn enter<'a>(&mut self, client: u32, bytes: &'a [u8]) -> Result<Step<'a>, AllocError>
+    fn enter<'a>(&mut self, client: u32, bytes: &'a [u8]) -> Result<ClientStep<'a>, AllocError>
         requires some { 0 < length bytes.now }
         requires absent { state_of self.old client ≡ None }
         ensures taken { IfOk result (λ s. Takes s.taken s.what (length bytes.now)) }
-        ensures brings { IfOk result (λ s. Brings (state_of self.old client) (take s.taken bytes.now) (brought s.what) (state_of self.new client)) }
+        ensures brings { IfOk result (λ s. ClientBrings (state_of self.old client) (take s.taken bytes.now) (brought s.what) (state_of self.new client)) }
         ensures others { OthersStay client self.old self.new }
         ensures err { OnErr result (self.new ≡ self.old) }
     {

@@ -1,7 +1,7 @@
 //! Where a record ends.
 ghost use Rattle.std.specs.Prelude.{◌≡◌, ◌≤◌, ◌<◌, ◌+◌, ◌++◌, length, take, IfSome, IsNone};
-ghost use Rattle.oa_share.specs.Readers.{IsPart, said};
-ghost use Rattle.oa_share.specs.Steps.{Finds};
+ghost use Rattle.oa_share.specs.Readers.{IsPartRecord, said};
+ghost use Rattle.oa_share.specs.Steps.{FindsEnd};
 
 use oa_frame::End;
 
@@ -21,9 +21,9 @@ pub(crate) enum Found {
 
 /// Looks for the end of the record that begins with these bytes and goes on with those.
 pub(crate) fn find(front: &[u8], bytes: &[u8]) -> Found
-    requires part { IsPart front.now }
+    requires part { IsPartRecord front.now }
     requires some { 0 < length bytes.now }
-    ensures { Finds result front.now bytes.now }
+    ensures { FindsEnd result front.now bytes.now }
 {
     match length_of(front, bytes) {
         None => Found::Part,
@@ -33,11 +33,11 @@ pub(crate) fn find(front: &[u8], bytes: &[u8]) -> Found
 
 /// The same where the body is to have so many bytes.
 fn find_of(n: usize, front: &[u8], bytes: &[u8]) -> Found
-    requires part { IsPart front.now }
+    requires part { IsPartRecord front.now }
     requires some { 0 < length bytes.now }
     requires said { n ≡ said (front.now ++ bytes.now) }
     requires four { 4 ≤ length front.now + length bytes.now }
-    ensures { Finds result front.now bytes.now }
+    ensures { FindsEnd result front.now bytes.now }
 {
     if front.len() < 4 && n == 0 {
         return Found::Ends(End::Closed, 4 - front.len());

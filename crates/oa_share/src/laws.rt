@@ -6,19 +6,19 @@ ghost use Rattle.oa_frame.specs.Framings.{records};
 ghost use Rattle.oa_frame.specs.Sessions.{ReadTo};
 ghost use Rattle.oa_frame.specs.Sessions.Halt.{At};
 ghost use Rattle.oa_share.specs.Frames.{InHead, all_clients, frame_of, items_in, max_frame_bytes};
-ghost use Rattle.oa_share.specs.Marks.{Item, Last, Now, Of, Piece, States, named, own, pieces};
-ghost use Rattle.oa_share.specs.Readers.{Body, Brought, Ends, Partial, Reads, asked_in, brought_in, records_of};
-ghost use Rattle.oa_share.specs.Shared.{Asks, SharedState};
+ghost use Rattle.oa_share.specs.Marks.{Owned, Last, Now, Of, StreamPiece, States, named, own, pieces};
+ghost use Rattle.oa_share.specs.Readers.{Body, Brought, Ends, ClientState, Reads, asked_in, brought_in, records_of};
+ghost use Rattle.oa_share.specs.Shared.{TakesApart, SharedState};
 
 /// What a client brings is what its own pieces bring, whatever stands between them.
 pub fn each_has_its_own()
-    ensures { (reads : Reads (Option Partial)) (states : States (Option Partial)) (stream : List (Item Piece)) (client : ℕ)
+    ensures { (reads : Reads (Option ClientState)) (states : States (Option ClientState)) (stream : List (Owned StreamPiece)) (client : ℕ)
         → own client (asked_in reads states stream) ≡ brought_in reads (states client) (own client stream) }
 {}
 
 /// Where there is one client alone, all is what its own pieces bring.
 pub fn one_client_has_all()
-    ensures { (reads : Reads (Option Partial)) (states : States (Option Partial)) (client : ℕ) (stream : List Piece)
+    ensures { (reads : Reads (Option ClientState)) (states : States (Option ClientState)) (client : ℕ) (stream : List StreamPiece)
         → asked_in reads states (named client stream) ≡ named client (brought_in reads (states client) stream) }
 {}
 
@@ -50,6 +50,6 @@ pub fn cuts_do_not_matter()
 
 /// What is asked of one part of a stream and then of the next is what is asked of both.
 pub fn parts_are_asked_in_turn()
-    ensures { (old mid new : SharedState) (front back : List ℕ) (before after : List (Item Brought))
-        → Asks old front before mid → Asks mid back after new → Asks old (front ++ back) (before ++ after) new }
+    ensures { (old mid new : SharedState) (front back : List ℕ) (before after : List (Owned Brought))
+        → TakesApart old front before mid → TakesApart mid back after new → TakesApart old (front ++ back) (before ++ after) new }
 {}

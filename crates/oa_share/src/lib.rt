@@ -1,7 +1,7 @@
 //! Whose request stands where in one stream of many clients' records.
 //!
 //! Its contract: each client's bodies are those that a session of its own would have read, whatever stands between them
-//! (`laws::each_has_its_own`, `laws::each_is_a_session`), and `Streams::take` finds them one by one, in the order in which they came (`Asks`).
+//! (`laws::each_has_its_own`, `laws::each_is_a_session`), and `Streams::take` finds them one by one, in the order in which they came (`TakesApart`).
 #![tactic(auto)]
 
 mod client;
@@ -13,6 +13,6 @@ mod step;
 mod streams;
 
 pub use clients::Clients;
-pub use frame::{ALL_CLIENTS, Head, MAX_FRAME_BYTES, head_bytes};
-pub use step::{Record, Step, What};
-pub use streams::{Asked, Streams, Taken};
+pub use frame::{ALL_CLIENTS, FrameHead, MAX_FRAME_BYTES, frame_head};
+pub use step::{ClientStep, What, WholeRecord};
+pub use streams::{Arrival, Portion, Streams};

@@ -6,21 +6,21 @@ use oa_frame::End;
 
 /// A record that is whole: the length of its body, and the body.
 #[derive(Drop)]
-pub enum Record<'a> {
+pub enum WholeRecord<'a> {
     /// It stands in the bytes that came last.
     Here(&'a [u8]),
     /// It came in parts, and was gathered.
     Gathered(Vec<u8>),
 }
 
-impl Record<'_> {
+impl WholeRecord<'_> {
     /// The body of the record, which is never empty.
     pub fn body(&self) -> &[u8]
         ensures { result.now ≡ body_of self.now }
     {
         match self {
-            Record::Here(bytes) => behind_length(bytes),
-            Record::Gathered(bytes) => behind_length(bytes),
+            WholeRecord::Here(bytes) => behind_length(bytes),
+            WholeRecord::Gathered(bytes) => behind_length(bytes),
         }
     }
 }
@@ -38,14 +38,14 @@ pub enum What<'a> {
     /// Nothing that is whole.
     Nothing,
     /// A body.
-    Body(Record<'a>),
+    Body(WholeRecord<'a>),
     /// The end of the client's stream: `Closed` by a length of 0, or `TooLong`.
     Ends(End),
 }
 
 /// A step through a client's bytes.
 #[derive(Drop)]
-pub struct Step<'a> {
+pub struct ClientStep<'a> {
     /// How many bytes were taken.
     pub taken: usize,
     /// What they brought, the last of them.

@@ -2,21 +2,21 @@
 ghost use Rattle.std.specs.Prelude.{◌≡◌, ◌<◌, ◌≤◌, ◌+◌, ◌++◌, [], length, take, IfOk, OnErr};
 ghost use Rattle.oa_share.specs.Frames.{InHead, SaysSome};
 ghost use Rattle.oa_share.specs.Marks.{named};
-ghost use Rattle.oa_share.specs.Shared.{Asks, Begins, IsClients, IsHeads, IsTaken, asked, starting};
+ghost use Rattle.oa_share.specs.Shared.{TakesApart, Begins, IsClients, IsHeads, TakesSome, arrived, starting};
 ghost use Rattle.oa_share.specs.Steps.{brought, brought_last};
 
-use crate::{Clients, Head, Record, Step, What};
+use crate::{ClientStep, Clients, FrameHead, What, WholeRecord};
 use oa_frame::End;
 use std::alloc::{AllocError, Global};
 use std::marker::Model;
 
 /// What the first bytes of some frames brought.
 #[derive(Drop)]
-pub enum Asked<'a> {
+pub enum Arrival<'a> {
     /// Nothing that is whole.
     Nothing,
     /// A body of this client.
-    Body(u32, Record<'a>),
+    Body(u32, WholeRecord<'a>),
     /// The end of this client's stream.
     Ends(u32, End),
     /// What is held of all is to be committed and answered now.
@@ -27,11 +27,11 @@ pub enum Asked<'a> {
 
 /// The first bytes of some frames, taken.
 #[derive(Drop)]
-pub struct Taken<'a> {
+pub struct Portion<'a> {
     /// How many bytes were taken.
     pub count: usize,
     /// What they brought, the last of them.
-    pub asked: Asked<'a>,
+    pub arrived: Arrival<'a>,
 }
 
 /// One stream of the frames of many clients, taken apart as its bytes come.
@@ -75,16 +75,16 @@ impl Streams {
 
     /// Takes the first of these bytes, up to the last that brings something, or all of them. Err where memory is refused: nothing is taken
     /// then, and it may be tried again.
-    pub fn take<'a>(&mut self, bytes: &'a [u8]) -> Result<Taken<'a>, AllocError>
+    pub fn take<'a>(&mut self, bytes: &'a [u8]) -> Result<Portion<'a>, AllocError>
         requires { 0 < length bytes.now }
-        ensures taken { IfOk result (λ t. IsTaken t.count (length bytes.now)) }
-        ensures asks { IfOk result (λ t. Asks self.old (take t.count bytes.now) (asked t.asked) self.new) }
-        ensures err { OnErr result (Asks self.old [] [] self.new) }
+        ensures taken { IfOk result (λ t. TakesSome t.count (length bytes.now)) }
+        ensures asks { IfOk result (λ t. TakesApart self.old (take t.count bytes.now) (arrived t.arrived) self.new) }
+        ensures err { OnErr result (TakesApart self.old [] [] self.new) }
     {
         if self.broken {
-            return Ok(Taken {
+            return Ok(Portion {
                 count: bytes.len(),
-                asked: Asked::Nothing,
+                arrived: Arrival::Nothing,
             });
         }
         if self.left != 0 {
@@ -94,30 +94,30 @@ impl Streams {
     }
 
     /// The same among a client's bytes.
-    fn take_within<'a>(&mut self, bytes: &'a [u8]) -> Result<Taken<'a>, AllocError>
+    fn take_within<'a>(&mut self, bytes: &'a [u8]) -> Result<Portion<'a>, AllocError>
         requires some { 0 < length bytes.now }
         requires within { IsClients self.old.place }
-        ensures taken { IfOk result (λ t. IsTaken t.count (length bytes.now)) }
-        ensures asks { IfOk result (λ t. Asks self.old (take t.count bytes.now) (asked t.asked) self.new) }
-        ensures err { OnErr result (Asks self.old [] [] self.new) }
+        ensures taken { IfOk result (λ t. TakesSome t.count (length bytes.now)) }
+        ensures asks { IfOk result (λ t. TakesApart self.old (take t.count bytes.now) (arrived t.arrived) self.new) }
+        ensures err { OnErr result (TakesApart self.old [] [] self.new) }
     {
         let client = self.client;
         let most = bytes.len().min(self.left as usize);
-        let Step { taken, what } = self.clients.step(client, &bytes[..most])?;
+        let ClientStep { taken, what } = self.clients.step(client, &bytes[..most])?;
         self.left -= taken as u32;
         self.have = 0;
-        Ok(Taken {
+        Ok(Portion {
             count: taken,
-            asked: of_client(client, what),
+            arrived: of_client(client, what),
         })
     }
 
     /// The same in a head.
-    fn take_head<'a>(&mut self, bytes: &'a [u8]) -> Taken<'a>
+    fn take_head<'a>(&mut self, bytes: &'a [u8]) -> Portion<'a>
         requires some { 0 < length bytes.now }
         requires head { IsHeads self.old.place }
-        ensures taken { IsTaken result.count (length bytes.now) }
-        ensures asks { Asks self.old (take result.count bytes.now) (asked result.asked) self.new }
+        ensures taken { TakesSome result.count (length bytes.now) }
+        ensures asks { TakesApart self.old (take result.count bytes.now) (arrived result.arrived) self.new }
     {
         let have = self.have;
         let count = bytes.len().min(8 - have);
@@ -125,33 +125,33 @@ impl Streams {
         if have + count < 8 {
             self.head = head;
             self.have = have + count;
-            return Taken {
+            return Portion {
                 count,
-                asked: Asked::Nothing,
+                arrived: Arrival::Nothing,
             };
         }
         self.have = 0;
-        let asked = self.begin(Head::from_bytes(&head));
-        Taken { count, asked }
+        let arrived = self.begin(FrameHead::from_bytes(&head));
+        Portion { count, arrived }
     }
 
     /// What a head that is whole brings.
-    fn begin<'a>(&mut self, head: Head) -> Asked<'a>
+    fn begin<'a>(&mut self, head: FrameHead) -> Arrival<'a>
         requires some { SaysSome head }
         requires head { self.old.place ≡ InHead [] }
-        ensures { Begins head self.old (asked result) self.new }
+        ensures { Begins head self.old (arrived result) self.new }
     {
         match head {
-            Head::Bytes { client, count } => {
+            FrameHead::Bytes { client, count } => {
                 self.client = client;
                 self.left = count;
-                Asked::Nothing
+                Arrival::Nothing
             }
-            Head::Last(client) => last_of(client, self.clients.end(client)),
-            Head::Now => Asked::Now,
-            Head::Unknown => {
+            FrameHead::Last(client) => last_of(client, self.clients.end(client)),
+            FrameHead::Now => Arrival::Now,
+            FrameHead::Unknown => {
                 self.broken = true;
-                Asked::Unknown
+                Arrival::Unknown
             }
         }
     }
@@ -159,24 +159,24 @@ impl Streams {
 
 /// The same in a client's name.
 #[tactic(auto, unfolding(crate::specs::Marks::named))]
-fn of_client<'a>(client: u32, what: What<'a>) -> Asked<'a>
-    ensures { asked result ≡ named client (brought what.entry) }
+fn of_client<'a>(client: u32, what: What<'a>) -> Arrival<'a>
+    ensures { arrived result ≡ named client (brought what.entry) }
 {
     match what {
-        What::Nothing => Asked::Nothing,
-        What::Body(record) => Asked::Body(client, record),
-        What::Ends(why) => Asked::Ends(client, why),
+        What::Nothing => Arrival::Nothing,
+        What::Body(record) => Arrival::Body(client, record),
+        What::Ends(why) => Arrival::Ends(client, why),
     }
 }
 
 /// What the end of a client's stream brings, in its name.
 #[tactic(auto, unfolding(crate::specs::Marks::named))]
-fn last_of<'a>(client: u32, why: Option<End>) -> Asked<'a>
-    ensures { asked result ≡ named client (brought_last why) }
+fn last_of<'a>(client: u32, why: Option<End>) -> Arrival<'a>
+    ensures { arrived result ≡ named client (brought_last why) }
 {
     match why {
-        Some(why) => Asked::Ends(client, why),
-        None => Asked::Nothing,
+        Some(why) => Arrival::Ends(client, why),
+        None => Arrival::Nothing,
     }
 }
 

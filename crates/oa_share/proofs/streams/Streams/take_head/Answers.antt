@@ -11,4 +11,4 @@ returns-clause-asks c =
     let count = c.min-count.ensures in
     let full = c.if-have-count-lt8.false in
     let under = c.self.invariant in
-    whole_taken c.args.self.now c.self.inside.clients c.self.inside.broken c.self.inside.left c.self.inside.client c.self.inside.have c.self.inside.head c.self.view_is c.filled-head.result c.args.bytes.now c.min-count.result c.from_bytes.result _ _ _ c.requires.head c.self.told c.filled-head.ensures.len c.self.invariant (search rules) (omega (arith, count, full, under)) c.filled-head.ensures.head c.from_bytes.ensures.head refl c.begin-asked.ensures
+    whole_taken c.args.self.now c.self.inside.clients c.self.inside.broken c.self.inside.left c.self.inside.client c.self.inside.have c.self.inside.head c.self.view_is c.filled-head.result c.args.bytes.now c.min-count.result c.from_bytes.result _ _ _ c.requires.head c.self.told c.filled-head.ensures.len c.self.invariant (search rules) (omega (arith, count, full, under)) c.filled-head.ensures.head c.from_bytes.ensures.head refl c.begin-arrived.ensures

@@ -6,3 +6,4 @@ mod Advances
 mod States
 mod Framed
 mod Taking
+mod Putting

@@ -1,12 +1,12 @@
 -- What the first bytes of frames bring, as the frames are taken apart.
-use Rattle.std.proofs.Common.{◌≡◌, ◌⊎◌, ◌≤◌, ◌<◌, ℕ, ◌+◌, ◌-◌, Bool, true, false, List, [], ◌∷◌, ◌++◌, length, take, take-take, min, drop, Option, Some, None, refl, sym, ap, ◌∙◌, subst, inl, inr, arith, eqb, true≢false}
+use Rattle.std.proofs.Common.{◌≡◌, ◌⊎◌, ◌≤◌, ◌<◌, ℕ, ◌+◌, ◌-◌, Bool, true, false, List, [], ◌∷◌, ◌++◌, length, take, take-take, min, Option, refl, sym, ap, ◌∙◌, subst, inl, inr, arith, eqb, true≢false}
 use Rattle.std.specs.Prelude.{nat_lt, if◌then◌else◌, ◌==◌}
 use Rattle.std.proofs.lemmas.Bool.{cases_lt, eq-eqb, eqb-true}
 use Rattle.std.proofs.lemmas.List.{append-nil, append_assoc, length-append, length-take-le, take_all}
 use Rattle.oa_frame.specs.declared.ends.End.{End}
 use Rattle.oa_share.specs.Marks.{StreamPiece, Byte, Last, Owned, Of, Now, States, named, pieces, put_at}
-use Rattle.oa_share.specs.Readers.{ClientBrings, Brought, Ends, ClientState, Reads, asked_in, behind, brought_in, records_of}
-use Rattle.oa_share.specs.Frames.{Broken, InHead, FramePlace, SaysSome, Within, begun, framed, frame_head_of, heading, items_in, within}
+use Rattle.oa_share.specs.Readers.{ClientBrings, Brought, ClientState, Reads, asked_in, behind, records_of}
+use Rattle.oa_share.specs.Frames.{Broken, InHead, FramePlace, SaysSome, Within, begun, framed, frame_head_of, items_in, within}
 use Rattle.oa_share.specs.Shared.{TakesApart, Begins, IsClients, IsHeads, SharedState, place_behind, place_of, states_behind}
 use Rattle.oa_share.specs.Steps.{EndsWith, OthersStay, Takes, brought, brought_last, state_of}
 use Rattle.oa_share.specs.declared.step.What.{What}

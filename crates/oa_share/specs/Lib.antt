@@ -3,3 +3,5 @@ pub mod Readers
 pub mod Frames
 pub mod Steps
 pub mod Shared
+pub mod Outgoing
+pub mod Answering

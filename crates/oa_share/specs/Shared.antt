@@ -1,5 +1,5 @@
 -- One stream of the frames of many clients, taken apart. (This project's choice.)
-use Rattle.std.specs.Prelude.{◌≡◌, ◌<◌, ◌≤◌, ℕ, ◌==◌, Bool, if◌then◌else◌, List, [], ◌∷◌, ◌++◌, take, ⊤}
+use Rattle.std.specs.Prelude.{◌≡◌, ◌<◌, ◌≤◌, ℕ, ◌==◌, Bool, if◌then◌else◌, List, [], ◌∷◌, take, ⊤}
 use Rattle.oa_share.specs.Marks.{Owned, StreamPiece, Of, Now, States, put_at}
 use Rattle.oa_share.specs.Readers.{Body, Brought, Ends, ClientState, Reads, asked_in, records_of}
 use Rattle.oa_share.specs.Frames.{Broken, InHead, FramePlace, Within, begun, framed, items_in}

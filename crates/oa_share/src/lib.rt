@@ -9,10 +9,14 @@ mod clients;
 mod found;
 mod frame;
 pub mod laws;
+mod outgoing;
+mod responder;
 mod step;
 mod streams;
 
 pub use clients::Clients;
 pub use frame::{ALL_CLIENTS, FrameHead, MAX_FRAME_BYTES, frame_head};
+pub use outgoing::{put_last_of, put_reply_of};
+pub use responder::SharedResponder;
 pub use step::{ClientStep, What, WholeRecord};
 pub use streams::{Arrival, Portion, Streams};

@@ -1,0 +1,65 @@
+//! What answers the requests of many clients.
+ghost use Rattle.std.specs.Prelude.{◌≡◌, ℕ, Bool, List, false, true};
+ghost use Rattle.oa_share.specs.Answering.{AnswersClient, GivesUp};
+ghost use Rattle.oa_share.specs.Marks.{Now, Of, Owned};
+ghost use Rattle.oa_share.specs.Readers.{Body, Brought, Ends};
+ghost use Rattle.oa_stream.specs.Sink.{IsHandedOn};
+
+use oa_frame::End;
+use oa_stream::{Sink, Unwritten};
+
+/// What answers many clients. It may hold replies back, and hand out those to many requests, of any clients, at one.
+///
+/// Contracts see what is handed out as a list: of a client's number and the bytes of a reply without a length, or no bytes where the client
+/// has had its last.
+pub trait SharedResponder {
+    /// What holds between two turns.
+    ghost ready: { Self → Type 0 };
+
+    /// A turn: the state before, what is asked, what is handed out then, the state after.
+    ghost turn: { Self → Owned Brought → List (ℕ × List ℕ) → Self → Type 0 };
+
+    /// The bodies that come alone: *now* is made, and all is handed on, before such a one is answered.
+    ghost alone: { List ℕ → Bool };
+
+    /// Whether a body comes alone.
+    fn is_alone(&self, body: &[u8]) -> bool
+        ensures { result ≡ alone body.now };
+
+    /// Answers a body of this client, and writes what is handed out at it.
+    fn answer_client<W: Sink>(
+        &mut self,
+        client: u32,
+        body: &[u8],
+        writer: &mut W,
+    ) -> Result<(), Unwritten>
+        requires ready { ready self.old }
+        requires unbroken { (W.out writer.old).broken ≡ false }
+        requires apart { alone body.now ≡ true → IsHandedOn (W.out writer.old) }
+        ensures answers { AnswersClient turn result (Of client (Body body.now)) (W.out writer.old) (W.out writer.new) self.old self.new }
+        ensures ready { ready self.new };
+
+    /// The stream of this client has ended: `Closed`, `Cut` or `TooLong`. Writes what is handed out at it.
+    fn end_client<W: Sink>(
+        &mut self,
+        client: u32,
+        why: End,
+        writer: &mut W,
+    ) -> Result<(), Unwritten>
+        requires ready { ready self.old }
+        requires unbroken { (W.out writer.old).broken ≡ false }
+        ensures answers { AnswersClient turn result (Of client (Ends why)) (W.out writer.old) (W.out writer.new) self.old self.new }
+        ensures ready { ready self.new };
+
+    /// *Now*: commits what is open, and writes what is held.
+    fn commit_now<W: Sink>(&mut self, writer: &mut W) -> Result<(), Unwritten>
+        requires ready { ready self.old }
+        requires unbroken { (W.out writer.old).broken ≡ false }
+        ensures answers { AnswersClient turn result Now (W.out writer.old) (W.out writer.new) self.old self.new }
+        ensures ready { ready self.new };
+
+    /// The writer has failed: what is open is committed, and nobody gets what is held.
+    fn abandon_clients(&mut self)
+        requires ready { ready self.old }
+        ensures { GivesUp turn self.old self.new };
+}

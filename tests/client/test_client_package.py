@@ -24,6 +24,13 @@ cell_type connect decode description_words fold indices_field main make_store pa
 read_number read_objects read_reply read_text_value read_value refused reply_words request_words scalar_field serve spell string_field text_bytes
 text_of type_word typed value_of variant_field words_of""".split()
 CHECKER = shutil.which("mypy") or shutil.which("pyright")
+STYLE = {
+    "black": ["--check", "--quiet"],
+    "isort": ["--check-only", "--quiet"],
+    "pycodestyle": ["--max-line-length=100", "--ignore=E203,W503"],  # the two that black breaks
+    "pyflakes3": [],
+    "ruff": ["check", "--quiet"],
+}
 USED = """import typing
 import oaut
 if typing.TYPE_CHECKING:
@@ -90,6 +97,17 @@ class Package(ClientCases):
         with tempfile.TemporaryDirectory() as room:
             done = checked(room, *(["--strict", "-p", "oaut"] if "mypy" in CHECKER else [f"{PACKAGE}/oaut"]))
         self.same("the package", (done.returncode, done.stdout if done.returncode else ""), (0, ""))
+
+    def test_its_style(self):
+        """What pyproject.toml says of it, asked of each tool that is there."""
+        for tool, words in STYLE.items():
+            if shutil.which(tool) is None:
+                print(f"left out the style by {tool}: not there", flush=True)
+                continue
+            done = subprocess.run([tool, *words, "oaut", "wheels.py"], cwd=PACKAGE, capture_output=True, text=True)
+            # (a package's __init__ names what users import)
+            said = [it for it in done.stdout.splitlines() if "__init__.py" not in it or "imported but unused" not in it]
+            self.tell(f"{tool} has nothing to say", not said and (done.returncode == 0 or tool == "pyflakes3"), (said[:5], done.stderr[-500:]))
 
     @unittest.skipIf(CHECKER is None, "neither mypy nor pyright is there")
     def test_a_type_checker_reads_stubs(self):

@@ -82,6 +82,7 @@ from .library import (
 from .objects import ArrayProperty, Method, Object, Property
 from .opening import open
 from .programs import connect, make_store, play, serve, upgrade_store
+from .protocol import GROUP_BYTES, Later
 from .records import (
     BODY_LIMIT,
     CREATE,
@@ -124,7 +125,6 @@ from .records import (
     read_value,
     string_field,
 )
-from .protocol import GROUP_BYTES, Later
 from .session import BATCH, Atomic, Batch, Server
 from .values import (
     ARRAY,

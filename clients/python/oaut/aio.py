@@ -22,9 +22,9 @@ import typing
 
 from . import objects, opening, programs
 from .faults import Fault, LibraryDiffers, Malformed, Refused, Stopped, TimedOut
-from .paths import Path, text_file
 from .framing import FRAMING, FRAMINGS
 from .library import Library, Which
+from .paths import Path, text_file
 from .programs import PROGRAM, Address, Program
 from .protocol import (
     END,

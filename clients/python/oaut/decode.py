@@ -22,7 +22,6 @@ from .library import (
     type_word,
 )
 from .records import (
-    TWO,
     CREATE,
     GETELEM,
     GETIDS,
@@ -39,6 +38,7 @@ from .records import (
     REDIM,
     RELEASE,
     REPLACE,
+    TWO,
     TYPEINFO,
     UNLOCK,
     Fields,

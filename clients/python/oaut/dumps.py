@@ -14,17 +14,7 @@ import uuid
 
 from . import store as stores
 from .contents import OBJECT, Image, Rows, Table, image_of, lay_bank, table
-from .files import (
-    Json,
-    Progress,
-    Unusable,
-    info_of,
-    named,
-    new_file,
-    opened,
-    quiet,
-    set_aside,
-)
+from .files import Json, Progress, Unusable, info_of, named, new_file, opened, quiet, set_aside
 from .idl import Names, names_of
 from .programs import PROGRAM, Path, Program, serve
 from .values import VT, text_of

@@ -5,7 +5,6 @@ from __future__ import annotations
 import typing
 import uuid
 
-
 # the name of a file, line and column, and the line as it is shown
 Place = typing.Tuple[str, int, int, str]
 
@@ -159,8 +158,7 @@ class ParamNotFound(Refused, code=0x8002_0004, hresult="DISP_E_PARAMNOTFOUND"):
 
 
 class TypeMismatch(Refused, TypeError, code=0x8002_0005, hresult="DISP_E_TYPEMISMATCH"):
-    """DISP_E_TYPEMISMATCH: a value does not become one of the declared type, or there is no array.
-    """
+    """DISP_E_TYPEMISMATCH: a value becomes none of the declared type, or there is no array."""
 
 
 class UnknownName(Refused, code=0x8002_0006, hresult="DISP_E_UNKNOWNNAME"):

@@ -16,7 +16,7 @@ from .records import (
     read_text_value,
     read_value,
 )
-from .values import VT_BSTR, VT_VARIANT, ARRAY, VOID
+from .values import ARRAY, VOID, VT_BSTR, VT_VARIANT
 from .wire import read_field, spell, variant_of
 from .words import html_table
 
@@ -291,9 +291,7 @@ class Library:
         found = self._find([it for _, it in own], which)
         if found is None:
             names = ", ".join(it.name for _, it in own)
-            raise LookupError(
-                f"{coclass.name} has no interface {which}; there are: {names}"
-            )
+            raise LookupError(f"{coclass.name} has no interface {which}; there are: {names}")
         return found
 
     def members(self, interface: Interface) -> typing.Dict[str, Member]:

@@ -193,9 +193,7 @@ def member_of(item: Object, name: str) -> Member:
     return found
 
 
-def columns_of(
-    library: Library, of: Coclass, names: typing.Sequence[str]
-) -> typing.List[Member]:
+def columns_of(library: Library, of: Coclass, names: typing.Sequence[str]) -> typing.List[Member]:
     """The members of a coclass that are the columns of a table: those of these names, or where
     there are none all that are read without arguments."""
     members = library.members(library.interface(of))

@@ -5,8 +5,8 @@ import os
 import typing
 
 from .faults import LibraryDiffers, OldFormat
-from .paths import Path, text_file
 from .framing import FRAMING
+from .paths import Path, text_file
 from .programs import PROGRAM, Program, library_of, make_store, play, serve, upgrade_store
 from .session import Server
 

@@ -23,9 +23,9 @@ from .faults import (
     Stopped,
     StoreInUse,
 )
+from .framing import FRAMING, FRAMINGS
 from .paths import Path as Path
 from .paths import beside, named, place_of, text_file
-from .framing import FRAMING, FRAMINGS
 from .protocol import GROUP
 from .session import Server, ending
 

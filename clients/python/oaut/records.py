@@ -42,8 +42,7 @@ DONE = REPLY_HEAD.pack(0, 0, NO_INDEX, 0)[4:]
 
 
 def string_field(text: str) -> bytes:
-    """A string of a record: the count of its UTF-16 units, a reserved number, the units, padding.
-    """
+    """A string of a record: the count of UTF-16 units, a reserved number, the units, padding."""
     units = text.encode("utf-16-le", "surrogatepass")
     return TWO.pack(len(units) // 2, 0) + padded(units)
 

@@ -26,9 +26,9 @@ from .objects import Object, columns_of, get_of
 from .protocol import (
     END,
     GROUP,
-    GroupRoom,
     Act,
     Collected,
+    GroupRoom,
     Later,
     Read,
     created,
@@ -219,9 +219,7 @@ class Server:
         )
         return found
 
-    def to_rows(
-        self, coclass: Which, *members: str
-    ) -> typing.List[typing.Dict[str, typing.Any]]:
+    def to_rows(self, coclass: Which, *members: str) -> typing.List[typing.Dict[str, typing.Any]]:
         """A row for each live object of a coclass, by rising number, as `pandas.DataFrame` takes
         them: its number, and by their names its properties, these or all that are read without
         arguments. Values are plain: of an array lists in lists, None for EMPTY and the null

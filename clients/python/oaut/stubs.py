@@ -7,10 +7,10 @@ import re
 import sys
 import typing
 
-from .library import HAS_DEFAULT, OPTIONAL, Coclass, Interface, Library, Member, Parameter, fold
+from .library import HAS_DEFAULT, OPTIONAL, Coclass, Interface, Library, Member, Parameter
 from .objects import OWN_WORDS
 from .programs import Program, play
-from .values import VT_BSTR, VT_CY, VT_VARIANT, ARRAY, INTEGERS, VOID, VT
+from .values import ARRAY, INTEGERS, VOID, VT, VT_BSTR, VT_CY, VT_VARIANT
 
 _HEAD = '''\
 """The members of the library {source}, as `python3 -m oaut stubs` wrote them.

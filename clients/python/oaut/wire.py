@@ -9,9 +9,6 @@ import typing
 
 from .faults import Malformed
 from .values import (
-    VT_BSTR,
-    VT_DECIMAL,
-    VT_VARIANT,
     ARRAY,
     CELL_LIMIT,
     CELLS,
@@ -19,6 +16,9 @@ from .values import (
     NUMBERS,
     SCALARS,
     TEXT_LIMIT,
+    VT_BSTR,
+    VT_DECIMAL,
+    VT_VARIANT,
     Array,
     Bounds,
     Fetched,

@@ -16,7 +16,6 @@ import uuid
 from .. import store as stores
 from ..faults import Fault, Refused, Stopped
 from ..library import (
-    DEFAULT_INTERFACE,
     HAS_DEFAULT,
     IN,
     OPTIONAL,
@@ -30,10 +29,10 @@ from ..library import (
 )
 from ..objects import ArrayProperty, Object
 from ..programs import Program, play
-from ..records import PROPERTYGET, PROPERTYPUT, ask_list
 from ..protocol import Later
+from ..records import PROPERTYGET, PROPERTYPUT, ask_list
 from ..session import Server
-from ..values import ARRAY, INTEGERS, NULL_BSTR, VT, Array, Currency, scalar_of, typed
+from ..values import ARRAY, NULL_BSTR, VT, Array, Currency, scalar_of, typed
 from ..words import value_of, words_of
 from .held import Held
 
@@ -435,9 +434,7 @@ class Window:
                 {**_member_told(it, face), **self._field(value, it)}
                 for it, value in zip(plain, values)
             ]
-            tables = [
-                self._keyed(other, face, it, 0, 20) for it in members if it.parameters
-            ]
+            tables = [self._keyed(other, face, it, 0, 20) for it in members if it.parameters]
             told: Json = {"name": face.name, "default": face is library.interface(of)}
             faces.append({**told, "properties": properties, "tables": tables})
         return {"number": item.number, "coclass": of.name, "interfaces": faces}
@@ -448,9 +445,7 @@ class Window:
         start = _number(asked, "from", 0, 1 << 32)
         return self._keyed(item, face, member, start, _number(asked, "count", 20, MOST_KEYS))
 
-    def _keyed(
-        self, item: Object, face: Interface, member: Member, start: int, count: int
-    ) -> Json:
+    def _keyed(self, item: Object, face: Interface, member: Member, start: int, count: int) -> Json:
         found = None if self._file is None else self._file.keys(item.number)
         told = {**_member_told(member, face), "from": start, "known": found is not None}
         keys = (found or {}).get((face.guid.bytes_le, member.dispid), [])
@@ -490,13 +485,17 @@ class Window:
             at = at * count + index
         at *= rows[0] * columns[0]
         top, left = _number(asked, "row", 0, rows[0]), _number(asked, "column", 0, columns[0])
-        cells = [
+        cells = (
             [
-                shown(found.cells[at + row * columns[0] + column], found.vt, SHORT)
-                for column in range(left, min(left + MOST_COLUMNS, columns[0]))
+                [
+                    shown(found.cells[at + row * columns[0] + column], found.vt, SHORT)
+                    for column in range(left, min(left + MOST_COLUMNS, columns[0]))
+                ]
+                for row in range(top, min(top + MOST_ROWS, rows[0]))
             ]
-            for row in range(top, min(top + MOST_ROWS, rows[0]))
-        ] if found.cells else []
+            if found.cells
+            else []
+        )
         return {
             "type": type_word(ARRAY | found.vt),
             "bounds": [list(it) for it in bounds],

@@ -1,5 +1,5 @@
 #!/usr/bin/env python3
-"""The test of bin/wrong-bodies: on a crate of eight functions it must tell edits that turn a meaning from one that turns none, and in the gate it must try what it should.
+"""The test of bin/wrong-bodies: on a crate of nine functions it must tell edits that turn a meaning from one that turns none, and in the gate it must try what it should.
 
     python3 tests/wrong_bodies/tool.py
 
@@ -18,6 +18,8 @@ TOOL = os.path.join(ROOT, "bin", "wrong-bodies")
 sys.dont_write_bytecode = True
 sys.path.insert(0, os.path.join(ROOT, "tools"))
 from wrong_bodies.choice import PARTS, SOURCES, TRIED, Choice, parts_of, read_tried, write_tried
+from wrong_bodies.said import Said, says_of_clause
+from wrong_bodies.sources import Function
 
 # (core alone: a check that reads std takes twice as long)
 BUILD = """load("@rattle//bazel/rattle:crate.bzl", "rattle_crate")
@@ -99,6 +101,14 @@ pub fn three_above(n: u8) -> u8
 {
     further(n) + 1
 }
+
+/// The number itself.
+pub fn itself(p: u8) -> u8
+    ensures { result ≡ p }
+{
+    let all = p;
+    all
+}
 """
 
 # the proof of the last function names the call in its body
@@ -140,6 +150,7 @@ EDITS = {
     "a_constant_that_names_none": ("old: const LEAP: u8 = 3;\nnew: const LEAP: u8 = 4;\n", "not tried: its text"),
     "a_step_and_one": ("old:     further(n) + 1\nnew:     n + 3\n", "refused by a proof file alone: three_above: proofs/three_above/Answers.antt"),
     "a_step_for_three": ("old:     further(n) + 1\nnew:     further(n)\n", "refused by a"),
+    "a_sum_on_the_way": ("old:     let all = p;\nnew:     let more = p + 1; let all = more - 1;\n", "refused for an operation that it brings: itself: the sum fits its type"),
     "a_text_that_is_gone": ("old: if b < a\nnew: if a < b\n", "not tried: an 'old:' text is in src/lib.rt 0 times"),
 }
 
@@ -195,6 +206,16 @@ def ran(root, wanted, last, *flags):
 def tried_over(root, seconds=None, **commits):
     """Says of these crates over which commit all of their edits were tried, and what an edit took."""
     write(f"{root}/{TRIED}", "# a comment\n" + "".join(f"{name} {it} 2026-01-01 7 {7 * (seconds or {}).get(name, 3)}\n" for name, it in commits.items()))
+
+
+def answers():
+    """An answer that fails at a term which it spells out itself is told from one that fails elsewhere."""
+    function = Function(["rows"], "", "", "place", 1, 9, 0, 0, "fn place() {}", False)
+    text = "pub one : goal.one\none g c =\n    let row = c.args.near / 64 in\n    there row (c.index.is)\n\npub two : goal.two\ntwo g c =\n    there c.is\n"
+    for line, term, is_of_answer in ((4, "c.args.near / 64", True), (4, "c.args.near", False), (4, "c.args.far / 64", False), (8, "c.args.near / 64", False)):
+        line_told = f"proofs/rows/place/Answers.antt:{line}:9: error: `one`: as printed, the two types differ only where one has `{term}` (expected), and the other `row`\n"
+        said = Said("oa_it", 1, line_told).findings(function, (1, 9, "src/rows.rt"), answers=lambda path: text)
+        tell(f"an answer at line {line} with {term}", len(said) == 1 and said[0].is_of_answer == is_of_answer and says_of_clause(said[0]) != is_of_answer, said)
 
 
 def choices(root):
@@ -309,6 +330,7 @@ def main():
             pass
         ran(root, {**steps, **above}, f"{refused + 2} refused, {len(EDITS) - refused + 3} not, 1 left to other commits", "--gate")
         choices(root)
+    answers()
     print(f"{counts[True]} passed, {counts[False]} failed")
     return 1 if counts[False] else 0
 

@@ -5,17 +5,24 @@ import time
 
 from .checks import Checks
 from .edits import batches_of, made_of
-from .said import BLOCKED, MASKED, OPEN, Said, changed_calls
+from .said import BLOCKED, MASKED, OPEN, Said, changed_calls, says_of_clause
 from .sources import functions_of
 
 BY_CLAUSE, BY_PROOF, STANDS, NOT_TRIED = "refused by a clause", "refused by a proof file alone", "NOT REFUSED", "not tried"
+BY_ANSWER, BY_EDIT = "refused at a term that an answer spells out", "refused for an operation that it brings"
+# what says little of a contract
+WEAK = (BY_EDIT, BY_PROOF, BY_ANSWER)
+
+
+# the end of the name of a twin's folder
+TWIN = re.compile(r"_twin\d*/")
 
 
 class Verdict(collections.namedtuple("Verdict", "word why")):
     """A word, and the reason for it."""
 
     def is_refusal(self):
-        return self.word in (BY_CLAUSE, BY_PROOF)
+        return self.word == BY_CLAUSE or self.word in WEAK
 
 
 class Judge:
@@ -116,14 +123,21 @@ class Judge:
     def findings(self, said, function, same, path, texts):
         """Returns what is open of a function, which stands in a file so now."""
         span = same.head_in(texts.get(path) or self.sources.text(path)), same.last, path
-        return said.findings(same, span, changed_calls(function.text, same.text))
+        return said.findings(same, span, changed_calls(function.text, same.text), function.text, self.answers)
+
+    def answers(self, path):
+        """Returns the text of a file of answers, of a function or of a twin of it."""
+        try:
+            return self.sources.text(TWIN.sub("/", path))
+        except OSError:
+            return ""
 
     def judge_twin(self, it, twin, edited, texts, said, cuts):
         """Refuses an edit that stands in a twin, where a goal fell. Where none did, or a name in its proof is not found, the edit is tried in the function itself."""
         path, function = self.sources.functions[it.stands[0]]
         bad = [v for v in said.of(twin).values() if not v.startswith(("proved", "could not tell"))]
         same = next((f for f in edited[path] if f.path == twin.path), twin)
-        goal = next((f.text for f in self.findings(said, function, same, path, texts) if not f.is_of_proof), "") or next((v[:120] for v in bad if OPEN.search(v)), "")
+        goal = next((f.text for f in self.findings(said, function, same, path, texts) if says_of_clause(f)), "") or next((v[:120] for v in bad if OPEN.search(v)), "")
         if goal and any(not MASKED.search(v) and not BLOCKED.search(v) for v in bad):
             it.verdict = Verdict(BY_CLAUSE, f"{function.path}: {goal}")
             return []
@@ -153,11 +167,11 @@ class Judge:
                     # (the answer that spares the help was refused, and nothing else was told)
                     unclear.append(f"{name}: {bad[0][:100]}")
                     continue
-                clause = next((f.text for f in found if not f.is_of_proof), "" if found else bad[0][:120])
-                fell.append((bool(clause), f"{name}: {clause or found[0].text}"))
+                clause = next((f.text for f in found if says_of_clause(f)), "" if found else bad[0][:120])
+                word = BY_CLAUSE if clause else BY_ANSWER if any(f.is_of_answer for f in found) else BY_PROOF if any(f.is_of_proof for f in found) else BY_EDIT
+                fell.append((word, f"{name}: {clause or found[0].text}"))
         if it.all_must and fell and not stood and not masked and not unclear or not it.all_must and fell:
-            is_clause, goal = max(fell, key=lambda found: found[0])
-            it.verdict = Verdict(BY_CLAUSE if is_clause else BY_PROOF, goal)
+            it.verdict = Verdict(*max(fell, key=lambda found: [*WEAK, BY_CLAUSE].index(found[0])))
         elif (masked or unclear or elsewhere) and not is_last:
             return True
         elif not it.all_must and not masked and self.by_this_edit(elsewhere):

@@ -18,8 +18,38 @@ NAME = re.compile(r"`([^`\s]+)`")
 GONE = re.compile(r"has no field|is not in scope|has no `|was not admitted")
 # The name of a place of the code in a proof, as c.match-read.in-Ok or c.sync-2: the words of it are those of what is called there.
 PLACE = re.compile(r"\bc\.([\w.-]+)")
+# What an answer expects of a fact, where it says how two types differ.
+EXPECTED = re.compile(r"\bone has `([^`]+)` \(expected\)")
+# A goal of an operation, that it can be carried out: it belongs to no clause.
+OPERATION = re.compile(r"(?:overflow_(\w+)|slice_bounds|bounds)-")
+# The signs of operations by their goals.
+SIGNS = {"add": "+", "sub": "-", "mul": "*", "shl": "<<", "shr": ">>", "cast": " as ", "step": "step_by", "": "["}
 
-Finding = collections.namedtuple("Finding", "text is_of_proof")
+# What is open of a function: is_of_proof where an answer names what an edit took away, is_of_answer where it spells out a term that the edit has replaced, is_of_edit
+# where an operation that the edit brings cannot be shown to be carried out.
+Finding = collections.namedtuple("Finding", "text is_of_proof is_of_answer is_of_edit")
+
+
+def says_of_clause(finding):
+    """Whether it tells that a clause refuses the edit."""
+    return not (finding.is_of_proof or finding.is_of_answer or finding.is_of_edit)
+
+
+def spells(answers, line, term):
+    """Whether the answer at a line of a file of answers spells a term out that is more than a name."""
+    lines = answers.split("\n")[:line]
+    while len(lines) > 1 and not lines[-1].startswith("pub "):
+        lines.pop()
+    one = re.split(r"\n(?=pub )", "\n".join(answers.split("\n")[max(len(lines) - 1, 0) :]))
+    one = " ".join(one[0].split())
+    return bool(re.search(r"\S \S", term)) and " ".join(term.split()) in one
+
+
+def is_of_new_operation(goal, before, after):
+    """Whether a goal, by its name, is of an operation of which a function has more than before."""
+    found = OPERATION.match(goal)
+    sign = SIGNS.get(found[1] or "") if found else None
+    return bool(sign) and after.count(sign) > before.count(sign)
 
 
 def calls_of(text):
@@ -56,9 +86,10 @@ class Said:
         """Returns what is said of a function and of the closures in it."""
         return {name: verdict for name, verdict in self.told if function.is_told_by(name)}
 
-    def findings(self, function, span, calls=frozenset()):
-        """Returns what the prover left open in a function, in its words, and of each whether it says no more than that a proof names what an edit took away: the function
-        calls these names more or less often. The span is that of the function in a file: its first and last line, and the path."""
+    def findings(self, function, span, calls=frozenset(), before="", answers=lambda path: ""):
+        """Returns what the prover left open in a function, in its words, and of each whether it says less than that a clause refuses the edit: the function calls these
+        names more or less often, its text was this before, and these are its answers by their files. The span is that of the function in a file: its first and last
+        line, and the path."""
         first, last, path = span
         owner = function.of_type + function.of_trait
         folder = "/".join([*function.modules, *([owner] if owner else []), function.name])
@@ -69,8 +100,11 @@ class Said:
             if it[1] == path and first <= int(it[2]) <= last:
                 text = it[3].split(";")[0]
                 names = NAME.findall(text)
-                found.append(Finding(text[:160], bool(names) and kind_of(names[-1]) in gone))
+                is_of_edit = bool(names) and is_of_new_operation(names[-1], before, function.text)
+                found.append(Finding(text[:160], bool(names) and kind_of(names[-1]) in gone, False, is_of_edit))
         for it in errors:
             places = {word for place in PLACE.findall(it[4]) for word in re.split(r"[.-]", place)}
-            found.append(Finding(f"{it[1]}:{it[3]}: {it[4].partition(chr(10))[0][:130]}", bool(GONE.search(it[4]) or places & calls)))
+            term = EXPECTED.search(it[4])
+            is_of_answer = bool(term) and spells(answers(it[1]), int(it[3]), term[1])
+            found.append(Finding(f"{it[1]}:{it[3]}: {it[4].partition(chr(10))[0][:130]}", bool(GONE.search(it[4]) or places & calls), is_of_answer, False))
         return found

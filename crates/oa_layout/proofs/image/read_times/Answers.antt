@@ -17,7 +17,7 @@ pub returns-in_err-next-clause-read : goal.returns-in_err-next-clause-read
 unfolding times
 returns-in_err-next-clause-read g c =
     let read = g.F.ReadImage.format.read in
-    let p = err_from_is_err_and c.from_residual.result c.from_residual.ensures.1 in
+    let p = err_from_is_err_and c.from_residual-in_err-next.result c.from_residual-in_err-next.ensures.1 in
     rw (p.1, p.2) (many_err read c.in_err-next.field-0.0 c.values.all.items c.args.count c.values.counter c.values.r c.read.new.r c.read.new.r (many read c.args.count c.args.r.now) c.values-test.true c.in_err-next.ensures c.values.invariant.read)
 
 pub returns-clause-read : goal.returns-clause-read

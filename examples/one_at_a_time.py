@@ -159,6 +159,11 @@ def serve(listening, words, idle):
     silent, looking = collections.OrderedDict(), selectors.DefaultSelector()
     listening.setblocking(False)
     looking.register(listening, selectors.EVENT_READ)
+    # (a signal may come in the other thread, and this one has to look up)
+    woken, waking = socket.socketpair()
+    waking.setblocking(False)
+    signal.set_wakeup_fd(waking.fileno())
+    looking.register(woken, selectors.EVENT_READ)
 
     def leave(client):
         looking.unregister(client.sock)
@@ -167,7 +172,9 @@ def serve(listening, words, idle):
     while True:
         first = next(iter(silent), None)
         for key, _ in looking.select(first and max(0, first.since + idle - time.monotonic())):
-            if key.fileobj is listening:
+            if key.fileobj is woken:
+                woken.recv(100)
+            elif key.fileobj is listening:
                 client = accept(listening, idle)
                 if client:
                     silent[client] = True

@@ -1,5 +1,6 @@
 """How sessions end, and what comes of a program that is behind a socket."""
 import contextlib
+import ctypes
 import os
 import pathlib
 import re
@@ -292,6 +293,22 @@ class OneAtATime(ClientCases):
         # (a thread's calls are counted by themselves: one looks whether a client has sent something, one serves it)
         self.outlives("clients whose connection times out", turns, [*under, f"inject=recvfrom:error=ETIMEDOUT:when=1..{CLIENTS}"])
         self.outlives("clients whose host cannot be reached", lambda dial: None, [*under, f"inject=accept4:error=EHOSTUNREACH:when=2..{CLIENTS + 1}"])
+
+    def test_an_end_in_each_thread(self):
+        """Which of its threads a signal comes to is the system's choice (a debugger's presence is enough)."""
+        with tempfile.TemporaryDirectory() as room:
+            for place in (0, 1):
+                words = [sys.executable, ONE_AT_A_TIME, "--listen", f"{room}/{place}", "cat"]
+                with subprocess.Popen(words, stdin=subprocess.DEVNULL, stderr=subprocess.PIPE) as child:
+                    with dialled(f"{room}/{place}") as sock:
+                        self.same("it is answered", answered(sock), b"hello")
+                    threads = sorted(map(int, os.listdir(f"/proc/{child.pid}/task")))[:2]
+                    ctypes.CDLL(None).syscall(234, child.pid, threads[place], signal.SIGTERM)  # tgkill, on x86-64
+                    try:
+                        status = child.wait(30)
+                    except subprocess.TimeoutExpired:
+                        status = child.kill()
+                self.same(f"told to end in thread {place} of {len(threads)}", status, 0)
 
     def test_places(self):
         with tempfile.TemporaryDirectory() as room:

@@ -1,6 +1,6 @@
-/* What the files of the gateway share. records.c alone knows what stands in the bytes that are moved; gateway.c has the clients, the server's
- * process and the loop, sockets.c the command line and the listening sockets, told.c what is told of them all, page.c starts the page, backup.c is
- * a program of its own. */
+/* What the files of the gateway share. main.c starts it and has the loop; clients.c has the connections, framing.c what stands in their bytes,
+ * turns.c whose turn it is, session.c what is asked of the server and whose the replies are, server.c its process. Around them: options.c the
+ * command line, sockets.c what is listened on, metrics.c what is told, page.c starts the page, backup.c is a program of its own. */
 #ifndef GATEWAY_H
 #define GATEWAY_H
 
@@ -22,6 +22,8 @@ enum {
     BASE = 1 << 14,   /* so many bytes each buffer of a client has without asking */
     QUEUE = 1 << 18,  /* a client with so many bytes of requests waiting is not read */
     UNREAD = 1 << 20, /* a client with so many bytes of replies that it has not taken gets no turn */
+    HEAD = 20,        /* the shortest reply, with its length */
+    BODY = 4194304,   /* the longest request */
 };
 
 /* Bytes that have come and not gone yet, from `start` to `end`; up to `mark` they are whole requests. */
@@ -45,49 +47,93 @@ typedef struct client {
     Kind kind;
     Stage stage;
     uint32_t events;                    /* of epoll, which are waited for */
-    bool waits, touched, deaf, starved; /* is in a queue; was just answered; epoll does not watch it; there is no room to read more of it */
-    unsigned asked, locking;            /* parts of batches that are with the server; LOCKs among them */
-    uint64_t batch;                     /* the last batch that it is part of */
+    bool waits, touched, deaf, starved; /* has a turn to come; was just answered; epoll does not watch it; there is no room to read more of it */
+    unsigned asked, locking;            /* requests, or runs of them, that are with the server; LOCKs among them */
+    uint64_t batch, answered;           /* the last batch that it is part of; the one that was answered, and it has asked nothing since */
     size_t share, weight;               /* how many requests of it that batch still takes; the bytes of a reply to it, about */
-    struct lock *locks;
+    struct lock *locks;                 /* session.c: those that it has */
     size_t lock_bytes;
+    int presence; /* frames.c: whether the server knows it */
     Buffer in, out;
     size_t digits;                   /* HEX: of the line that is coming */
     bool bad, cr;                    /* HEX: it is no pairs of digits; its last sign was a CR */
     double came, took, since, begun; /* when it last sent, when it last took; since when it waits, and sends what has not come whole */
-    TAILQ_ENTRY(client) entry;
+    TAILQ_ENTRY(client) turn, answer;
 } Client;
 TAILQ_HEAD(queue, client);
 
-enum { BUCKETS = 20, CODES = 32 };
-typedef struct histogram {
-    double least, sum; /* up to where the first bucket goes, each other one twice as far */
-    uint64_t buckets[BUCKETS + 1];
-} Histogram;
-extern struct counts {
-    uint64_t live, waiting, locks, clients, turned_away, stalled, silent, requests, batches, in, out, refused, given_back, starts, holds;
-    double held; /* seconds that backups kept the server waiting */
-    Histogram batch, commit, wait;
-    struct code {
-        uint32_t code;
-        uint64_t count;
-    } codes[CODES];
-    bool faulted; /* STG_E_WRITEFAULT was answered */
-} counts;
-void observe(Histogram *histogram, double value);
-void tell(FILE *to);
-void notify(const char *format, ...) __attribute__((format(printf, 1, 2)));
-void say(const char *format, ...) __attribute__((format(printf, 1, 2)));
+/* main.c */
+static const uint64_t SERVER = UINT64_MAX, SIGNALS = UINT64_MAX - 1, LISTENER = UINT64_MAX - 2; /* what epoll tells, beside a client's */
+extern double now, draining;                                                                    /* draining: since when it ends */
+void watch(int fd, int operation, uint32_t events, uint64_t told);
+double clock_now(void);
 _Noreturn void fail(int status, const char *format, ...) __attribute__((format(printf, 2, 3)));
-int backup(const char *control, const char *file);
-int print_status(const char *control);
 
-/* gateway.c: what the clients' buffers have, and may have */
-extern double now;
-extern size_t in_bytes, out_bytes, server_bytes, memory;
-extern Buffer to_server, from_server;
+/* clients.c: what the buffers of clients have, and may have */
+extern size_t in_bytes, out_bytes, memory;
+extern Client *clients, *end_of_clients, *holder; /* holder: a backup, while nothing is sent to the server */
 bool make_room(Buffer *buffer, size_t more, size_t *pool, size_t limit);
 void append(Buffer *buffer, size_t *pool, const void *bytes, size_t size);
+void give_room_back(Buffer *buffer, size_t *pool, bool wholly);
+void make_places(size_t places);
+size_t unread(const Client *client);
+void speak(Client *client);
+void gone(Client *client);
+void client_event(uint32_t place, uint32_t visit, uint32_t events);
+void let_read(void);
+void all_end(void);
+void all_lost(void);
+void judge_all(void);
+struct listener;
+void accept_clients(const struct listener *listener);
+
+/* framing.c */
+size_t wanted(const Client *client);
+void bytes_came(Client *client, const char *signs, size_t size);
+void end_came(Client *client);
+void stop_reading(Client *client);
+void give(Client *client, const char *replies, size_t size);
+void refuse(Client *client, uint32_t tag, uint32_t code);
+void refuse_stub(Client *client);
+
+/* turns.c */
+extern Client *alone, house;    /* who has the server to itself; what is asked for those that have gone */
+extern uint64_t batch;          /* its number */
+extern size_t waiting, awaited; /* those with a turn to come; those just answered, that have asked nothing since */
+void enqueue(Client *client);
+void dequeue(Client *client);
+void look(Client *client);
+void was_answered(Client *client);
+void leave(Client *client);
+bool begin_batch(void);
+
+/* session.c, or frames.c: the server's side, and all that depends on how it is asked */
+extern const char *const server_words[]; /* of its command line, before the store and its library */
+void server_came(void);
+void server_lost(void);
+void client_came(Client *client);
+void client_gone(Client *client);
+void session_lost(Client *client);
+void settle(Client *client);
+void open_batch(void);
+bool is_full(void);
+bool take_turn(Client *client);
+bool close_batch(void);
+bool in_flight(void);
+bool hand_out(struct queue *answered);
+
+/* server.c */
+extern Buffer to_server, from_server;
+extern size_t server_bytes;
+extern bool is_up, is_held;
+extern double took, deadline; /* what a batch takes about; until when the next one waits for those that are awaited */
+void start_server(void);
+void read_server(void);
+void write_server(void);
+void pump(void);
+double let_go_on(void);
+int end_server(void);
+bool has_server(void);
 
 /* sockets.c */
 enum { LISTENERS = 16 };
@@ -99,32 +145,46 @@ extern struct listener {
     socklen_t size;
 } listeners[LISTENERS];
 extern unsigned listener_count;
-extern double most, idle, hold, stalled, report;
-extern const char *program, *store;
-void read_options(int argc, char **argv);
+extern const char *const kinds[KINDS];
+void add_address(Kind kind, const char *word);
+bool add_allowed(const char *name, const char *word);
+bool take_sockets(void);
 void open_sockets(void);
 void unlink_sockets(void);
 bool is_allowed(int fd);
 
-/* page.c */
-extern const char *page; /* where the page is to be, none where none is asked for */
-void start_page(void);
+/* options.c */
+extern double most, idle, hold, stalled, report;
+extern unsigned long mode;
+extern const char *program, *store, *page; /* page: where it is to be, none where none is asked for */
+void read_options(int argc, char **argv);
 
-/* records.c */
-extern const char *const server_words[]; /* of its command line, before the store and its library */
-extern Client *alone;                    /* who has the server to itself */
-void client_came(Client *client);
-void client_gone(Client *client);
-void session_lost(Client *client);
-void server_came(void);
-void server_lost(void);
-size_t wanted(const Client *client);
-void bytes_came(Client *client, const char *signs, size_t size);
-void end_came(Client *client);
-void stop_reading(Client *client);
-void replies_taken(Client *client);
-bool begin_batch(void);
-bool in_flight(void);
-bool hand_out(Client **touched, size_t *count);
+/* metrics.c */
+enum { BUCKETS = 20, CODES = 32 };
+typedef struct histogram {
+    double least, sum; /* up to where the first bucket goes, each other one twice as far */
+    uint64_t buckets[BUCKETS + 1];
+} Histogram;
+extern struct counts {
+    uint64_t live, locks, clients, turned_away, stalled, silent, requests, batches, in, out, refused, given_back, starts, holds;
+    double held; /* seconds that backups kept the server waiting */
+    Histogram batch, commit, wait;
+    struct code {
+        uint32_t code;
+        uint64_t count;
+    } codes[CODES];
+    bool faulted; /* STG_E_WRITEFAULT was answered */
+} counts;
+void observe(Histogram *histogram, double value);
+void note(uint32_t code);
+void answer_monitor(Client *client);
+void report_counts(void);
+void notify(const char *format, ...) __attribute__((format(printf, 1, 2)));
+void say(const char *format, ...) __attribute__((format(printf, 1, 2)));
+
+/* page.c, backup.c */
+void start_page(void);
+int backup(const char *control, const char *file);
+int print_status(const char *control);
 
 #endif

@@ -5,8 +5,6 @@
 #include <signal.h>
 #include <sys/prctl.h>
 
-const char *page;
-
 /* The address of the first socket of a kind as `--connect` takes it; none where there is none. */
 static const char *address_of(Kind kind, char *into, size_t size) {
     for (const struct listener *it = listeners; it < listeners + listener_count; it++) {

@@ -1,4 +1,4 @@
-/* The command line, and the sockets that are listened on. */
+/* What is listened on, and who may come. */
 #include "gateway.h"
 
 #include <grp.h>
@@ -9,41 +9,14 @@
 enum { ALLOWED = 64 };
 struct listener listeners[LISTENERS];
 unsigned listener_count;
-double most = 1000, idle = 3600, hold = 30, stalled = 30, report = 60;
-const char *program = "oaut", *store;
-static double megabytes = 64;
-static unsigned long mode = 0600;
+const char *const kinds[KINDS] = {"listen", "listen-hex", "alone", "metrics", "control"};
 static struct allowed {
     unsigned count;
     uint32_t ids[ALLOWED];
 } users, groups;
-static const char *const kinds[KINDS] = {"listen", "listen-hex", "alone", "metrics", "control"};
-static const struct number {
-    const char *name;
-    double *value, least, greatest;
-} numbers[] = {{"clients", &most, 1, 100000}, {"memory", &megabytes, 16, 1 << 20}, {"idle", &idle, 0, 1e9},
-               {"hold", &hold, 0.1, 1e9},     {"stalled", &stalled, 0.1, 1e9},     {"report", &report, 0, 1e9}};
-static const char usage[] = "oaut-gateway [OPTION VALUE..] STORE    serves a store to many clients\n"
-                            "oaut-gateway backup CONTROL FILE       copies the store that is being served\n"
-                            "oaut-gateway status CONTROL            prints its counters\n\n"
-                            "--listen ADDRESS         a path with a /, or HOST:PORT of the loopback: clients share the server\n"
-                            "--listen-hex ADDRESS     the same, by lines of hexadecimal digits\n"
-                            "--alone ADDRESS          a client has the server to itself while it is connected\n"
-                            "--metrics ADDRESS        GET /metrics, for Prometheus\n"
-                            "--control PATH           for backup and status\n"
-                            "--view HOST:PORT         a page that shows the store, by python3 -m oaut view\n"
-                            "--mode OCTAL             the rights of the unix sockets (0600)\n"
-                            "--allow-user USER, --allow-group GROUP    who may connect, of those that the rights let\n"
-                            "--clients N              how many at once (1000)\n"
-                            "--memory MIB             of the clients' buffers together (64)\n"
-                            "--idle S                 how long a client may be silent (3600; 0 for ever)\n"
-                            "--hold S                 the same of one that keeps the others waiting (30)\n"
-                            "--stalled S              how long it may leave its replies, or a request in parts (30)\n"
-                            "--report S               a line on standard error so often, where requests came (60; 0 never)\n"
-                            "--program PATH           the server (oaut)\n";
 
 /* An address of a socket that is to be made here. */
-static void add_address(Kind kind, const char *word) {
+void add_address(Kind kind, const char *word) {
     struct listener *l = &listeners[listener_count];
     struct sockaddr_un *path = (struct sockaddr_un *)&l->name;
     struct addrinfo how = {.ai_flags = AI_NUMERICHOST | AI_NUMERICSERV, .ai_socktype = SOCK_STREAM}, *found;
@@ -64,29 +37,21 @@ static void add_address(Kind kind, const char *word) {
     memcpy(&l->name, found->ai_addr, l->size = found->ai_addrlen);
     freeaddrinfo(found);
 }
-static bool add_allowed(struct allowed *to, bool found, uint32_t id, const char *word) {
+/* A user or a group, by name or number, as an option names them. */
+bool add_allowed(const char *option, const char *word) {
+    bool user = !strcmp(option, "allow-user");
+    struct allowed *to = user ? &users : &groups;
+    const struct passwd *one = user ? getpwnam(word) : NULL;
+    const struct group *some = user ? NULL : getgrnam(word);
     char *end;
     unsigned long number = strtoul(word, &end, 10);
-    if (to->count == ALLOWED || (!found && (*end || number >= UINT32_MAX))) return false;
-    to->ids[to->count++] = found ? id : (uint32_t)number;
+    if (!user && strcmp(option, "allow-group")) return false;
+    if (to->count == ALLOWED || (!one && !some && (*end || number >= UINT32_MAX))) return false;
+    to->ids[to->count++] = one ? one->pw_uid : some ? some->gr_gid : (uint32_t)number;
     return true;
 }
-static bool set_option(const char *name, const char *word) {
-    char *end;
-    for (Kind kind = SHARED; kind < KINDS; kind++)
-        if (!strcmp(name, kinds[kind])) return add_address(kind, word), true;
-    for (const struct number *it = numbers; it < numbers + sizeof numbers / sizeof *numbers; it++)
-        if (!strcmp(name, it->name)) return *it->value = strtod(word, &end), !*end && *it->value >= it->least && *it->value <= it->greatest;
-    const struct passwd *user = strcmp(name, "allow-user") ? NULL : getpwnam(word);
-    const struct group *group = strcmp(name, "allow-group") ? NULL : getgrnam(word);
-    if (!strcmp(name, "allow-user")) return add_allowed(&users, user, user ? user->pw_uid : 0, word);
-    if (!strcmp(name, "allow-group")) return add_allowed(&groups, group, group ? group->gr_gid : 0, word);
-    if (!strcmp(name, "view")) return page = word, true;
-    if (!strcmp(name, "mode")) return mode = strtoul(word, &end, 8), !*end && mode <= 0777;
-    return !strcmp(name, "program") && (program = word);
-}
 /* Takes the sockets that systemd hands over. */
-static void take_sockets(void) {
+static void take_those_of_systemd(void) {
     const char *pid = getenv("LISTEN_PID"), *count = getenv("LISTEN_FDS"), *names = getenv("LISTEN_FDNAMES");
     for (int fd = 3; pid && count && strtol(pid, NULL, 10) == getpid() && fd < 3 + atoi(count); fd++) {
         struct listener *l = &listeners[listener_count];
@@ -117,27 +82,15 @@ static void check(const struct listener *l) {
     if (l->kind != METRICS && (users.count || groups.count))
         fail(2, "who comes by TCP has no name: no --%s of TCP beside --allow-user, --allow-group", kinds[l->kind]);
 }
-void read_options(int argc, char **argv) {
-    int at = 1;
-    unsigned serving = 0;
-    char name[16];
-    for (; at < argc && !strncmp(argv[at], "--", 2); at++) {
-        const char *option = argv[at] + 2, *equals = strchr(option, '=');
-        if (!strcmp(option, "help")) exit(fputs(usage, stdout) < 0);
-        if (!strcmp(option, "version")) exit(puts("oaut-gateway " VERSION) < 0);
-        const char *word = equals ? equals + 1 : at + 1 < argc ? argv[++at] : NULL;
-        snprintf(name, sizeof name, "%.*s", (int)strcspn(option, "="), option);
-        if (!word || !set_option(name, word)) fail(2, "--%s %s: no such option, or no such value; see --help", name, word ? word : "");
-    }
-    if (at != argc - 1) fail(2, "one STORE behind the options; see --help");
-    store = argv[at];
-    memory = (size_t)megabytes << 20;
-    take_sockets();
+/* Takes the sockets that systemd hands over, and checks all; false where none is for clients. */
+bool take_sockets(void) {
+    bool serves = false;
+    take_those_of_systemd();
     for (const struct listener *l = listeners; l < listeners + listener_count; l++) {
         check(l);
-        serving += l->kind < METRICS;
+        serves |= l->kind < METRICS;
     }
-    if (!serving) fail(2, "no socket of clients: --listen, --listen-hex, --alone, or one of systemd");
+    return serves;
 }
 void open_sockets(void) {
     for (struct listener *l = listeners; l < listeners + listener_count; l++) {

@@ -1,4 +1,7 @@
-"""The gateway, clients/gateway, as its tests have it: built once, with sanitizers where the compiler has them, and started over a store of its own."""
+"""The gateway, clients/gateway, as its tests have it: built once, with sanitizers where the compiler has them, and started over a store of its own.
+
+Where SIDE is `frames`, as clients/gateway/build.sh has it, its server is the one that shared.py imitates.
+"""
 import contextlib
 import functools
 import os
@@ -17,6 +20,7 @@ from running import PROGRAM, ROOT, run_in
 from wire import oaut
 
 GATEWAY = f"{ROOT}/clients/gateway"
+SERVED = f"{ROOT}/tests/gateway/shared.py" if os.environ.get("SIDE") == "frames" else PROGRAM
 FULL = f"{ROOT}/examples/full.idl"
 SANITIZED = "-O1 -g -fsanitize=address,undefined -fno-sanitize-recover=all"
 SECONDS = 180  # of each thing that is waited for
@@ -101,7 +105,7 @@ class Gateway:
 
     OPTIONS = ("listen", "listen-hex", "alone", "control", "metrics")
 
-    def __init__(self, *words, sockets=("listen", "alone", "listen-hex", "control", "metrics"), room=None, under=(), starts=True, library=FULL, program=PROGRAM, **variables):
+    def __init__(self, *words, sockets=("listen", "alone", "listen-hex", "control", "metrics"), room=None, under=(), starts=True, library=FULL, program=SERVED, **variables):
         self.own = tempfile.TemporaryDirectory(dir=fast_folder()) if room is None else None
         self.room = room or self.own.name
         self.store = f"{self.room}/it.store"
@@ -116,7 +120,7 @@ class Gateway:
 
     def start(self, waits=True):
         self.error = open(f"{self.room}/said", "a+b")
-        self.process = subprocess.Popen(self.words, stderr=self.error, env={**os.environ, **{name: str(it) for name, it in self.variables.items()}})
+        self.process = subprocess.Popen(self.words, stderr=self.error, env={**os.environ, "OAUT_PROGRAM": PROGRAM, **{name: str(it) for name, it in self.variables.items()}})
         if waits:
             self.wait_for(lambda: self.process.poll() is not None or self.answers(), "the gateway does not listen")
         return self

@@ -2,8 +2,8 @@
 
     OAUT_PROGRAM=PATH python3 tests/gateway/histories.py [--seed S] [--rounds N]
 
-In a round 16 clients ask over all opcodes at once, some in pieces, some by lines, some alone, and hang up in several ways; meanwhile the server, the gateway or
-both are killed, the device fails, or nothing happens. Between gateway and server stands a program that writes down what goes by in either direction: the order
+In a round 16 clients ask over all opcodes at once, some in pieces, some by lines, some alone, some over a line that delays, splits and stalls their bytes (in the
+place of netem, which not every kernel has), and hang up in several ways; meanwhile the server, the gateway or both are killed, the device fails, or nothing happens. Between gateway and server stands a program that writes down what goes by in either direction: the order
 in which the server was asked. Behind each round this is looked at:
 
 - each reply of the server is the model's (tests/support/model.py), request by request in that order;
@@ -16,6 +16,7 @@ in which the server was asked. Behind each round this is looked at:
 """
 import argparse
 import collections
+import contextlib
 import copy
 import os
 import random
@@ -24,6 +25,7 @@ import socket
 import struct
 import sys
 import tempfile
+import threading
 import time
 
 sys.path.append(f"{os.path.dirname(os.path.abspath(__file__))}/../support")
@@ -123,6 +125,34 @@ def is_lock(body, opcode):
     return len(body) >= 64 and struct.unpack_from("<H", body, 4)[0] == opcode
 
 
+def bad_line(sock, seed):
+    """The near end of a line to a socket: in either direction bytes come late, in parts, and now and then not for a while; each end of it is an end there."""
+    near, far = socket.socketpair()
+    sock.setblocking(True)
+
+    def goes(source, to, dice):
+        try:
+            while some := source.recv(dice.choice([1, 7, 64, 1 << 12, 1 << 16])):
+                time.sleep(dice.expovariate(2000) + (dice.uniform(0.02, 0.3) if dice.random() < 0.02 else 0))
+                to.sendall(some)
+            to.shutdown(socket.SHUT_WR)
+        except OSError:  # (an end that is reset is one for both directions)
+            for it in (source, to):
+                with contextlib.suppress(OSError):
+                    it.shutdown(socket.SHUT_RDWR)
+
+    def lasts():
+        there = threading.Thread(target=goes, args=(far, sock, random.Random(seed)), daemon=True)
+        there.start()
+        goes(sock, far, random.Random(seed + 1))
+        there.join()
+        far.close()
+        sock.close()
+
+    threading.Thread(target=lasts, daemon=True).start()
+    return near
+
+
 class Visit:
     """One connection of a client."""
 
@@ -192,7 +222,7 @@ class Visit:
 class Round:
     def __init__(self, gateway, seed, model):
         self.gateway, self.dice, self.visits = gateway, random.Random(seed), []
-        self.kind = KILLS[seed % len(KILLS)]
+        self.kind, self.bad_lines = KILLS[seed % len(KILLS)], 0
         self.guide = Guide(seed)
         self.guide.model = copy.deepcopy(model)
         first = Replay()
@@ -205,6 +235,9 @@ class Round:
             sock = self.gateway.dial(kind)
         except OSError:
             return None
+        self.bad_lines += (bad := self.dice.random() < 0.3)
+        if bad:
+            sock = bad_line(sock, self.dice.getrandbits(30))
         visit = Visit(len(self.visits) + 1, kind, sock, self.dice, self.dice.random() < 0.25)
         visit.half = self.dice.random() < 0.5
         self.visits.append(visit)
@@ -450,6 +483,7 @@ def rounds(first, count, tells=lambda *_: None):
                     seen["rounds"] += 1
                     seen[it.kind] += 1
                     seen["connections"] += len(it.visits)
+                    seen["bad lines"] += it.bad_lines
                     seen["requests"] += sum(len(visit.bodies) for visit in it.visits)
                     seen["replies"] += sum(len(visit.replies) for visit in it.visits)
                     seen["unanswered"] += sum(len(visit.bodies) - len(visit.replies) for visit in it.visits)

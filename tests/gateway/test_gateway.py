@@ -18,10 +18,10 @@ import unittest
 
 import wire
 from codes import ARRAY_IS_LOCKED, BAD_STUB, E_UNEXPECTED
-from gateways import FAILS, GATEWAY, SECONDS, Gateway, bodies_of, built, compiled, hear, left_out, library, record, records, rest
+from gateways import FAILS, GATEWAY, SECONDS, SERVED, Gateway, bodies_of, built, compiled, hear, left_out, library, record, records, rest
 from preloaded import COMPILER
 from running import FULL as FULL_LIBRARY
-from running import CREATED, PROGRAM, ROOT, Cases, run_in
+from running import CREATED, ROOT, Cases, run_in
 from test_hostile_system import CUT
 from test_sessions import ANSWERED
 from wire import oaut
@@ -87,22 +87,34 @@ class Building(Cases):
         names = {line.split()[0] for line in needed.splitlines()}
         self.tell("it needs the C library alone", all(it.startswith(("linux-vdso", "libc.so", "/lib")) for it in names), names)
 
+    def test_the_page_counts_lines(self):
+        lines = {os.path.basename(it): sum(1 for _ in open(it)) for it in glob.glob(f"{GATEWAY}/*.[ch]")}
+        with open(f"{ROOT}/docs/gateway.md") as file:
+            text = file.read()
+        counted = 0
+        for names, count in re.findall(r"(?m)^\| ((?:`\w+\.[ch]`(?:, )?)+) \|.*\| ([\d,]+) \|$", text):
+            names = re.findall(r"`(.*?)`", names)
+            counted += len(names)
+            self.tell(f"the lines of {', '.join(names)}", int(count.replace(",", "")) == sum(lines[it] for it in names), sum(lines[it] for it in names))
+        self.tell("all files but one", counted == len(lines) - 1 and re.search(rf"a lock: {lines['frames.c']} lines", re.sub(r"\s+", " ", text)), (counted, lines))
+
     @left_out("clang-format")
     def test_the_sources_are_formatted(self):
         done = subprocess.run(["clang-format", "--dry-run", "-Werror", *glob.glob(f"{GATEWAY}/*.[ch]")], capture_output=True, text=True)
         self.tell("clang-format has nothing to change", done.returncode == 0, done.stderr[:500])
 
     def test_no_reply_goes_astray(self):
-        """Made-up clients and a made-up server drive the part that knows of records."""
-        with tempfile.TemporaryDirectory() as room:
-            flags = ["-g", "-O1", "-std=gnu11", "-D_GNU_SOURCE", '-DVERSION="0"', "-fsanitize=address,undefined", "-fno-sanitize-recover=all"]
-            sources = [it for it in glob.glob(f"{GATEWAY}/*.c") if not it.endswith("/gateway.c")]
-            done = compiled(["cc", *flags, "-Dmain=gateway_main", "-c", f"{GATEWAY}/gateway.c", "-o", f"{room}/gateway.o"], "")
-            self.tell("the gateway is compiled", done == (0, ""), done)
-            done = compiled(["cc", *flags, f"{GATEWAY}/tests/fuzz.c", *sources, f"{room}/gateway.o", "-o", f"{room}/fuzz"], "")
-            self.tell("the driver is compiled", done == (0, ""), done)
-            done = subprocess.run([f"{room}/fuzz", "1000", os.environ.get("OAUT_SEED") or "1"], capture_output=True, text=True)
-            self.tell("a thousand inputs", done.returncode == 0 and " locks given back" in done.stdout, done.stderr[-2000:])
+        """Made-up clients and a made-up server drive the part that knows of records, with either side of the server."""
+        flags = ["-g", "-O1", "-std=gnu11", "-D_GNU_SOURCE", '-DVERSION="0"', "-fsanitize=address,undefined", "-fno-sanitize-recover=all"]
+        for side, other in (("session", "frames"), ("frames", "session")):
+            with tempfile.TemporaryDirectory() as room:
+                sources = [it for it in glob.glob(f"{GATEWAY}/*.c") if not it.endswith(("/main.c", f"/{other}.c"))]
+                done = compiled(["cc", *flags, "-Dmain=gateway_main", "-c", f"{GATEWAY}/main.c", "-o", f"{room}/main.o"], "")
+                self.tell(f"the gateway is compiled, {side}", done == (0, ""), done)
+                done = compiled(["cc", *flags, f"-DFRAMES={side == 'frames':d}", f"{GATEWAY}/tests/fuzz.c", *sources, f"{room}/main.o", "-o", f"{room}/fuzz"], "")
+                self.tell(f"the driver is compiled, {side}", done == (0, ""), done)
+                done = subprocess.run([f"{room}/fuzz", "1000", os.environ.get("OAUT_SEED") or "1"], capture_output=True, text=True)
+                self.tell(f"a thousand inputs, {side}", done.returncode == 0 and " locks given back" in done.stdout, done.stderr[-2000:])
 
 
 @needs_cc
@@ -447,6 +459,67 @@ class Bounds(GatewayCases):
         self.tell("a line tells of clients, requests and batches", True)
 
 
+# a server whose group takes 12 ms, and that answers its end 4 ms behind its requests, when their clients have long asked again; it tells how long behind that the next batch came
+LATE = r'''#!/usr/bin/env python3
+import os, struct, sys, time
+if sys.argv[1] == "dump":
+    sys.exit(0)
+data, due, ended = b"", [], None
+while some := os.read(0, 65536):
+    if ended:
+        print(f"{1e3 * (time.monotonic() - ended):.3f} ms", file=sys.stderr, flush=True)
+        ended = None
+    data += some
+    while len(data) >= 4 and len(data) >= 4 + (size := struct.unpack_from("<I", data)[0]):
+        tag, opcode = struct.unpack_from("<IH", data, 4)
+        data = data[4 + size :]
+        if opcode != 12:
+            due.append(tag)
+            continue
+        time.sleep(0.008 if due else 0)
+        os.write(1, b"".join(struct.pack("<IIIII", 16, it, 0, 0xFFFFFFFF, 0) for it in due))
+        time.sleep(0.004 if due else 0)
+        ended, due = time.monotonic() if due else None, []
+        os.write(1, struct.pack("<IIIII", 16, tag, 0x800706F7, 0xFFFFFFFF, 0))
+'''
+
+
+@needs_cc
+@unittest.skipIf(os.environ.get("SIDE") == "frames", "the server that it imitates knows no frames")
+class Waiting(Cases):
+    """A batch waits for those that were just answered, 2 ms at most, and for nobody else. (Times are the least of many: a machine may be busy.)"""
+
+    def waits(self, clients, asks):
+        """How long a batch waited behind an answer, at least, where so many ask together, and so many of them again."""
+        with tempfile.TemporaryDirectory() as room, contextlib.ExitStack() as stack:
+            open(f"{room}/it.store", "w").close()
+            with open(f"{room}/late", "w") as file:
+                file.write(LATE)
+            os.chmod(f"{room}/late", 0o755)
+            with Gateway("--report", "0", room=room, program=f"{room}/late") as gateway:
+                all_of_them = [stack.enter_context(gateway.dial()) for _ in range(clients)]
+                for _ in range(25):
+                    for them in (all_of_them, all_of_them[:asks]):
+                        for it in them:
+                            it.sendall(record(NONE))
+                        for it in them:
+                            hear(it, 20)
+                status, said = gateway.end()
+        found = [float(it) for it in re.findall(r"(?m)^([\d.]+) ms$", said)]
+        self.tell(f"{clients} clients, {asks} of them again: its end", status == 0 and len(found) > 40, (status, said[-300:]))
+        return found
+
+    def test_a_client_alone_waits_for_nobody(self):
+        found = self.waits(1, 1)
+        self.tell("one that is alone is asked for at once", sorted(found)[len(found) // 4] < 1.5, found)
+
+    def test_all_that_were_answered_are_waited_for(self):
+        found = self.waits(2, 2)
+        self.tell("two that ask again wait for each other alone", sorted(found)[len(found) // 4] < 1.5, found)
+        found = self.waits(2, 1)
+        self.tell("one that does not ask again is waited for", sorted(found)[len(found) * 3 // 4] > 1.5, found)
+
+
 @needs_cc
 class Stops(Cases):
     def ended(self, name, gateway, status, says=None, with_=signal.SIGTERM):
@@ -493,7 +566,7 @@ class Stops(Cases):
         with tempfile.TemporaryDirectory() as room:
             program = f"{room}/program"
             with open(program, "w") as file:
-                file.write(f'#!/bin/sh\n[ "$1" != serve ] || export LD_PRELOAD="{library("fails", FAILS)[0]}"\nexec "{PROGRAM}" "$@"\n')
+                file.write(f'#!/bin/sh\n[ "$1" != serve ] || export LD_PRELOAD="{library("fails", FAILS)[0]}"\nexec "{SERVED}" "$@"\n')
             os.chmod(program, 0o755)
             self.device_fails(program)
 

@@ -23,7 +23,7 @@ class Histories(Cases):
         except Wrong as fault:
             return self.tell("rounds", False, f"{fault}; its gateway: {built()[1]}")
         self.tell("rounds of each kind", seen["rounds"] == ROUNDS and all(seen[it] for it in KILLS), dict(seen))
-        return self.tell("requests and replies", seen["requests"] > 1000 and seen["replies"] > 500, dict(seen))
+        return self.tell("requests and replies, some over bad lines", seen["requests"] > 1000 and seen["replies"] > 500 and seen["bad lines"] > 20, dict(seen))
 
 
 class Rules(Cases):

@@ -1,4 +1,4 @@
-/* Drives records.c by made-up clients and a made-up server, and aborts where a reply goes astray.
+/* Drives framing.c, turns.c and session.c, or frames.c, by made-up clients and a made-up server, and aborts where a reply goes astray.
  *
  *     fuzz [COUNT SEED]
  *
@@ -17,9 +17,12 @@
 /* MARK: with whose number it is the highest byte of a tag; it stands in no raw bytes, as the opcodes of locks do not */
 enum { MARK = 0x40, MEN = 5, CELLS = 16, TAGS = 1 << 14, PIPE = 1 << 16 };
 static const uint32_t BAD = 0x800706F7;
+#ifndef FRAMES
+#define FRAMES 0 /* 1 where it is built with frames.c */
+#endif
 
 typedef struct man {
-    Client c;
+    Client *c;
     char pipe[PIPE]; /* sent, and not read yet */
     size_t filled;
     bool eof;
@@ -31,6 +34,7 @@ typedef struct man {
     size_t held[CELLS];
 } Man;
 static Man men[MEN];
+static Client places[MEN];
 static size_t seen_bytes, fake_bytes, locks[CELLS];
 static Buffer fake; /* replies of the server that have not come yet */
 static const uint8_t *input;
@@ -58,7 +62,7 @@ static void expect(Man *m, uint32_t tag) {
 static void look_at(Man *m) {
     Buffer *b = &m->seen;
     while (!m->ends) {
-        if (m->c.kind == HEX) {
+        if (m->c->kind == HEX) {
             char *line = b->at ? b->at + b->start : NULL, *end = line ? memchr(line, '\n', b->end - b->start) : NULL;
             if (!end && !(m->eof && !m->filled && b->end > b->start)) break;
             size_t n = end ? (size_t)(end - line) : b->end - b->start, whole = n + (end != NULL);
@@ -88,7 +92,7 @@ static void look_at(Man *m) {
     }
     if (m->eof && !m->filled && !m->ends) {
         m->ends = true;
-        m->cut = m->c.kind != HEX && b->end > b->start;
+        m->cut = m->c->kind != HEX && b->end > b->start;
     }
 }
 
@@ -99,7 +103,7 @@ static void sends(Man *m, const char *some, size_t n) {
 }
 static void sends_record(Man *m, const char *record, size_t n) {
     static char line[8192];
-    if (m->c.kind != HEX) {
+    if (m->c->kind != HEX) {
         sends(m, record, n);
         return;
     }
@@ -120,9 +124,9 @@ static void makes_record(Man *m, unsigned what) {
     sends_record(m, record, size);
 }
 static char harmless(unsigned it) { return (char)(it == 8 || it == 9 || (it >= MARK && it < MARK + MEN) || strchr("489", (int)it) ? '3' : it); }
-/* So many bytes come, as gateway.c reads them. */
+/* So many bytes come, as clients.c reads them. */
 static void comes(Man *m, size_t most) {
-    Client *c = &m->c;
+    Client *c = m->c;
     for (; m->filled && most && c->stage == OPEN;) {
         char signs[4096], *to = signs;
         size_t need = wanted(c), n = sizeof signs;
@@ -147,7 +151,7 @@ static void comes(Man *m, size_t most) {
 }
 /* Takes what it was answered: the tags that are due, in their order. */
 static void takes(Man *m) {
-    Client *c = &m->c;
+    Client *c = m->c;
     while (c->out.end > c->out.start) {
         char *at = c->out.at + c->out.start;
         uint32_t tag, code;
@@ -172,13 +176,13 @@ static void takes(Man *m) {
     }
     c->out.start = c->out.end = 0;
     if (c->stage != ANSWERED) {
-        replies_taken(c);
+        if (c->in.mark > c->in.start) enqueue(c);
         return;
     }
     assert(m->ends && !m->cut && m->due_first == m->due_last);
 }
 static void leaves(Man *m) {
-    Client *c = &m->c;
+    Client *c = m->c;
     uint32_t visit = c->visit + 1;
     Kind kind = c->kind;
     client_gone(c);
@@ -194,48 +198,86 @@ static void leaves(Man *m) {
     *c = (Client){.fd = 7, .visit = visit, .kind = kind};
     client_came(c);
 }
+/* The server answers a request of a client, or of the gateway where there is none. */
+static void serve_one(const char *record, size_t n, Man *from) {
+    char reply[1100] = {16};
+    uint32_t tag = n < 12 ? 0 : get(record + 4), code = 0, head[2];
+    size_t more = 0;
+    Man *of = n >= 12 && tag >> 24 >= MARK && tag >> 24 < MARK + MEN ? &men[(tag >> 24) - MARK] : NULL;
+    assert(!from || !of || from == of);
+    if (n >= 68 && (record[8] == 8 || record[8] == 9) && !record[9] && of) {
+        unsigned cell = (record[12] & 3) | (record[16] & 3) << 2;
+        if (record[8] == 8 && (tag & 7) == 7) code = 0x8002000D;
+        else if (record[8] == 8) {
+            locks[cell]++;
+            of->held[cell]++;
+        } else if (from && !of->held[cell]) code = 0x8000FFFF; /* a server of many knows whose a lock is */
+        else {
+            assert(locks[cell] && of->held[cell]);
+            locks[cell]--;
+            of->held[cell]--;
+        }
+    } else if (n < 12 || record[8] == 12) code = BAD;
+    else more = (n * 7) % 900;
+    put(reply, (uint32_t)(16 + more));
+    put(reply + 4, tag);
+    put(reply + 8, code);
+    head[0] = from ? (uint32_t)(from - men) : 0xFFFFFFFE;
+    head[1] = (uint32_t)(20 + more);
+    if (FRAMES) add(&fake, &fake_bytes, head, sizeof head);
+    add(&fake, &fake_bytes, reply, 20 + more);
+    /* nobody comes between who has the server alone */
+    if (of && alone == men[2].c && alone_visit == men[2].c->visit + 1 && record[8] != 9) assert(of == &men[2]);
+}
+/* A server of many is told that a client has gone: its locks are free, and its last reply was told. */
+static void serve_end(Man *from) {
+    uint32_t head[2] = {(uint32_t)(from - men), 0};
+    for (int i = 0; i < CELLS; i++) {
+        locks[i] -= from->held[i];
+        from->held[i] = 0;
+    }
+    add(&fake, &fake_bytes, head, sizeof head);
+}
 /* The server answers all that was sent. */
 static void serve(void) {
     while (to_server.end > to_server.start) {
-        char *record = to_server.at + to_server.start, reply[1100] = {16};
-        size_t n = 4 + get(record), more = 0;
-        assert(n >= 5 && to_server.end - to_server.start >= n);
-        uint32_t tag = n < 12 ? 0 : get(record + 4), code = 0;
-        Man *of = n >= 12 && tag >> 24 >= MARK && tag >> 24 < MARK + MEN ? &men[(tag >> 24) - MARK] : NULL;
-        if (n >= 68 && (record[8] == 8 || record[8] == 9) && !record[9] && of) {
-            unsigned cell = (record[12] & 3) | (record[16] & 3) << 2;
-            if (record[8] == 8 && (tag & 7) == 7) code = 0x8002000D;
-            else if (record[8] == 8) {
-                locks[cell]++;
-                of->held[cell]++;
-            } else {
-                assert(locks[cell] && of->held[cell]);
-                locks[cell]--;
-                of->held[cell]--;
-            }
-        } else if (n >= 12 && record[8] == 12) code = BAD;
-        else if (n < 12) code = BAD;
-        else more = (n * 7) % 900;
-        put(reply, (uint32_t)(16 + more));
-        put(reply + 4, tag);
-        put(reply + 8, code);
-        add(&fake, &fake_bytes, reply, 20 + more);
-        to_server.start += n;
-        /* nobody comes between who has the server alone */
-        if (of && alone == &men[2].c && alone_visit == men[2].c.visit + 1 && record[8] != 9) assert(of == &men[2]);
+        char *at = to_server.at + to_server.start;
+        size_t left_there = to_server.end - to_server.start, n = 4 + get(at), size = n;
+        Man *from = NULL;
+        if (FRAMES) {
+            assert(left_there >= 8);
+            uint32_t number = get(at);
+            assert(number < MEN || number == 0xFFFFFFFE);
+            from = number < MEN ? &men[number] : NULL;
+            size = get(at + 4);
+            at += 8;
+            to_server.start += 8;
+            left_there -= 8;
+        }
+        assert(left_there >= size);
+        if (FRAMES && !size) serve_end(from);
+        for (size_t done = 0; done < size; done += n, at += n) {
+            n = 4 + get(at);
+            assert(n >= 5 && size - done >= n);
+            serve_one(at, n, from);
+        }
+        to_server.start += size;
     }
     to_server.start = to_server.end = 0;
-    alone_visit = alone == &men[2].c ? men[2].c.visit + 1 : 0;
+    alone_visit = alone == men[2].c ? men[2].c->visit + 1 : 0;
 }
 static void hears(size_t most) {
-    Client *touched[MEN];
-    size_t n = fake.end - fake.start < most ? fake.end - fake.start : most, count = 0;
+    struct queue answered = TAILQ_HEAD_INITIALIZER(answered);
+    size_t n = fake.end - fake.start < most ? fake.end - fake.start : most;
     if (!n && !in_flight()) return;
     if (n) add(&from_server, &server_bytes, fake.at + fake.start, n);
     fake.start += n;
     if (fake.start == fake.end) fake.start = fake.end = 0;
-    hand_out(touched, &count);
-    for (size_t i = 0; i < count; i++) touched[i]->touched = false;
+    hand_out(&answered);
+    for (Client *c; (c = TAILQ_FIRST(&answered)); c->touched = false) TAILQ_REMOVE(&answered, c, answer);
+    size_t due = 0;
+    for (Man *m = men; m < men + MEN; m++) due += m->c->answered == batch;
+    assert(awaited == due);
 }
 static void begins(void) {
     if (in_flight()) return;
@@ -249,8 +291,8 @@ static void run(const uint8_t *data, size_t size) {
     input = data;
     left = size;
     for (int i = 0; i < MEN; i++) {
-        men[i].c = (Client){.fd = 7, .visit = men[i].c.visit, .kind = all[i]};
-        client_came(&men[i].c);
+        places[i] = (Client){.fd = 7, .visit = places[i].visit, .kind = all[i]};
+        client_came(&places[i]);
     }
     while (left) {
         unsigned what = byte();
@@ -298,18 +340,18 @@ static void run(const uint8_t *data, size_t size) {
             for (Man *m = men; m < men + MEN; m++) {
                 takes(m);
                 comes(m, PIPE);
-                if (m->c.stage == ANSWERED && m->c.kind == ALONE) leaves(m);
+                if (m->c->stage == ANSWERED && m->c->kind == ALONE) leaves(m);
             }
-            if (!in_flight() && !counts.waiting) break;
+            if (!in_flight() && !waiting) break;
         }
     }
-    assert(!in_flight() && !counts.waiting);
+    assert(!in_flight() && !waiting);
     for (Man *m = men; m < men + MEN; m++) leaves(m);
     for (int i = 0; i < 100; i++) {
         begins();
         hears(SIZE_MAX);
     }
-    assert(!in_flight() && !counts.waiting && !counts.locks && !out_bytes && in_bytes <= 3 * BASE);
+    assert(!in_flight() && !waiting && !counts.locks && !out_bytes && in_bytes <= 3 * BASE);
     for (int i = 0; i < CELLS; i++) assert(!locks[i]);
     for (Man *m = men; m < men + MEN; m++) m->serial = 0;
     alone_visit = 0;
@@ -321,6 +363,14 @@ __AFL_FUZZ_INIT();
 #endif
 int main(int argc, char **argv) {
     memory = 1 << 24;
+    clients = places;
+    end_of_clients = places + MEN;
+    for (int i = 0; i < MEN; i++) men[i].c = &places[i];
+    if (FRAMES) { /* session.c wants no answer before the first batch */
+        server_came();
+        serve();
+        hears(SIZE_MAX);
+    }
 #ifdef __AFL_FUZZ_TESTCASE_LEN
     (void)argc, (void)argv;
     unsigned char *data = __AFL_FUZZ_TESTCASE_BUF;

@@ -1,7 +1,9 @@
-/* What is told: on standard error, to systemd, and in Prometheus' text. */
+/* What is told: on standard error, to systemd, in Prometheus' text and on the control socket. */
 #include "gateway.h"
 
 #include <stdarg.h>
+
+struct counts counts = {.batch.least = 1, .commit.least = 16e-6, .wait.least = 16e-6};
 
 void say(const char *format, ...) {
     va_list words;
@@ -10,16 +12,6 @@ void say(const char *format, ...) {
     vfprintf(stderr, format, words);
     fputc('\n', stderr);
     va_end(words);
-}
-void fail(int status, const char *format, ...) {
-    char text[600];
-    va_list words;
-    va_start(words, format);
-    vsnprintf(text, sizeof text, format, words);
-    va_end(words);
-    say("%s", text);
-    unlink_sockets();
-    exit(status);
 }
 /* Tells systemd, where it has started the gateway. */
 void notify(const char *format, ...) {
@@ -44,6 +36,31 @@ void observe(Histogram *it, double value) {
     it->buckets[bucket]++;
     it->sum += value;
 }
+/* A reply has this code. */
+void note(uint32_t code) {
+    static const uint32_t WRITE_FAULT = 0x8003001D;
+    if (!code) return;
+    counts.refused++;
+    counts.faulted |= code == WRITE_FAULT;
+    for (struct code *it = counts.codes; it < counts.codes + CODES; it++)
+        if (!it->count || it->code == code) {
+            it->code = code;
+            it->count++;
+            return;
+        }
+}
+/* A line for the journal, so often, where there is something to tell. */
+void report_counts(void) {
+    static struct counts before;
+    static double reported;
+    if (!(report > 0) || now < reported + report) return;
+    reported = now;
+    if (counts.requests == before.requests && counts.turned_away == before.turned_away) return;
+    say("%lu clients, %lu requests in %lu batches, %lu refused, %.3f ms for a batch, %lu turned away, %lu let go", counts.live,
+        counts.requests - before.requests, counts.batches - before.batches, counts.refused - before.refused, 1e3 * took,
+        counts.turned_away - before.turned_away, counts.stalled + counts.silent - before.stalled - before.silent);
+    before = counts;
+}
 static void tell_one(FILE *to, const char *kind, const char *name, const char *help, double value) {
     fprintf(to, "# HELP oaut_gateway_%s %s\n# TYPE oaut_gateway_%s %s\noaut_gateway_%s %.15g\n", name, help, name, kind, name, value);
 }
@@ -56,13 +73,13 @@ static void tell_all(FILE *to, const char *name, const char *help, const Histogr
     fprintf(to, "oaut_gateway_%s_bucket{le=\"+Inf\"} %lu\noaut_gateway_%s_sum %.9g\noaut_gateway_%s_count %lu\n", name, count, name, it->sum, name,
             count);
 }
-void tell(FILE *to) {
+static void tell(FILE *to) {
     const struct {
         const char *kind, *name, *help;
         double value;
     } all[] = {
         {"gauge", "clients", "Clients that are connected.", (double)counts.live},
-        {"gauge", "clients_waiting", "Clients with requests that are not with the server yet.", (double)counts.waiting},
+        {"gauge", "clients_waiting", "Clients with requests that are not with the server yet.", (double)waiting},
         {"gauge", "locks", "Locks that clients hold or ask for.", (double)counts.locks},
         {"gauge", "buffer_bytes", "Bytes of the clients' buffers.", (double)(in_bytes + out_bytes)},
         {"gauge", "faulted", "Whether the store's device has failed.", counts.faulted},
@@ -86,4 +103,25 @@ void tell(FILE *to) {
     tell_all(to, "batch_requests", "Requests of a batch.", &counts.batch);
     tell_all(to, "commit_seconds", "From a batch's sending to its last reply.", &counts.commit);
     tell_all(to, "wait_seconds", "From the coming of a client's requests to their replies.", &counts.wait);
+}
+/* Answers what has come whole on a socket of metrics or of control; a control socket may ask again. */
+void answer_monitor(Client *c) {
+    const char *asked = c->in.at;
+    char *text = NULL;
+    size_t size = 0;
+    FILE *to = open_memstream(&text, &size);
+    if (!to) fail(1, "out of memory");
+    c->stage = ANSWERED;
+    if (c->kind == METRICS) {
+        bool found = !strncmp(asked, "GET /metrics ", 13);
+        fprintf(to, "HTTP/1.0 %s\r\nContent-Type: text/plain; version=0.0.4\r\n\r\n", found ? "200 OK" : "404 Not Found");
+        if (found) tell(to);
+    } else if (!strcmp(asked, "status\n")) tell(to);
+    else if (!strcmp(asked, "store\n")) c->stage = (fprintf(to, "%s\n", store), OPEN);
+    else if (!strcmp(asked, "hold\n") && !holder) c->stage = (holder = c, OPEN);
+    else if (!strcmp(asked, "free\n") && c == holder && is_held) fprintf(to, "held for %.3f s\n", let_go_on());
+    else fputs("refused\n", to);
+    fclose(to);
+    append(&c->out, &out_bytes, text, size);
+    free(text);
 }

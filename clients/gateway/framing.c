@@ -1,0 +1,97 @@
+/* What stands in a client's bytes: where a request ends, in records or in lines, and replies as its framing has them. */
+#include "gateway.h"
+
+/* How many bytes of room the next reading has to have. Of a line the length is not known, so a long one has to have all. */
+size_t wanted(const Client *c) {
+    size_t partial = c->in.end - c->in.mark;
+    uint32_t size;
+    if (c->kind == HEX) return partial > BASE / 2 ? BODY + BASE - partial : BASE / 2;
+    if (partial < 4) return 4096;
+    memcpy(&size, c->in.at + c->in.mark, 4);
+    return 4 + size - partial;
+}
+static void line_ended(Client *c) {
+    uint32_t size = (uint32_t)(c->digits / 2);
+    if (!c->digits || c->digits % 2 || c->bad) {
+        c->stage = CLOSED;
+        return;
+    }
+    memcpy(c->in.at + c->in.mark, &size, 4);
+    c->in.mark = c->in.end;
+    c->digits = 0;
+    c->cr = false;
+}
+static void signs_came(Client *c, const char *signs, size_t size) {
+    for (const char *it = signs; it < signs + size && c->stage == OPEN; it++) {
+        if (*it == '\n') {
+            line_ended(c);
+            continue;
+        }
+        const char *all = "0123456789abcdef0123456789ABCDEF", *digit = *it ? strchr(all, *it) : NULL;
+        c->bad |= c->cr || (!digit && *it != '\r');
+        c->cr = *it == '\r';
+        if (c->cr) continue;
+        if (++c->digits > 2 * BODY) {
+            c->stage = CUT;
+            break;
+        }
+        if (c->in.end == c->in.mark) c->in.end += 4;
+        int value = digit ? (int)(digit - all) & 15 : 0;
+        if (c->digits % 2) c->in.at[c->in.end++] = (char)(value << 4);
+        else c->in.at[c->in.end - 1] |= (char)value;
+    }
+}
+/* Bytes have come: those of records already stand in the client's buffer, those of lines at `signs`. */
+void bytes_came(Client *c, const char *signs, size_t size) {
+    Buffer *in = &c->in;
+    size_t before = in->mark;
+    uint32_t n;
+    if (in->end == in->mark) c->begun = now;
+    if (c->kind == HEX) signs_came(c, signs, size);
+    else in->end += size;
+    while (c->kind != HEX && c->stage == OPEN && in->end - in->mark >= 4) {
+        memcpy(&n, in->at + in->mark, 4);
+        if (!n || n > BODY) c->stage = n ? CUT : CLOSED;
+        else if (in->end - in->mark < 4 + (size_t)n) break;
+        else in->mark += 4 + n;
+    }
+    if (in->mark > before) c->begun = now;
+    look(c);
+}
+void end_came(Client *c) {
+    if (c->kind == HEX && c->digits) line_ended(c);
+    if (c->stage == OPEN) c->stage = c->kind != HEX && c->in.end > c->in.mark ? CUT : CLOSED;
+    look(c);
+}
+void stop_reading(Client *c) {
+    if (c->stage == OPEN) c->stage = CLOSED;
+    look(c);
+}
+/* Whole replies go to a client. */
+void give(Client *c, const char *replies, size_t size) {
+    static const char digits[] = "0123456789abcdef";
+    uint32_t n;
+    counts.out += size;
+    if (c->out.end == c->out.start) c->took = now;
+    if (c->kind != HEX) {
+        append(&c->out, &out_bytes, replies, size);
+        return;
+    }
+    for (size_t at = 0; at < size; at += 4 + n) {
+        memcpy(&n, replies + at, 4);
+        make_room(&c->out, 2 * (size_t)n + 1, &out_bytes, SIZE_MAX);
+        for (const char *it = replies + at + 4; it < replies + at + 4 + n; it++) {
+            c->out.at[c->out.end++] = digits[(unsigned char)*it >> 4];
+            c->out.at[c->out.end++] = digits[*it & 15];
+        }
+        c->out.at[c->out.end++] = '\n';
+    }
+}
+/* A reply that the gateway makes. */
+void refuse(Client *c, uint32_t tag, uint32_t code) {
+    uint32_t reply[] = {HEAD - 4, tag, code, 0xFFFFFFFF, 0};
+    give(c, (const char *)reply, sizeof reply);
+    note(code);
+}
+/* The last request was none. */
+void refuse_stub(Client *c) { refuse(c, 0, 0x800706F7); }

@@ -7,3 +7,4 @@ mod States
 mod Framed
 mod Taking
 mod Putting
+mod Talks

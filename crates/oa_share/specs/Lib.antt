@@ -5,3 +5,4 @@ pub mod Steps
 pub mod Shared
 pub mod Outgoing
 pub mod Answering
+pub mod Talking

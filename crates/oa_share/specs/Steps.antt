@@ -59,3 +59,8 @@ EndsWith result old new = records_of old Last ≡ (brought_last result, new)
 abbrev pub first_of : List (ℕ × ClientState) → Option ℕ
 first_of [] = None
 first_of (client ∷ clients) = Some client.0
+
+-- the end of the stream of the client with the lowest number, with which it goes; None where nobody is there
+abbrev pub EndsLowest : Option (ℕ × Option End) → List (ℕ × ClientState) → List (ℕ × ClientState) → Type 0
+EndsLowest None old new = (old ≡ []) × (new ≡ [])
+EndsLowest (Some ended) old new = (state : ClientState) × (old ≡ (ended.0, state) ∷ new) × EndsWith ended.1 (Some state) None

@@ -4,7 +4,7 @@ ghost use Rattle.std.specs.List.Sorted.{IsStrictlySortedBy};
 ghost use Rattle.std.specs.Map.{keys_of};
 ghost use Rattle.std.specs.Ordering.{nat_cmp};
 ghost use Rattle.oa_share.specs.Readers.{ClientBrings};
-ghost use Rattle.oa_share.specs.Steps.{EndsWith, OthersStay, Takes, brought, first_of, state_of};
+ghost use Rattle.oa_share.specs.Steps.{EndsLowest, EndsWith, OthersStay, Takes, brought, first_of, state_of};
 
 use crate::ClientStep;
 use crate::client::Client;
@@ -53,6 +53,13 @@ impl Clients {
         }
     }
 
+    /// How many clients are there.
+    pub(crate) fn len(&self) -> usize
+        ensures { result ≡ length self.now }
+    {
+        self.clients.len()
+    }
+
     /// Takes the first of a client's bytes, up to the last of its next record or to the length that ends its stream; all of them where they
     /// bring neither, and where the stream has ended before. A record that stands in them whole is lent, one that came in parts is handed out.
     ///
@@ -97,6 +104,19 @@ impl Clients {
         match self.clients.remove(&client) {
             Some(found) => found.end(),
             None => Some(End::Closed),
+        }
+    }
+
+    /// The same of the client with the lowest number. None where nobody is there.
+    pub fn end_lowest(&mut self) -> Option<(u32, Option<End>)>
+        ensures { EndsLowest result self.old self.new }
+    {
+        let Some(lowest) = self.first() else {
+            return None;
+        };
+        match self.clients.remove(&lowest) {
+            Some(found) => Some((lowest, found.end())),
+            None => None,
         }
     }
 

@@ -1,7 +1,8 @@
 //! Whose request stands where in one stream of many clients' records.
 //!
 //! Its contract: each client's bodies are those that a session of its own would have read, whatever stands between them
-//! (`laws::each_has_its_own`, `laws::each_is_a_session`), and `Streams::take` finds them one by one, in the order in which they came (`TakesApart`).
+//! (`laws::each_has_its_own`, `laws::each_is_a_session`), `Streams::take` finds them one by one, in the order in which they came (`TakesApart`), and
+//! `serve_clients` has them answered in that order, and writes exactly what is handed out, or a first part of it where the writer fails (`ServesClients`).
 #![tactic(auto)]
 
 mod client;
@@ -11,6 +12,8 @@ mod frame;
 pub mod laws;
 mod outgoing;
 mod responder;
+mod serving;
+mod session_end;
 mod step;
 mod streams;
 
@@ -18,5 +21,7 @@ pub use clients::Clients;
 pub use frame::{ALL_CLIENTS, FrameHead, MAX_FRAME_BYTES, frame_head};
 pub use outgoing::{put_last_of, put_reply_of};
 pub use responder::SharedResponder;
+pub use serving::serve_clients;
+pub use session_end::SessionEnd;
 pub use step::{ClientStep, What, WholeRecord};
 pub use streams::{Arrival, Portion, Streams};

@@ -61,5 +61,6 @@ pub trait SharedResponder {
     /// The writer has failed: what is open is committed, and nobody gets what is held.
     fn abandon_clients(&mut self)
         requires ready { ready self.old }
-        ensures { GivesUp turn self.old self.new };
+        ensures gives_up { GivesUp turn self.old self.new }
+        ensures ready { ready self.new };
 }

@@ -3,9 +3,10 @@ ghost use Rattle.std.specs.Prelude.{◌≡◌, ◌<◌, ◌≤◌, ◌+◌, ◌+
 ghost use Rattle.oa_share.specs.Frames.{InHead, SaysSome};
 ghost use Rattle.oa_share.specs.Marks.{named};
 ghost use Rattle.oa_share.specs.Shared.{TakesApart, Begins, IsClients, IsHeads, TakesSome, arrived, starting};
-ghost use Rattle.oa_share.specs.Steps.{brought, brought_last};
+ghost use Rattle.oa_share.specs.Steps.{EndsLowest, brought, brought_last};
+ghost use Rattle.oa_share.specs.Talking.{input_end, reads_nothing};
 
-use crate::{ClientStep, Clients, FrameHead, What, WholeRecord};
+use crate::{ClientStep, Clients, FrameHead, SessionEnd, What, WholeRecord};
 use oa_frame::End;
 use std::alloc::{AllocError, Global};
 use std::marker::Model;
@@ -91,6 +92,45 @@ impl Streams {
             return self.take_within(bytes);
         }
         Ok(self.take_head(bytes))
+    }
+
+    /// How many clients are there.
+    pub(crate) fn count(&self) -> usize
+        ensures { result ≡ length self.now.clients }
+    {
+        self.clients.len()
+    }
+
+    /// The end of the stream of the client with the lowest number, with which it goes, for when no more bytes come: `Closed` between two
+    /// records, `Cut` inside one; no end where it has had it before. None where nobody is there. Takes no memory.
+    pub fn last(&mut self) -> Option<(u32, Option<End>)>
+        ensures { EndsLowest result self.old.clients self.new.clients }
+    {
+        self.clients.end_lowest()
+    }
+
+    /// Whether a head that says nothing was read.
+    pub(crate) fn reads_nothing(&self) -> bool
+        ensures { result ≡ reads_nothing self.now.place }
+    {
+        self.broken
+    }
+
+    /// How the session ends where no more bytes come.
+    pub(crate) fn end_of_input(&self) -> SessionEnd
+        ensures { result ≡ input_end self.now.place }
+    {
+        if self.broken {
+            return SessionEnd::Unknown;
+        }
+        if self.left != 0 {
+            return SessionEnd::Cut;
+        }
+        if self.head[..self.have].is_empty() {
+            SessionEnd::Closed
+        } else {
+            SessionEnd::Cut
+        }
     }
 
     /// The same among a client's bytes.

@@ -1,0 +1,697 @@
+-- A session of many clients, part by part.
+use Rattle.std.proofs.Common.{◌≡◌, ◌⊎◌, inl, inr, ℕ, ◌+◌, ◌<◌, ◌≤◌, Bool, true, false, List, [], ◌∷◌, ◌++◌, length, take, Option, Some, None, Result, Ok, Err, IsErr, refl, sym, ap, ◌∙◌, subst, arith}
+use Rattle.std.proofs.lemmas.Bool.{false≢true}
+use Rattle.std.specs.Prelude.{if◌then◌else◌}
+use Rattle.std.proofs.lemmas.List.{append-nil, append_assoc, length-append, length-take-le}
+use Rattle.std.proofs.KnownBytes.{Consumes-kept, Consumes-nil, Consumes-trans}
+use Rattle.std.specs.Io.KnownBytes.{IsAtEnd}
+use Rattle.oa_model.specs.Limits.{max_records}
+use Rattle.oa_stream.specs.Source.{Input, later}
+use Rattle.oa_stream.specs.Ahead.{TakesAhead, Waits}
+use Rattle.oa_stream.specs.Ahead as ahead
+use Rattle.oa_stream.specs.declared.ahead.More.{More}
+use Rattle.oa_stream.specs.declared.ahead.More.TheVariants as more
+use Rattle.oa_frame.specs.declared.ends.End.{End}
+use Rattle.oa_stream.specs.Sink.{Output, Writes, Breaks, Delivers, IsHandedOn}
+use Rattle.oa_stream.specs.declared.sink.Unwritten.{Unwritten}
+use Rattle.oa_stream.proofs.Stretches.{lost_few, tear, writes_nothing, writes_then}
+use Rattle.oa_share.specs.Answering.{AnswersClient, GivesUp, SharedTurn}
+use Rattle.oa_share.specs.Frames.{Broken, FramePlace, InHead, Within}
+use Rattle.oa_share.specs.Marks.{Now, Of, Owned, named}
+use Rattle.oa_share.specs.Steps.{EndsLowest, EndsWith, brought_last}
+use Rattle.oa_share.specs.Outgoing.{spelled_frames, spelled_told}
+use Rattle.oa_share.specs.Readers.{Body, Brought, ClientState, Ends}
+use Rattle.oa_share.specs.Shared.{SharedState, TakesApart, TakesSome, arrived}
+use Rattle.oa_share.specs.declared.streams.Arrival.{Arrival}
+use Rattle.oa_share.specs.declared.streams.Arrival.TheVariants as things
+use Rattle.oa_share.specs.Talking.{AllTurned, AnswersAsked, AnswersEnds, AnswersSingle, ClosesAll, EndsNext, FailsToTell, MovesOn, HasLeftAtNow, HasTold, IsEndOf, IsOver, LosesWriter, MakesNow, MakesNowBefore, ServesClients, TalksOn, TellsAll, ends_at, ends_in, input_end, reads_nothing, newest, parted, parting}
+use Rattle.oa_share.specs.declared.serving.Loss.{Loss}
+use Rattle.oa_share.specs.declared.serving.Loss.TheVariants as loss
+use Rattle.oa_share.specs.declared.session_end.SessionEnd.{SessionEnd}
+use Rattle.oa_share.specs.declared.session_end.SessionEnd.TheVariants as over
+use Rattle.oa_share.proofs.Taking.{asks_then, nothing_asked}
+
+-- how much has left a writer
+gone_is : (o q : Output) (bytes : List ℕ) (w : Writes o q bytes) → length w.gone + length q.kept ≡ length o.kept + length bytes
+gone_is o q bytes w = sym (length-append w.gone q.kept) ∙ ap length (sym w.whole) ∙ length-append o.kept bytes
+
+torn_is : (o q : Output) (bytes : List ℕ) (b : Breaks o q bytes) → length b.gone + length b.lost ≡ length o.kept + length bytes
+torn_is o q bytes b = sym (length-append b.gone b.lost) ∙ ap length (sym b.whole) ∙ length-append o.kept bytes
+
+-- ---- what is spelled
+told_append : (xs ys : List (List (ℕ × List ℕ))) → spelled_told (xs ++ ys) ≡ spelled_told xs ++ spelled_told ys
+unfolding spelled_told
+told_append [] ys = refl
+told_append (x ∷ xs) ys = ap (λ l. spelled_frames x ++ l) (told_append xs ys) ∙ sym (append_assoc (spelled_frames x) (spelled_told xs) (spelled_told ys))
+
+told_long : (xs ys : List (List (ℕ × List ℕ))) → length (spelled_told (xs ++ ys)) ≡ length (spelled_told xs) + length (spelled_told ys)
+told_long xs ys = ap length (told_append xs ys) ∙ length-append (spelled_told xs) (spelled_told ys)
+
+told_one : (x : List (ℕ × List ℕ)) → spelled_told (x ∷ []) ≡ spelled_frames x
+unfolding spelled_told
+told_one x = append-nil (spelled_frames x)
+
+told_head : (x : List (ℕ × List ℕ)) (xs : List (List (ℕ × List ℕ))) → length (spelled_told (x ∷ xs)) ≡ length (spelled_frames x) + length (spelled_told xs)
+unfolding spelled_told
+told_head x xs = length-append (spelled_frames x) (spelled_told xs)
+
+told_none : length (spelled_told []) ≡ 0
+unfolding spelled_told
+told_none = refl
+
+nothing_told : spelled_told [] ≡ []
+unfolding spelled_told
+nothing_told = refl
+
+nothing_framed : length (spelled_frames []) ≡ 0
+unfolding spelled_frames
+nothing_framed = refl
+
+-- the newest of two parts has no fewer bytes than that of the second
+newest_behind : (xs ys : List (List (ℕ × List ℕ))) → length (spelled_frames (newest ys)) ≤ length (spelled_frames (newest (xs ++ ys)))
+newest_behind [] ys = omega arith
+newest_behind (x ∷ []) [] = omega (arith, nothing_framed)
+newest_behind (x ∷ []) (y ∷ ys) = omega arith
+newest_behind (x ∷ (z ∷ zs)) ys = newest_behind (z ∷ zs) ys
+
+-- ---- runs
+module _ {S : Type 0} (turn : SharedTurn S) where
+  pub run_then : (old mid new : S) (ps qs : List (Owned Brought)) (xs ys : List (List (ℕ × List ℕ))) → AllTurned turn old ps xs mid → AllTurned turn mid qs ys new → AllTurned turn old (ps ++ qs) (xs ++ ys) new
+  run_then old mid new [] qs [] ys r s = subst (λ from. AllTurned turn from qs ys new) r s
+  run_then old mid new [] qs (x ∷ xs) ys r s = absurd r
+  run_then old mid new (a ∷ ps) qs [] ys r s = absurd r
+  run_then old mid new (a ∷ ps) qs (x ∷ xs) ys r s = (r.0, r.1, run_then r.0 mid new ps qs xs ys r.2 s)
+
+  -- ---- what had left at each *now*
+  pub left_more : (gone gone' before : ℕ) (ps : List (Owned Brought)) (xs : List (List (ℕ × List ℕ))) → gone ≤ gone' → HasLeftAtNow gone before ps xs → HasLeftAtNow gone' before ps xs
+  left_more gone gone' before [] xs h l = tt
+  left_more gone gone' before (a ∷ ps) [] h l = tt
+  left_more gone gone' before (Now ∷ ps) (x ∷ xs) h l = (let here = l.0 in omega (arith, h, here), left_more gone gone' (before + length (spelled_frames x)) ps xs h l.1)
+  left_more gone gone' before (Of client y ∷ ps) (x ∷ xs) h l = left_more gone gone' (before + length (spelled_frames x)) ps xs h l
+
+  pub left_shift : (gone before k : ℕ) (ps : List (Owned Brought)) (xs : List (List (ℕ × List ℕ))) → HasLeftAtNow gone before ps xs → HasLeftAtNow (gone + k) (before + k) ps xs
+  left_shift gone before k [] xs l = tt
+  left_shift gone before k (a ∷ ps) [] l = tt
+  left_shift gone before k (Now ∷ ps) (x ∷ xs) l =
+      let here = l.0 in
+      (omega (arith, here), subst (λ n. HasLeftAtNow (gone + k) n ps xs) (swapped before (length (spelled_frames x)) k) (left_shift gone (before + length (spelled_frames x)) k ps xs l.1))
+    where
+      swapped : (a b c : ℕ) → a + b + c ≡ a + c + b
+      swapped a b c = omega arith
+  left_shift gone before k (Of client y ∷ ps) (x ∷ xs) l = subst (λ n. HasLeftAtNow (gone + k) n ps xs) (swapped before (length (spelled_frames x)) k) (left_shift gone (before + length (spelled_frames x)) k ps xs l)
+    where
+      swapped : (a b c : ℕ) → a + b + c ≡ a + c + b
+      swapped a b c = omega arith
+
+  pub left_then : (old mid : S) (gone before between : ℕ) (ps qs : List (Owned Brought)) (xs ys : List (List (ℕ × List ℕ))) → AllTurned turn old ps xs mid → between ≡ before + length (spelled_told xs)
+      → HasLeftAtNow gone before ps xs → HasLeftAtNow gone between qs ys → HasLeftAtNow gone before (ps ++ qs) (xs ++ ys)
+  left_then old mid gone before between [] qs [] ys r e l m = subst (λ n. HasLeftAtNow gone n qs ys) (omega (arith, e, told_none)) m
+  left_then old mid gone before between [] qs (x ∷ xs) ys r e l m = absurd r
+  left_then old mid gone before between (a ∷ ps) qs [] ys r e l m = absurd r
+  left_then old mid gone before between (Now ∷ ps) qs (x ∷ xs) ys r e l m = (l.0, left_then r.0 mid gone (before + length (spelled_frames x)) between ps qs xs ys r.2 (omega (arith, e, told_head x xs)) l.1 m)
+  left_then old mid gone before between (Of client y ∷ ps) qs (x ∷ xs) ys r e l m = left_then r.0 mid gone (before + length (spelled_frames x)) between ps qs xs ys r.2 (omega (arith, e, told_head x xs)) l m
+
+  -- ---- what was told, one part after another
+  pub told_nothing : (o : Output) (state : S) → o.broken ≡ false → HasTold turn [] o o state state
+  told_nothing o state h = record { tolds = []; run = refl; written = subst (Writes o o) (sym nothing_told) (writes_nothing o h); left = tt }
+
+  -- only handed on
+  pub told_quiet : (o p : Output) (state : S) → Writes o p [] → HasTold turn [] o p state state
+  told_quiet o p state w = record { tolds = []; run = refl; written = subst (Writes o p) (sym nothing_told) w; left = tt }
+
+  pub told_then : (ps qs : List (Owned Brought)) (o p q : Output) (old mid new : S) → HasTold turn ps o p old mid → HasTold turn qs p q mid new → HasTold turn (ps ++ qs) o q old new
+  told_then ps qs o p q old mid new a b =
+      let w : Writes o q (spelled_told (a.tolds ++ b.tolds)) = subst (Writes o q) (sym (told_append a.tolds b.tolds)) (writes_then o p q _ _ a.written b.written) in
+      let one = gone_is o p _ a.written in
+      let two = gone_is p q _ b.written in
+      let all = gone_is o q _ w in
+      let long = told_long a.tolds b.tolds in
+      let more : HasLeftAtNow (length w.gone) (length p.kept + length a.written.gone) qs b.tolds =
+      subst (λ n. HasLeftAtNow n (length p.kept + length a.written.gone) qs b.tolds) (omega (arith, one, two, all, long)) (left_shift (length b.written.gone) (length p.kept) (length a.written.gone) qs b.tolds b.left) in
+      record {
+        tolds = a.tolds ++ b.tolds;
+        run = run_then old mid new ps qs a.tolds b.tolds a.run b.run;
+        written = w;
+        left = left_then old mid (length w.gone) (length o.kept) (length p.kept + length a.written.gone) ps qs a.tolds b.tolds a.run (omega (arith, one))
+            (left_more (length a.written.gone) (length w.gone) (length o.kept) ps a.tolds (omega (arith, one, two, all, long)) a.left) more;
+      }
+
+  run_apart : (old new : S) (ps qs ends : List (Owned Brought)) (xs given unheard : List (List (ℕ × List ℕ))) → AllTurned turn old (ps ++ (qs ++ ends)) (xs ++ (given ++ unheard)) new
+      → AllTurned turn old ((ps ++ qs) ++ ends) ((xs ++ given) ++ unheard) new
+  run_apart old new ps qs ends xs given unheard r =
+      subst (λ l. AllTurned turn old l ((xs ++ given) ++ unheard) new) (sym (append_assoc ps qs ends)) (subst (λ l. AllTurned turn old (ps ++ (qs ++ ends)) l new) (sym (append_assoc xs given unheard)) r)
+
+  pub loses_then : (ps qs ends : List (Owned Brought)) (o p q : Output) (old mid new : S) → HasTold turn ps o p old mid → LosesWriter turn qs ends p q mid new → LosesWriter turn (ps ++ qs) ends o q old new
+  loses_then ps qs ends o p q old mid new a b =
+      let tears = tear o p q _ _ (spelled_told (a.tolds ++ b.given)) (told_append a.tolds b.given) a.written b.torn in
+      let one = gone_is o p _ a.written in
+      let two = torn_is p q _ b.torn in
+      let all = torn_is o q _ tears.torn in
+      let same = ap length tears.same in
+      let long = told_long a.tolds b.given in
+      let few = b.few in
+      let back = a.written.back in
+      let newer = newest_behind a.tolds b.given in
+      let more : HasLeftAtNow (length tears.torn.gone) (length p.kept + length a.written.gone) qs b.given =
+      subst (λ n. HasLeftAtNow n (length p.kept + length a.written.gone) qs b.given) (omega (arith, one, two, all, same, long)) (left_shift (length b.torn.gone) (length p.kept) (length a.written.gone) qs b.given b.left) in
+      record {
+        given = a.tolds ++ b.given;
+        unheard = b.unheard;
+        run = run_apart old new ps qs (ends ++ Now ∷ []) a.tolds b.given b.unheard (run_then old mid new ps (qs ++ (ends ++ Now ∷ [])) a.tolds (b.given ++ b.unheard) a.run b.run);
+        one = b.one;
+        torn = tears.torn;
+        few = omega (arith, few, back, newer, same);
+        left = left_then old mid (length tears.torn.gone) (length o.kept) (length p.kept + length a.written.gone) ps qs a.tolds b.given a.run (omega (arith, one))
+            (left_more (length a.written.gone) (length tears.torn.gone) (length o.kept) ps a.tolds (omega (arith, one, two, all, same, long)) a.left) more;
+      }
+
+  -- what was asked were ends
+  pub as_ends : (ps : List (Owned Brought)) (o q : Output) (old new : S) → LosesWriter turn ps [] o q old new → LosesWriter turn [] ps o q old new
+  as_ends ps o q old new a = record { given = a.given; unheard = a.unheard; run = a.run; one = a.one; torn = a.torn; few = a.few; left = tt }
+
+  -- ---- one turn
+  pub told_once : (client : ℕ) (x : Brought) (u : Unit {0}) (o p : Output) (old new : S) → AnswersClient turn (Ok u) (Of client x) o p old new → HasTold turn (Of client x ∷ []) o p old new
+  told_once client x u o p old new a = record { tolds = a.told ∷ []; run = (new, a.turned, refl); written = subst (Writes o p) (sym (told_one a.told)) a.put; left = tt }
+
+  -- the writer failed in it
+  pub loses_once : (client : ℕ) (x : Brought) (fault : Unwritten) (o q : Output) (old mid new : S) → length o.kept ≤ o.back → AnswersClient turn (Err fault) (Of client x) o q old mid → GivesUp turn mid new → LosesWriter turn (Of client x ∷ []) [] o q old new
+  loses_once client x fault o q old mid new keeps a g =
+      let torn : Breaks o q (spelled_told (a.told ∷ [])) = subst (Breaks o q) (sym (told_one a.told)) a.put in
+      let few = lost_few o q _ o.back torn keeps refl in
+      let long = ap length (told_one a.told) in
+      record {
+        given = a.told ∷ [];
+        unheard = g.told ∷ [];
+        run = (mid, a.turned, (new, g.turned, refl));
+        one = omega arith;
+        torn = torn;
+        few = omega (arith, few, long);
+        left = tt;
+      }
+
+  -- it failed where all was to be handed on
+  pub loses_quiet : (o q : Output) (old new : S) → length o.kept ≤ o.back → Breaks o q [] → GivesUp turn old new → LosesWriter turn [] [] o q old new
+  loses_quiet o q old new keeps b g =
+      let torn : Breaks o q (spelled_told []) = subst (Breaks o q) (sym nothing_told) b in
+      let few = lost_few o q _ o.back torn keeps refl in
+      record { given = []; unheard = g.told ∷ []; run = (new, g.turned, refl); one = omega arith; torn = torn; few = omega (arith, few, told_none, nothing_framed); left = tt }
+
+  -- ---- *now*
+  pub told_now : (u : Unit {0}) (o p q : Output) (old new : S) → AnswersClient turn (Ok u) Now o p old new → Writes p q [] → IsHandedOn q → HasTold turn (Now ∷ []) o q old new
+  told_now u o p q old new a w h =
+      let all : Writes o q (spelled_told (a.told ∷ [])) = subst (Writes o q) (append-nil (spelled_frames a.told) ∙ sym (told_one a.told)) (writes_then o p q _ _ a.put w) in
+      let gone = gone_is o q _ all in
+      let none = ap length h.nothing in
+      let long = ap length (told_one a.told) in
+      record { tolds = a.told ∷ []; run = (new, a.turned, refl); written = all; left = (omega (arith, gone, none, long), tt) }
+
+  pub loses_now : (fault : Unwritten) (o q : Output) (old new : S) → length o.kept ≤ o.back → AnswersClient turn (Err fault) Now o q old new → LosesWriter turn [] [] o q old new
+  loses_now fault o q old new keeps a =
+      let torn : Breaks o q (spelled_told (a.told ∷ [])) = subst (Breaks o q) (sym (told_one a.told)) a.put in
+      let few = lost_few o q _ o.back torn keeps refl in
+      let long = ap length (told_one a.told) in
+      record { given = a.told ∷ []; unheard = []; run = (new, a.turned, refl); one = omega arith; torn = torn; few = omega (arith, few, long); left = tt }
+
+  pub loses_delivery : (u : Unit {0}) (o p q : Output) (old new : S) → length p.kept ≤ p.back → AnswersClient turn (Ok u) Now o p old new → Breaks p q [] → LosesWriter turn [] [] o q old new
+  loses_delivery u o p q old new keeps a b =
+      let tears = tear o p q _ [] (spelled_told (a.told ∷ [])) (told_one a.told ∙ sym (append-nil (spelled_frames a.told))) a.put b in
+      let few = lost_few p q [] o.back b keeps a.put.back in
+      let same = ap length tears.same in
+      record { given = a.told ∷ []; unheard = []; run = (new, a.turned, refl); one = omega arith; torn = tears.torn; few = omega (arith, few, same); left = tt }
+
+  pub now_delivers : (u : Unit {0}) (result : Result (Unit {0}) Unwritten) (o p q : Output) (old new : S) → length p.kept ≤ p.back → AnswersClient turn (Ok u) Now o p old new → Delivers result p q → MakesNow turn result o q old new
+  now_delivers u (Ok v) o p q old new keeps a d = (told_now u o p q old new a d.0 d.1, d.1)
+  now_delivers u (Err f) o p q old new keeps a d = loses_delivery u o p q old new keeps a d
+
+  pub now_breaks : (result : Result (Unit {0}) Unwritten) (fault : Unwritten) (o q : Output) (old new : S) → IsErr result → length o.kept ≤ o.back → AnswersClient turn (Err fault) Now o q old new → MakesNow turn result o q old new
+  now_breaks (Ok u) fault o q old new is keeps a = absurd (false≢true is)
+  now_breaks (Err f) fault o q old new is keeps a = loses_now fault o q old new keeps a
+
+  pub now_alone : (b : Bool) (result : Result (Unit {0}) Unwritten) (o q : Output) (old new : S) → b ≡ true → MakesNow turn result o q old new → MakesNowBefore turn b result o q old new
+  now_alone true (Ok u) o q old new is m = (m.0, λ _. m.1)
+  now_alone true (Err f) o q old new is m = m
+  now_alone false result o q old new is m = absurd (false≢true is)
+
+  pub now_together : (b : Bool) (o : Output) (state : S) → b ≡ false → o.broken ≡ false → MakesNowBefore turn b (Ok tt) o o state state
+  now_together false o state is h = (told_nothing o state h, λ e. absurd (false≢true e))
+  now_together true o state is h = absurd (false≢true (sym is))
+
+-- ---- bodies that come alone
+pub parted_append : (alone : List ℕ → Bool) (ps qs : List (Owned Brought)) → parted alone (ps ++ qs) ≡ parted alone ps ++ parted alone qs
+unfolding parted
+parted_append alone [] qs = refl
+parted_append alone (a ∷ ps) qs = ap (λ l. parting alone a ++ a ∷ l) (parted_append alone ps qs) ∙ sym (append_assoc (parting alone a) (a ∷ parted alone ps) (parted alone qs))
+
+-- ---- one part of a session after another
+pub later_then : (m n a b c : ℕ) → b ≡ later m a → c ≡ later n b → c ≡ later (m + n) a
+later_then m n a b c e f = omega (arith, e, f)
+
+pub end_later : (why : SessionEnd) (place : FramePlace) (used used' : ℕ) (i : Input) → used ≤ used' → IsEndOf why place used i → IsEndOf why place used' i
+end_later over.Closed place used used' i h e = e
+end_later over.Cut place used used' i h e = e
+end_later over.Unknown place used used' i h e = e
+end_later over.Memory place used used' i h e = tt
+end_later over.ReadFault place used used' i h (inl f) = inl f
+end_later over.ReadFault place used used' i h (inr f) = inr (omega (arith, h, f))
+end_later over.WriteFault place used used' i h e = absurd e
+
+module _ {S : Type 0} (alone : List ℕ → Bool) (turn : SharedTurn S) where
+  pub talks_start : (from : SharedState) (i : Input) (o : Output) (state : S) → TakesApart from [] [] from → o.broken ≡ false → TalksOn alone turn from from i i o o state state
+  unfolding parted
+  talks_start from i o state t h = record { taken = []; asked = []; calls = 0; read = Consumes-nil i.left; apart = t; clock = none i.calls; steady = λ s. s; told = told_nothing turn o state h }
+    where
+      none : (n : ℕ) → n ≡ later 0 n
+      none n = omega arith
+
+  abbrev pub talks_then : (from mid to : SharedState) (i j k : Input) (o p q : Output) (old between new : S) → TalksOn alone turn from mid i j o p old between → TalksOn alone turn mid to j k p q between new → TalksOn alone turn from to i k o q old new
+  talks_then from mid to i j k o p q old between new a b = record {
+    taken = a.taken ++ b.taken;
+    asked = a.asked ++ b.asked;
+    calls = a.calls + b.calls;
+    read = Consumes-trans i.left j.left k.left a.taken b.taken a.read b.read;
+    apart = asks_then from mid to a.taken b.taken a.asked b.asked a.apart b.apart;
+    clock = later_then a.calls b.calls i.calls j.calls k.calls a.clock b.clock;
+    steady = λ s. b.steady (a.steady s);
+    told = subst (λ l. HasTold turn l o q old new) (sym (parted_append alone a.asked b.asked)) (told_then turn (parted alone a.asked) (parted alone b.asked) o p q old between new a.told b.told);
+  }
+
+  pub serves_then : (from mid : SharedState) (i j k : Input) (o p q : Output) (old between new : S) (why : SessionEnd) → TalksOn alone turn from mid i j o p old between → ServesClients alone turn mid j k p q between new why
+      → ServesClients alone turn from i k o q old new why
+  serves_then from mid i j k o p q old between new why a b = record {
+    taken = a.taken ++ b.taken;
+    asked = a.asked ++ b.asked;
+    streams = b.streams;
+    calls = a.calls + b.calls;
+    read = Consumes-trans i.left j.left k.left a.taken b.taken a.read b.read;
+    apart = asks_then from mid b.streams a.taken b.taken a.asked b.asked a.apart b.apart;
+    clock = later_then a.calls b.calls i.calls j.calls k.calls a.clock b.clock;
+    sound = λ s. b.sound (a.steady s);
+    done = by b.done;
+  }
+    where
+      long : length (a.taken ++ b.taken) ≡ length a.taken + length b.taken
+      long = length-append a.taken b.taken
+
+      by : TellsAll turn (parted alone b.asked) why b.streams (b.calls + length b.taken) k p q between new ⊎ FailsToTell turn (parted alone b.asked) why b.streams.clients p q between new
+          → TellsAll turn (parted alone (a.asked ++ b.asked)) why b.streams (a.calls + b.calls + length (a.taken ++ b.taken)) k o q old new ⊎ FailsToTell turn (parted alone (a.asked ++ b.asked)) why b.streams.clients o q old new
+      by (inl c) = inl (record {
+        ended = end_later why b.streams.place (b.calls + length b.taken) (a.calls + b.calls + length (a.taken ++ b.taken)) k (omega (arith, long)) c.ended;
+        told = subst (λ l. HasTold turn l o q old new) (sym (append_assoc (parted alone a.asked) (parted alone b.asked) (ends_at why b.streams.clients ++ Now ∷ [])) ∙ ap (λ l. l ++ (ends_at why b.streams.clients ++ Now ∷ [])) (sym (parted_append alone a.asked b.asked)))
+            (told_then turn (parted alone a.asked) (parted alone b.asked ++ (ends_at why b.streams.clients ++ Now ∷ [])) o p q old between new a.told c.told);
+        handed_on = c.handed_on;
+      })
+      by (inr c) = inr (record {
+        ended = c.ended;
+        ends = c.ends;
+        others = c.others;
+        are = c.are;
+        loses = subst (λ l. LosesWriter turn l c.ends o q old new) (sym (parted_append alone a.asked b.asked)) (loses_then turn (parted alone a.asked) (parted alone b.asked) c.ends o p q old between new a.told c.loses);
+      })
+
+-- ---- what came
+pub parted_none : (alone : List ℕ → Bool) → parted alone [] ≡ []
+unfolding parted
+parted_none alone = refl
+
+pub parted_now : (alone : List ℕ → Bool) → parted alone (Now ∷ []) ≡ Now ∷ []
+unfolding parted
+parted_now alone = refl
+
+pub parted_end : (alone : List ℕ → Bool) (client : ℕ) (why : End) → parted alone (Of client (Ends why) ∷ []) ≡ Of client (Ends why) ∷ []
+unfolding parted
+parted_end alone client why = refl
+
+parted_body : (alone : List ℕ → Bool) (client : ℕ) (body : List ℕ) → parted alone (Of client (Body body) ∷ []) ≡ (if alone body then Now ∷ [] else []) ++ Of client (Body body) ∷ []
+unfolding parted
+parted_body alone client body = refl
+
+module _ {S : Type 0} (alone : List ℕ → Bool) (turn : SharedTurn S) where
+  pub body_told : (client : ℕ) (body : List ℕ) (u v : Unit {0}) (o p q : Output) (old mid new : S) → MakesNowBefore turn (alone body) (Ok u) o p old mid → AnswersClient turn (Ok v) (Of client (Body body)) p q mid new
+      → HasTold turn (parted alone (Of client (Body body) ∷ [])) o q old new
+  body_told client body u v o p q old mid new a b =
+      subst (λ l. HasTold turn l o q old new) (sym (parted_body alone client body))
+      (told_then turn (if alone body then Now ∷ [] else []) (Of client (Body body) ∷ []) o p q old mid new a.0 (told_once turn client (Body body) v p q mid new b))
+
+  pub body_lost : (client : ℕ) (body : List ℕ) (u : Unit {0}) (fault : Unwritten) (o p q : Output) (old mid after new : S) → length p.kept ≤ p.back → MakesNowBefore turn (alone body) (Ok u) o p old mid
+      → AnswersClient turn (Err fault) (Of client (Body body)) p q mid after → GivesUp turn after new → LosesWriter turn (parted alone (Of client (Body body) ∷ [])) [] o q old new
+  body_lost client body u fault o p q old mid after new keeps a b g =
+      subst (λ l. LosesWriter turn l [] o q old new) (sym (parted_body alone client body))
+      (loses_then turn (if alone body then Now ∷ [] else []) (Of client (Body body) ∷ []) [] o p q old mid new a.0 (loses_once turn client (Body body) fault p q mid after new keeps b g))
+
+  -- ---- parts
+  pub stays : (from : SharedState) → TakesApart from [] [] from
+  stays from = nothing_asked from from refl (λ client. refl)
+
+  no_call : (n : ℕ) → n ≡ later 0 n
+  no_call n = omega arith
+
+  -- what was taken is not nothing
+  pub some_first : (count : ℕ) (bytes : List ℕ) → TakesSome count (length bytes) → 0 < length (take count bytes)
+  some_first count bytes t = let len = length-take-le count bytes t.within in let some = t.some in omega (arith, len, some)
+
+  one_taken : (n : ℕ) → 0 < n → 0 < 0 + n
+  one_taken n h = omega (arith, h)
+
+  one_call : 0 < 1 + 0
+  one_call = omega arith
+
+  -- what is read ahead was taken, and answered
+  abbrev talks_taken : (from to : SharedState) (i j : Input) (o p : Output) (old new : S) (bytes : List ℕ) (asked : List (Owned Brought)) → TakesAhead bytes i j → TakesApart from bytes asked to → HasTold turn (parted alone asked) o p old new
+      → TalksOn alone turn from to i j o p old new
+  talks_taken from to i j o p old new bytes asked t a h = record {
+    taken = bytes;
+    asked = asked;
+    calls = 0;
+    read = t.taken;
+    apart = a;
+    clock = t.clock ∙ no_call i.calls;
+    steady = λ s. t.steady ∙ s;
+    told = h;
+  }
+
+  pub goes_taken : (from to : SharedState) (i j : Input) (o p : Output) (old new : S) (bytes : List ℕ) (asked : List (Owned Brought)) → i.faulted ≡ false → 0 < length bytes → TakesAhead bytes i j → TakesApart from bytes asked to
+      → HasTold turn (parted alone asked) o p old new → MovesOn alone turn from to i j o p old new
+  goes_taken from to i j o p old new bytes asked well some t a h = record { talks = talks_taken from to i j o p old new bytes asked t a h; some = one_taken (length bytes) some; well = t.fault ∙ well }
+
+  pub loses_taken : (from to : SharedState) (i j : Input) (o p : Output) (old new : S) (bytes : List ℕ) (asked : List (Owned Brought)) → i.faulted ≡ false → TakesAhead bytes i j → TakesApart from bytes asked to → LosesWriter turn (parted alone asked) [] o p old new
+      → ServesClients alone turn from i j o p old new over.WriteFault
+  loses_taken from to i j o p old new bytes asked well t a h = record {
+    taken = bytes;
+    asked = asked;
+    streams = to;
+    calls = 0;
+    read = t.taken;
+    apart = a;
+    clock = t.clock ∙ no_call i.calls;
+    sound = λ s. t.fault ∙ well;
+    done = inr (record { ended = refl; ends = []; others = ends_in to.clients; are = refl; loses = h });
+  }
+
+  -- nothing was taken
+  pub loses_before : (from : SharedState) (i : Input) (o p : Output) (old new : S) → i.faulted ≡ false → LosesWriter turn [] [] o p old new → ServesClients alone turn from i i o p old new over.WriteFault
+  loses_before from i o p old new well h = record {
+    taken = [];
+    asked = [];
+    streams = from;
+    calls = 0;
+    read = Consumes-nil i.left;
+    apart = stays from;
+    clock = no_call i.calls;
+    sound = λ s. well;
+    done = inr (record { ended = refl; ends = []; others = ends_in from.clients; are = refl; loses = subst (λ l. LosesWriter turn l [] o p old new) (sym (parted_none alone)) h });
+  }
+
+  over_here : (why : SessionEnd) (from to : SharedState) (i : Input) (o : Output) (state : S) → o.broken ≡ false → i.faulted ≡ false → TakesApart from [] [] to → IsEndOf why to.place 0 i → IsOver alone turn why from to i i o o state state
+  over_here why from to i o state h well t e = record {
+    talks = record { taken = []; asked = []; calls = 0; read = Consumes-nil i.left; apart = t; clock = no_call i.calls; steady = λ s. s; told = subst (λ l. HasTold turn l o o state state) (sym (parted_none alone)) (told_nothing turn o state h) };
+    ended = e;
+    sound = λ s. well;
+  }
+
+  pub over_memory : (from to : SharedState) (i : Input) (o : Output) (state : S) → o.broken ≡ false → i.faulted ≡ false → TakesApart from [] [] to → IsOver alone turn over.Memory from to i i o o state state
+  over_memory from to i o state h well t = over_here over.Memory from to i o state h well t tt
+
+  pub over_unknown : (from : SharedState) (i : Input) (o : Output) (state : S) → o.broken ≡ false → i.faulted ≡ false → reads_nothing from.place ≡ true → IsOver alone turn over.Unknown from from i i o o state state
+  over_unknown from i o state h well e = over_here over.Unknown from from i o state h well (stays from) e
+
+  -- ---- waits
+  abbrev waited : (more : More) (from : SharedState) (i j : Input) (o p : Output) (state : S) (front : List ℕ) → Writes o p [] → Waits more i j front → TalksOn alone turn from from i j o p state state
+  waited more from i j o p state front w m = record {
+    taken = [];
+    asked = [];
+    calls = 1;
+    read = Consumes-kept i.left i.left j.left [] (Consumes-nil i.left) m.kept;
+    apart = stays from;
+    clock = m.clock;
+    steady = m.steady;
+    told = subst (λ l. HasTold turn l o p state state) (sym (parted_none alone)) (told_quiet turn o p state w);
+  }
+
+  pub goes_waited : (more : More) (from : SharedState) (i j : Input) (o p : Output) (state : S) (front : List ℕ) → ahead.is_broken more ≡ false → Writes o p [] → Waits more i j front → MovesOn alone turn from from i j o p state state
+  goes_waited more from i j o p state front fine w m = record { talks = waited more from i j o p state front w m; some = one_call; well = m.fault ∙ fine }
+
+  input_over : (place : FramePlace) (i : Input) → IsAtEnd i.left → IsEndOf (input_end place) place 0 i
+  input_over (InHead []) i e = (refl, e)
+  input_over (InHead (x ∷ xs)) i e = (refl, e)
+  input_over (Within client n) i e = (refl, e)
+  input_over Broken i e = refl
+
+  pub over_waited : (from : SharedState) (i j : Input) (o p : Output) (state : S) (front : List ℕ) (why : SessionEnd) → why ≡ input_end from.place → Writes o p [] → Waits more.End i j front → IsOver alone turn why from from i j o p state state
+  over_waited from i j o p state front why is w m = record {
+    talks = waited more.End from i j o p state front w m;
+    ended = subst (λ (e : SessionEnd). IsEndOf e from.place 0 j) (sym is) (input_over from.place j m.brings.1);
+    sound = λ s. m.fault;
+  }
+
+  pub over_fault : (from : SharedState) (i j : Input) (o p : Output) (state : S) (front : List ℕ) → Writes o p [] → Waits more.Fault i j front → IsOver alone turn over.ReadFault from from i j o p state state
+  over_fault from i j o p state front w m = record { talks = waited more.Fault from i j o p state front w m; ended = inl m.fault; sound = λ s. absurd (m.on s) }
+
+  -- ---- what was brought
+  pub none_came : (a : Arrival) (o : Output) (state : S) → (a ≡ things.Nothing) ⊎ (a ≡ things.Unknown) → o.broken ≡ false → HasTold turn (parted alone (arrived a)) o o state state
+  none_came a o state is h = subst (λ l. HasTold turn l o o state state) (sym (ap (parted alone) (none is) ∙ parted_none alone)) (told_nothing turn o state h)
+    where
+      none : (a ≡ things.Nothing) ⊎ (a ≡ things.Unknown) → arrived a ≡ []
+      none (inl e) = ap arrived e
+      none (inr e) = ap arrived e
+
+  pub end_came : (a : Arrival) (client : ℕ) (why : End) → a ≡ things.Ends client why → parted alone (arrived a) ≡ Of client (Ends why) ∷ []
+  end_came a client why is = ap (λ (x : Arrival). parted alone (arrived x)) is ∙ parted_end alone client why
+
+  pub now_came : (a : Arrival) → a ≡ things.Now → parted alone (arrived a) ≡ Now ∷ []
+  now_came a is = ap (λ (x : Arrival). parted alone (arrived x)) is ∙ parted_now alone
+
+  pub told_as : (asks came : List (Owned Brought)) (o p : Output) (old new : S) → came ≡ asks → HasTold turn asks o p old new → HasTold turn came o p old new
+  told_as asks came o p old new e h = subst (λ l. HasTold turn l o p old new) (sym e) h
+
+  pub lost_as : (asks came : List (Owned Brought)) (o p : Output) (old new : S) → came ≡ asks → LosesWriter turn asks [] o p old new → LosesWriter turn came [] o p old new
+  lost_as asks came o p old new e h = subst (λ l. LosesWriter turn l [] o p old new) (sym e) h
+
+  pub lost_then : (l : Loss) (asks : List (Owned Brought)) (o p : Output) (old new : S) → l ≡ loss.Answered → AnswersAsked turn (Err l) asks o p old new → LosesWriter turn asks [] o p old new
+  lost_then l asks o p old new is a = subst (λ (x : Loss). AnswersAsked turn (Err x) asks o p old new) is a
+
+  pub lost_before : (l : Loss) (asks : List (Owned Brought)) (o p : Output) (old new : S) → l ≡ loss.Undone → AnswersAsked turn (Err l) asks o p old new → LosesWriter turn [] [] o p old new
+  lost_before l asks o p old new is a = subst (λ (x : Loss). AnswersAsked turn (Err x) asks o p old new) is a
+
+  pub quiet_more : (m : More) → (m ≡ more.Some) ⊎ (m ≡ more.Again) → ahead.is_broken m ≡ false
+  quiet_more m (inl e) = ap ahead.is_broken e
+  quiet_more m (inr e) = ap ahead.is_broken e
+
+  -- ---- the ends
+  one_end : (client : ℕ) (why : Option End) (state : ClientState) (clients clients' : List (ℕ × ClientState)) → clients ≡ (client, state) ∷ clients' → EndsWith why (Some state) None
+      → ends_in clients ≡ named client (brought_last why) ++ ends_in clients'
+  unfolding ends_in
+  one_end client why state clients clients' is e = ap ends_in is ∙ ap (λ (r : List Brought × Option ClientState). named client r.0 ++ ends_in clients') e
+
+  some_named : (client : ℕ) (why : End) → named client (brought_last (Some why)) ≡ Of client (Ends why) ∷ []
+  unfolding named
+  some_named client why = refl
+
+  none_named : (client : ℕ) → named client (brought_last None) ≡ []
+  unfolding named
+  none_named client = refl
+
+  one_less : (client : ℕ) (state : ClientState) (clients clients' : List (ℕ × ClientState)) → clients ≡ (client, state) ∷ clients' → length clients ≡ length clients' + 1
+  one_less client state clients clients' is = let e = ap length is in omega (arith, e)
+
+  ends_one : (result : Result (Unit {0}) Unwritten) (ask : Owned Brought) (o p : Output) (old new : S) → AnswersSingle turn result ask o p old new → AnswersEnds turn result (ask ∷ []) (ask ∷ []) o p old new
+  ends_one (Ok u) ask o p old new a = a
+  ends_one (Err f) ask o p old new a = record { ends = ask ∷ []; others = []; are = refl; loses = as_ends turn (ask ∷ []) o p old new a }
+
+  pub ends_next : (result : Result (Unit {0}) Unwritten) (client : ℕ) (last : Option End) (why : End) (clients clients' : List (ℕ × ClientState)) (o p : Output) (old new : S) → last ≡ Some why → EndsLowest (Some (client, last)) clients clients'
+      → AnswersSingle turn result (Of client (Ends why)) o p old new → EndsNext turn result clients clients' o p old new
+  ends_next result client last why clients clients' o p old new is l a = let e = subst (λ (x : Option End). EndsLowest (Some (client, x)) clients clients') is l in record {
+    ends = Of client (Ends why) ∷ [];
+    are = one_end client (Some why) e.0 clients clients' e.1 e.2 ∙ ap (λ l. l ++ ends_in clients') (some_named client why);
+    one = one_less client e.0 clients clients' e.1;
+    answers = ends_one result (Of client (Ends why)) o p old new a;
+  }
+
+  pub ends_none : (client : ℕ) (last : Option End) (clients clients' : List (ℕ × ClientState)) (o : Output) (state : S) → last ≡ None → EndsLowest (Some (client, last)) clients clients' → o.broken ≡ false → EndsNext turn (Ok tt) clients clients' o o state state
+  ends_none client last clients clients' o state is l h = let e = subst (λ (x : Option End). EndsLowest (Some (client, x)) clients clients') is l in record {
+    ends = [];
+    are = one_end client None e.0 clients clients' e.1 e.2 ∙ ap (λ l. l ++ ends_in clients') (none_named client);
+    one = one_less client e.0 clients clients' e.1;
+    answers = told_nothing turn o state h;
+  }
+
+  -- so many of them are answered
+  pub record EndsSoFar (clients clients' : List (ℕ × ClientState)) (o p : Output) (old new : S) : Type 0 where
+    pub ends : List (Owned Brought)
+    pub are : ends_in clients ≡ ends ++ ends_in clients'
+    pub told : HasTold turn ends o p old new
+
+  pub ends_start : (clients : List (ℕ × ClientState)) (o : Output) (state : S) → o.broken ≡ false → EndsSoFar clients clients o o state state
+  ends_start clients o state h = record { ends = []; are = refl; told = told_nothing turn o state h }
+
+  ends_apart : (all mid : List (ℕ × ClientState)) (new : List (ℕ × ClientState)) (ends more : List (Owned Brought)) → ends_in all ≡ ends ++ ends_in mid → ends_in mid ≡ more ++ ends_in new → ends_in all ≡ (ends ++ more) ++ ends_in new
+  ends_apart all mid new ends more a b = a ∙ ap (λ l. ends ++ l) b ∙ sym (append_assoc ends more (ends_in new))
+
+  pub ends_more : (u : Unit {0}) (clients mid clients' : List (ℕ × ClientState)) (o p q : Output) (old between new : S) → EndsSoFar clients mid o p old between → EndsNext turn (Ok u) mid clients' p q between new
+      → EndsSoFar clients clients' o q old new
+  ends_more u clients mid clients' o p q old between new a b = record {
+    ends = a.ends ++ b.ends;
+    are = ends_apart clients mid clients' a.ends b.ends a.are b.are;
+    told = told_then turn a.ends b.ends o p q old between new a.told b.answers;
+  }
+
+  pub ends_lost : (result : Result (Unit {0}) Unwritten) (fault : Unwritten) (clients mid clients' : List (ℕ × ClientState)) (o p q : Output) (old between new : S) → IsErr result → EndsSoFar clients mid o p old between
+      → EndsNext turn (Err fault) mid clients' p q between new → AnswersEnds turn result (ends_in clients) (ends_in clients) o q old new
+  ends_lost (Ok u) fault clients mid clients' o p q old between new is a b = absurd (false≢true is)
+  ends_lost (Err f) fault clients mid clients' o p q old between new is a b =
+      let l = b.answers in record {
+        ends = a.ends ++ l.ends;
+        others = l.others ++ ends_in clients';
+        are = append_assoc a.ends l.ends (l.others ++ ends_in clients')
+            ∙ ap (λ k. a.ends ++ k) (sym (append_assoc l.ends l.others (ends_in clients')) ∙ ap (λ k. k ++ ends_in clients') l.are)
+            ∙ ap (λ k. a.ends ++ k) (sym b.are)
+            ∙ sym a.are;
+        loses = ends_lose a.ends l.ends o p q old between new a.told l.loses;
+      }
+    where
+      ends_lose : (ps qs : List (Owned Brought)) (o p q : Output) (old between new : S) → HasTold turn ps o p old between → LosesWriter turn [] qs p q between new → LosesWriter turn [] (ps ++ qs) o q old new
+      ends_lose ps qs o p q old between new h w =
+          let all = loses_then turn ps [] qs o p q old between new h w in record {
+            given = all.given;
+            unheard = all.unheard;
+            run = subst (λ l. AllTurned turn old l (all.given ++ all.unheard) new) (ap (λ l. l ++ (qs ++ Now ∷ [])) (append-nil ps) ∙ sym (append_assoc ps qs (Now ∷ []))) all.run;
+            one = all.one;
+            torn = all.torn;
+            few = all.few;
+            left = tt;
+          }
+
+  no_ends : ends_in [] ≡ []
+  unfolding ends_in
+  no_ends = refl
+
+  pub ends_all : (clients clients' : List (ℕ × ClientState)) (o p : Output) (old new : S) → length clients' ≡ 0 → EndsSoFar clients clients' o p old new → HasTold turn (ends_in clients) o p old new
+  ends_all clients [] o p old new none a = subst (λ l. HasTold turn l o p old new) (sym (a.are ∙ ap (λ l. a.ends ++ l) no_ends ∙ append-nil a.ends)) a.told
+  ends_all clients (x ∷ xs) o p old new none a = absurd (omega (arith, none))
+
+  pub none_end : (why : SessionEnd) (clients : List (ℕ × ClientState)) (o : Output) (state : S) → ends_at why clients ≡ [] → o.broken ≡ false → HasTold turn (ends_at why clients) o o state state
+  none_end why clients o state is h = subst (λ l. HasTold turn l o o state state) (sym is) (told_nothing turn o state h)
+
+  pub none_at : (why : SessionEnd) (clients : List (ℕ × ClientState)) → (why ≡ over.Memory) ⊎ ((why ≡ over.ReadFault) ⊎ (why ≡ over.WriteFault)) → ends_at why clients ≡ []
+  none_at why clients (inl e) = ap (λ (x : SessionEnd). ends_at x clients) e
+  none_at why clients (inr (inl e)) = ap (λ (x : SessionEnd). ends_at x clients) e
+  none_at why clients (inr (inr e)) = ap (λ (x : SessionEnd). ends_at x clients) e
+
+  others_at : SessionEnd → List (ℕ × ClientState) → List (Owned Brought)
+  others_at over.Closed clients = []
+  others_at over.Cut clients = []
+  others_at over.Unknown clients = []
+  others_at over.Memory clients = ends_in clients
+  others_at over.ReadFault clients = ends_in clients
+  others_at over.WriteFault clients = ends_in clients
+
+  ends_first : (why : SessionEnd) (clients : List (ℕ × ClientState)) → ends_at why clients ++ others_at why clients ≡ ends_in clients
+  unfolding others_at
+  ends_first over.Closed clients = append-nil (ends_in clients)
+  ends_first over.Cut clients = append-nil (ends_in clients)
+  ends_first over.Unknown clients = append-nil (ends_in clients)
+  ends_first over.Memory clients = refl
+  ends_first over.ReadFault clients = refl
+  ends_first over.WriteFault clients = refl
+
+  pub closes_well : (why : SessionEnd) (clients : List (ℕ × ClientState)) (o p q : Output) (old between new : S) → HasTold turn (ends_at why clients) o p old between → HasTold turn (Now ∷ []) p q between new × IsHandedOn q
+      → ClosesAll turn why why clients o q old new
+  closes_well why clients o p q old between new a b = inl (refl, told_then turn (ends_at why clients) (Now ∷ []) o p q old between new a b.0, b.1)
+
+  pub closes_lost : (why : SessionEnd) (clients : List (ℕ × ClientState)) (o p q : Output) (old between new : S) → HasTold turn (ends_at why clients) o p old between → LosesWriter turn [] [] p q between new
+      → ClosesAll turn over.WriteFault why clients o q old new
+  closes_lost why clients o p q old between new a b = inr (
+    refl,
+    record {
+      ends = ends_at why clients;
+      others = others_at why clients;
+      are = ends_first why clients;
+      loses = as_ends turn (ends_at why clients) o q old new (subst (λ l. LosesWriter turn l [] o q old new) (append-nil (ends_at why clients)) (loses_then turn (ends_at why clients) [] [] o p q old between new a b));
+    },
+  )
+
+  -- ---- the whole session
+  pub over_closes : (result why : SessionEnd) (from to : SharedState) (i j : Input) (o p q : Output) (old between new : S) → IsOver alone turn why from to i j o p old between → ClosesAll turn result why to.clients p q between new
+      → ServesClients alone turn from i j o q old new result
+  over_closes result why from to i j o p q old between new a c = record {
+    taken = a.talks.taken;
+    asked = a.talks.asked;
+    streams = to;
+    calls = a.talks.calls;
+    read = a.talks.read;
+    apart = a.talks.apart;
+    clock = a.talks.clock;
+    sound = a.sound;
+    done = by c;
+  }
+    where
+      by : ClosesAll turn result why to.clients p q between new
+          → TellsAll turn (parted alone a.talks.asked) result to (a.talks.calls + length a.talks.taken) j o q old new ⊎ FailsToTell turn (parted alone a.talks.asked) result to.clients o q old new
+      by (inl d) = inl (record {
+        ended = subst (λ (e : SessionEnd). IsEndOf e to.place (a.talks.calls + length a.talks.taken) j) (sym d.0) (end_later why to.place 0 (a.talks.calls + length a.talks.taken) j (omega arith) a.ended);
+        told = subst (λ (e : SessionEnd). HasTold turn (parted alone a.talks.asked ++ (ends_at e to.clients ++ Now ∷ [])) o q old new) (sym d.0)
+            (told_then turn (parted alone a.talks.asked) (ends_at why to.clients ++ Now ∷ []) o p q old between new a.talks.told d.1);
+        handed_on = d.2;
+      })
+      by (inr d) = inr (record {
+        ended = d.0;
+        ends = d.1.ends;
+        others = d.1.others;
+        are = d.1.are;
+        loses = subst (λ l. LosesWriter turn l d.1.ends o q old new) (append-nil (parted alone a.talks.asked)) (loses_then turn (parted alone a.talks.asked) [] d.1.ends o p q old between new a.talks.told d.1.loses);
+      })
+
+  -- so many bytes and calls of the reader so far
+  pub record SharedSoFar (from to : SharedState) (i j : Input) (o p : Output) (old new : S) (count : ℕ) : Type 0 where
+    pub talks : TalksOn alone turn from to i j o p old new
+    pub used : count ≤ talks.calls + length talks.taken
+
+  pub far_start : (from to : SharedState) (i : Input) (o : Output) (state : S) → to ≡ from → o.broken ≡ false → SharedSoFar from to i i o o state state 0
+  far_start from to i o state is h = subst (λ (s : SharedState). SharedSoFar from s i i o o state state 0) (sym is) (record { talks = talks_start alone turn from i o state (stays from) h; used = omega arith })
+
+  far_long : (xs ys : List ℕ) (m n count : ℕ) → count ≤ m + length xs → 0 < n + length ys → count + 1 ≤ m + n + length (xs ++ ys)
+  far_long xs ys m n count h k = let l = length-append xs ys in omega (arith, h, k, l)
+
+  pub far_more : (from mid to : SharedState) (i j k : Input) (o p q : Output) (old between new : S) (count : ℕ) → SharedSoFar from mid i j o p old between count → MovesOn alone turn mid to j k p q between new
+      → SharedSoFar from to i k o q old new (count + 1)
+  far_more from mid to i j k o p q old between new count a b = record {
+    talks = talks_then alone turn from mid to i j k o p q old between new a.talks b.talks;
+    used = far_long a.talks.taken b.talks.taken a.talks.calls b.talks.calls count a.used b.some;
+  }
+
+  pub far_over : (from mid : SharedState) (i j k : Input) (o p q : Output) (old between new : S) (count : ℕ) (why : SessionEnd) → SharedSoFar from mid i j o p old between count → ServesClients alone turn mid j k p q between new why
+      → ServesClients alone turn from i k o q old new why
+  far_over from mid i j k o p q old between new count why a b = serves_then alone turn from mid i j k o p q old between new why a.talks b
+
+  -- as many as may be
+  pub far_used : (result : SessionEnd) (from to : SharedState) (i j : Input) (o p q : Output) (old between new : S) (count : ℕ) → max_records ≤ count → j.faulted ≡ false → SharedSoFar from to i j o p old between count
+      → ClosesAll turn result over.ReadFault to.clients p q between new → ServesClients alone turn from i j o q old new result
+  far_used result from to i j o p q old between new count all well a c = record {
+    taken = a.talks.taken;
+    asked = a.talks.asked;
+    streams = to;
+    calls = a.talks.calls;
+    read = a.talks.read;
+    apart = a.talks.apart;
+    clock = a.talks.clock;
+    sound = λ s. well;
+    done = by c;
+  }
+    where
+      many : max_records ≤ a.talks.calls + length a.talks.taken
+      many = let u = a.used in omega (arith, all, u)
+
+      by : ClosesAll turn result over.ReadFault to.clients p q between new
+          → TellsAll turn (parted alone a.talks.asked) result to (a.talks.calls + length a.talks.taken) j o q old new ⊎ FailsToTell turn (parted alone a.talks.asked) result to.clients o q old new
+      by (inl d) = inl (record {
+        ended = subst (λ (e : SessionEnd). IsEndOf e to.place (a.talks.calls + length a.talks.taken) j) (sym d.0) (inr many);
+        told = subst (λ (e : SessionEnd). HasTold turn (parted alone a.talks.asked ++ (ends_at e to.clients ++ Now ∷ [])) o q old new) (sym d.0)
+            (told_then turn (parted alone a.talks.asked) ([] ++ Now ∷ []) o p q old between new a.talks.told d.1);
+        handed_on = d.2;
+      })
+      by (inr d) = inr (record {
+        ended = d.0;
+        ends = d.1.ends;
+        others = d.1.others;
+        are = d.1.are;
+        loses = subst (λ l. LosesWriter turn l d.1.ends o q old new) (append-nil (parted alone a.talks.asked)) (loses_then turn (parted alone a.talks.asked) [] d.1.ends o p q old between new a.talks.told d.1.loses);
+      })

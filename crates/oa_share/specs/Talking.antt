@@ -1,0 +1,219 @@
+-- A session of many clients over a reader and a writer. (This project's choice.)
+use Rattle.std.specs.Prelude.{◌≡◌, ◌⊎◌, ℕ, ◌+◌, ◌<◌, ◌≤◌, Bool, true, false, if◌then◌else◌, List, [], ◌∷◌, ◌++◌, length, Some, Result, Ok, Err, ⊤}
+use Rattle.std.specs.Io.KnownBytes.{Consumes, IsAtEnd}
+use Rattle.oa_model.specs.Limits.{max_records}
+use Rattle.oa_stream.specs.Source.{Input, later}
+use Rattle.oa_stream.specs.Sink.{Output, Writes, Breaks, IsHandedOn}
+use Rattle.oa_stream.specs.declared.sink.Unwritten.{Unwritten}
+use Rattle.oa_share.specs.Answering.{SharedTurn}
+use Rattle.oa_share.specs.Frames.{Broken, FramePlace, InHead, Within}
+use Rattle.oa_share.specs.Marks.{Last, Now, Of, Owned, named}
+use Rattle.oa_share.specs.Outgoing.{spelled_frames, spelled_told}
+use Rattle.oa_share.specs.Readers.{Body, Brought, ClientState, Ends, records_of}
+use Rattle.oa_share.specs.Shared.{SharedState, TakesApart}
+use Rattle.oa_share.specs.declared.serving.Loss.{Loss}
+use Rattle.oa_share.specs.declared.serving.Loss.TheVariants as loss
+use Rattle.oa_share.specs.declared.serving.Progress.{Progress}
+use Rattle.oa_share.specs.declared.serving.Progress.TheVariants as progress
+use Rattle.oa_share.specs.declared.session_end.SessionEnd.{SessionEnd}
+use Rattle.oa_share.specs.declared.session_end.SessionEnd.TheVariants as over
+
+-- before a body that comes alone all that is held is handed out
+abbrev pub parting : (List ℕ → Bool) → Owned Brought → List (Owned Brought)
+parting alone (Of client (Body body)) = if alone body then Now ∷ [] else []
+parting alone (Of client (Ends why)) = []
+parting alone Now = []
+
+unfoldable pub parted : (List ℕ → Bool) → List (Owned Brought) → List (Owned Brought)
+parted alone [] = []
+parted alone (ask ∷ asks) = parting alone ask ++ ask ∷ parted alone asks
+
+-- what the ends of all clients that are there bring, the lowest number first
+unfoldable pub ends_in : List (ℕ × ClientState) → List (Owned Brought)
+ends_in [] = []
+ends_in (client ∷ clients) = named client.0 (records_of (Some client.1) Last).0 ++ ends_in clients
+
+-- one turn after another, and what is handed out at each
+abbrev pub AllTurned : {S : Type 0} → SharedTurn S → S → List (Owned Brought) → List (List (ℕ × List ℕ)) → S → Type 0
+AllTurned turn old [] [] new = new ≡ old
+AllTurned {S} turn old (ask ∷ asks) (told ∷ tolds) new = (mid : S) × turn old ask told mid × AllTurned turn mid asks tolds new
+AllTurned turn old [] (told ∷ tolds) new = ⊥
+AllTurned turn old (ask ∷ asks) [] new = ⊥
+
+-- Of all bytes that a writer was given, `gone` have left it; `before` is how many it was given before these turns. At each *now* all had
+-- left that it was given by then.
+abbrev pub HasLeftAtNow : ℕ → ℕ → List (Owned Brought) → List (List (ℕ × List ℕ)) → Type 0
+HasLeftAtNow gone before [] tolds = Unit {0}
+HasLeftAtNow gone before (ask ∷ asks) [] = Unit {0}
+HasLeftAtNow gone before (Now ∷ asks) (told ∷ tolds) =
+    (before + length (spelled_frames told) ≤ gone) × HasLeftAtNow gone (before + length (spelled_frames told)) asks tolds
+HasLeftAtNow gone before (Of client x ∷ asks) (told ∷ tolds) = HasLeftAtNow gone (before + length (spelled_frames told)) asks tolds
+
+-- what was handed out last
+abbrev pub newest : List (List (ℕ × List ℕ)) → List (ℕ × List ℕ)
+newest [] = []
+newest (told ∷ []) = told
+newest (told ∷ (next ∷ tolds)) = newest (next ∷ tolds)
+
+-- this was asked and answered, and all that was handed out was put
+pub record HasTold {S : Type 0} (turn : SharedTurn S) (asks : List (Owned Brought)) (out out' : Output) (old new : S) : Type 0 where
+  pub tolds : List (List (ℕ × List ℕ))
+  pub run : AllTurned turn old asks tolds new
+  pub written : Writes out out' (spelled_told tolds)
+  pub left : HasLeftAtNow (length written.gone) (length out.kept) asks tolds
+
+-- The writer failed: this was asked and answered, then these ends, and at last *now* was made. A first part of what was handed out has left;
+-- nobody gets what was handed out at the last *now* where the writer had failed before. What is lost is no more than the writer may keep
+-- back and was given last: so nothing more was answered once it had failed, but that *now*.
+pub record LosesWriter {S : Type 0} (turn : SharedTurn S) (asks ends : List (Owned Brought)) (out out' : Output) (old new : S) : Type 0 where
+  pub given : List (List (ℕ × List ℕ))
+  pub unheard : List (List (ℕ × List ℕ))
+  pub run : AllTurned turn old (asks ++ (ends ++ Now ∷ [])) (given ++ unheard) new
+  pub one : length unheard ≤ 1
+  pub torn : Breaks out out' (spelled_told given)
+  pub few : length torn.lost ≤ out.back + length (spelled_frames (newest given))
+  pub left : HasLeftAtNow (length torn.gone) (length out.kept) asks given
+
+-- the end of the input, by where the reading of frames stands
+abbrev pub input_end : FramePlace → SessionEnd
+input_end (InHead []) = over.Closed
+input_end (InHead (x ∷ xs)) = over.Cut
+input_end (Within client n) = over.Cut
+input_end Broken = over.Unknown
+
+abbrev pub reads_nothing : FramePlace → Bool
+reads_nothing (InHead front) = false
+reads_nothing (Within client n) = false
+reads_nothing Broken = true
+
+-- Why the reading ended: the input did, between two frames or within one; a head said nothing; memory was refused; the reader failed, or so
+-- many bytes and calls of it were used up.
+abbrev pub IsEndOf : SessionEnd → FramePlace → ℕ → Input → Type 0
+IsEndOf over.Closed place used input = (input_end place ≡ over.Closed) × IsAtEnd input.left
+IsEndOf over.Cut place used input = (input_end place ≡ over.Cut) × IsAtEnd input.left
+IsEndOf over.Unknown place used input = reads_nothing place ≡ true
+IsEndOf over.Memory place used input = ⊤
+IsEndOf over.ReadFault place used input = (input.faulted ≡ true) ⊎ (max_records ≤ used)
+IsEndOf over.WriteFault place used input = ⊥
+
+-- Where the input has ended, or nothing that follows can be read, the clients that are there end.
+abbrev pub ends_at : SessionEnd → List (ℕ × ClientState) → List (Owned Brought)
+ends_at over.Closed clients = ends_in clients
+ends_at over.Cut clients = ends_in clients
+ends_at over.Unknown clients = ends_in clients
+ends_at over.Memory clients = []
+ends_at over.ReadFault clients = []
+ends_at over.WriteFault clients = []
+
+-- all was answered and has left: what was asked, the ends, and a last *now*
+pub record TellsAll {S : Type 0} (turn : SharedTurn S) (asks : List (Owned Brought)) (why : SessionEnd) (streams : SharedState) (used : ℕ)
+    (input : Input) (out out' : Output) (old new : S) : Type 0 where
+  pub ended : IsEndOf why streams.place used input
+  pub told : HasTold turn (asks ++ (ends_at why streams.clients ++ Now ∷ [])) out out' old new
+  pub handed_on : IsHandedOn out'
+
+-- the writer failed, in what was asked, or in the ends
+pub record FailsToTell {S : Type 0} (turn : SharedTurn S) (asks : List (Owned Brought)) (why : SessionEnd) (clients : List (ℕ × ClientState))
+    (out out' : Output) (old new : S) : Type 0 where
+  pub ended : why ≡ over.WriteFault
+  pub ends : List (Owned Brought)
+  pub others : List (Owned Brought)
+  pub are : ends ++ others ≡ ends_in clients
+  pub loses : LosesWriter turn asks ends out out' old new
+
+-- A whole session of many clients, from some state of the reading on: the bytes that were taken; what they ask of all clients, in the order
+-- in which it came; and its answers, each body that comes alone behind a *now*.
+pub record ServesClients {S : Type 0} (alone : List ℕ → Bool) (turn : SharedTurn S) (from : SharedState) (input input' : Input)
+    (out out' : Output) (old new : S) (why : SessionEnd) : Type 0 where
+  pub taken : List ℕ
+  pub asked : List (Owned Brought)
+  pub streams : SharedState
+  pub calls : ℕ
+  pub read : Consumes input.left input'.left taken
+  pub apart : TakesApart from taken asked streams
+  pub clock : input'.calls ≡ later calls input.calls
+  pub sound : input.steady ≡ true → input'.faulted ≡ false
+  pub done : TellsAll turn (parted alone asked) why streams (calls + length taken) input' out out' old new
+      ⊎ FailsToTell turn (parted alone asked) why streams.clients out out' old new
+
+-- a part of it, after which it goes on
+pub record TalksOn {S : Type 0} (alone : List ℕ → Bool) (turn : SharedTurn S) (from to : SharedState) (input input' : Input)
+    (out out' : Output) (old new : S) : Type 0 where
+  pub taken : List ℕ
+  pub asked : List (Owned Brought)
+  pub calls : ℕ
+  pub read : Consumes input.left input'.left taken
+  pub apart : TakesApart from taken asked to
+  pub clock : input'.calls ≡ later calls input.calls
+  pub steady : input.steady ≡ true → input'.steady ≡ true
+  pub told : HasTold turn (parted alone asked) out out' old new
+
+-- a part that took some, or called the reader
+pub record MovesOn {S : Type 0} (alone : List ℕ → Bool) (turn : SharedTurn S) (from to : SharedState) (input input' : Input)
+    (out out' : Output) (old new : S) : Type 0 where
+  pub talks : TalksOn alone turn from to input input' out out' old new
+  pub some : 0 < talks.calls + length talks.taken
+  pub well : input'.faulted ≡ false
+
+-- the last part
+pub record IsOver {S : Type 0} (alone : List ℕ → Bool) (turn : SharedTurn S) (why : SessionEnd) (from to : SharedState) (input input' : Input)
+    (out out' : Output) (old new : S) : Type 0 where
+  pub talks : TalksOn alone turn from to input input' out out' old new
+  pub ended : IsEndOf why to.place 0 input'
+  pub sound : input.steady ≡ true → input'.faulted ≡ false
+
+abbrev pub Progresses : {S : Type 0} → (List ℕ → Bool) → SharedTurn S → Progress → SharedState → SharedState → Input → Input → Output → Output
+    → S → S → Type 0
+Progresses alone turn progress.Goes from to input input' out out' old new = MovesOn alone turn from to input input' out out' old new
+Progresses alone turn (progress.Over why) from to input input' out out' old new = IsOver alone turn why from to input input' out out' old new
+Progresses alone turn progress.Unwritten from to input input' out out' old new =
+    ServesClients alone turn from input input' out out' old new over.WriteFault
+
+-- what was asked is answered; or the writer failed in it, or in the *now* before it
+abbrev pub AnswersAsked : {S : Type 0} → SharedTurn S → Result (Unit {0}) Loss → List (Owned Brought) → Output → Output → S → S → Type 0
+AnswersAsked turn (Ok u) asks out out' old new = HasTold turn asks out out' old new
+AnswersAsked turn (Err loss.Answered) asks out out' old new = LosesWriter turn asks [] out out' old new
+AnswersAsked turn (Err loss.Undone) asks out out' old new = LosesWriter turn [] [] out out' old new
+
+-- so one that comes after nothing else
+abbrev pub AnswersSingle : {S : Type 0} → SharedTurn S → Result (Unit {0}) Unwritten → Owned Brought → Output → Output → S → S → Type 0
+AnswersSingle turn (Ok u) ask out out' old new = HasTold turn (ask ∷ []) out out' old new
+AnswersSingle turn (Err e) ask out out' old new = LosesWriter turn (ask ∷ []) [] out out' old new
+
+-- *now* was made and all is handed on, or the writer failed
+abbrev pub MakesNow : {S : Type 0} → SharedTurn S → Result (Unit {0}) Unwritten → Output → Output → S → S → Type 0
+MakesNow turn (Ok u) out out' old new = HasTold turn (Now ∷ []) out out' old new × IsHandedOn out'
+MakesNow turn (Err e) out out' old new = LosesWriter turn [] [] out out' old new
+
+-- so before a body that comes alone; before any other nothing is done
+abbrev pub MakesNowBefore : {S : Type 0} → SharedTurn S → Bool → Result (Unit {0}) Unwritten → Output → Output → S → S → Type 0
+MakesNowBefore turn is_alone (Ok u) out out' old new =
+    HasTold turn (if is_alone then Now ∷ [] else []) out out' old new × (is_alone ≡ true → IsHandedOn out')
+MakesNowBefore turn is_alone (Err e) out out' old new = LosesWriter turn [] [] out out' old new
+
+-- a first part of these ends, in which the writer failed
+pub record LosesInEnds {S : Type 0} (turn : SharedTurn S) (all : List (Owned Brought)) (out out' : Output) (old new : S) : Type 0 where
+  pub ends : List (Owned Brought)
+  pub others : List (Owned Brought)
+  pub are : ends ++ others ≡ all
+  pub loses : LosesWriter turn [] ends out out' old new
+
+-- these ends are answered, or the writer failed in them
+abbrev pub AnswersEnds : {S : Type 0} → SharedTurn S → Result (Unit {0}) Unwritten → List (Owned Brought) → List (Owned Brought) → Output
+    → Output → S → S → Type 0
+AnswersEnds turn (Ok u) ends all out out' old new = HasTold turn ends out out' old new
+AnswersEnds turn (Err e) ends all out out' old new = LosesInEnds turn all out out' old new
+
+-- the end of the first client that is there
+pub record EndsNext {S : Type 0} (turn : SharedTurn S) (result : Result (Unit {0}) Unwritten) (clients clients' : List (ℕ × ClientState))
+    (out out' : Output) (old new : S) : Type 0 where
+  pub ends : List (Owned Brought)
+  pub are : ends_in clients ≡ ends ++ ends_in clients'
+  pub one : length clients ≡ length clients' + 1
+  pub answers : AnswersEnds turn result ends ends out out' old new
+
+-- the session is closed
+abbrev pub ClosesAll : {S : Type 0} → SharedTurn S → SessionEnd → SessionEnd → List (ℕ × ClientState) → Output → Output → S → S → Type 0
+ClosesAll turn result why clients out out' old new =
+    ((result ≡ why) × HasTold turn (ends_at why clients ++ Now ∷ []) out out' old new × IsHandedOn out')
+    ⊎ ((result ≡ over.WriteFault) × LosesInEnds turn (ends_in clients) out out' old new)

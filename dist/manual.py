@@ -15,7 +15,7 @@ PAGES = {
     "oaut-gateway": (
         "gateway.md",
         "many clients of one store of OLE Automation objects",
-        "oaut-gateway [OPTION VALUE..] STORE\noaut-gateway backup CONTROL FILE\noaut-gateway status CONTROL\noaut-gateway --help | --version",
+        "oaut-gateway [OPTION VALUE..] STORE\noaut-gateway backup CONTROL FILE\noaut-gateway status CONTROL\noaut-gateway probe SOCKET SECONDS\noaut-gateway --help | --version",
     ),
 }
 LINK = re.compile(r"\[([^\]]*)\]\(([^)]*)\)")

@@ -1,6 +1,6 @@
 /* What the files of the gateway share. main.c starts it and has the loop; clients.c has the connections, framing.c what stands in their bytes,
  * turns.c whose turn it is, session.c what is asked of the server and whose the replies are, server.c its process. Around them: options.c the
- * command line, sockets.c what is listened on, metrics.c what is told, page.c starts the page, backup.c is a program of its own. */
+ * command line, sockets.c what is listened on, metrics.c what is told, page.c starts the page, backup.c and probe.c are programs of their own. */
 #ifndef GATEWAY_H
 #define GATEWAY_H
 
@@ -134,6 +134,7 @@ void pump(void);
 double let_go_on(void);
 int end_server(void);
 bool has_server(void);
+bool kept_waiting(void);
 
 /* sockets.c */
 enum { LISTENERS = 16 };
@@ -186,5 +187,6 @@ void say(const char *format, ...) __attribute__((format(printf, 1, 2)));
 void start_page(void);
 int backup(const char *control, const char *file);
 int print_status(const char *control);
+int probe(const char *address, const char *seconds);
 
 #endif

@@ -81,6 +81,7 @@ static bool goes_on(void) { return !(draining > 0) || (has_server() && (counts.l
 
 int main(int argc, char **argv) {
     if (argc == 4 && !strcmp(argv[1], "backup")) return backup(argv[2], argv[3]);
+    if (argc == 4 && !strcmp(argv[1], "probe")) return probe(argv[2], argv[3]);
     if (argc == 3 && !strcmp(argv[1], "status")) return print_status(argv[2]);
     read_options(argc, argv);
     prepare();

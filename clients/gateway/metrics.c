@@ -82,6 +82,7 @@ static void tell(FILE *to) {
         {"gauge", "clients_waiting", "Clients with requests that are not with the server yet.", (double)waiting},
         {"gauge", "locks", "Locks that clients hold or ask for.", (double)counts.locks},
         {"gauge", "buffer_bytes", "Bytes of the clients' buffers.", (double)(in_bytes + out_bytes)},
+        {"gauge", "kept_waiting", "Whether one that has the server alone, or a backup, keeps the others waiting.", (double)kept_waiting()},
         {"gauge", "faulted", "Whether the store's device has failed.", counts.faulted},
         {"counter", "connections_total", "Clients that have connected.", (double)counts.clients},
         {"counter", "turned_away_total", "Connections beyond the limit, or of users that are not allowed.", (double)counts.turned_away},

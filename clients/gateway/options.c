@@ -12,7 +12,8 @@ static const struct number {
                {"hold", &hold, 0.1, 1e9},     {"stalled", &stalled, 0.1, 1e9},     {"report", &report, 0, 1e9}};
 static const char usage[] = "oaut-gateway [OPTION VALUE..] STORE    serves a store to many clients\n"
                             "oaut-gateway backup CONTROL FILE       copies the store that is being served\n"
-                            "oaut-gateway status CONTROL            prints its counters\n\n"
+                            "oaut-gateway status CONTROL            prints its counters\n"
+                            "oaut-gateway probe SOCKET SECONDS      asks by a shared socket whether the server serves\n\n"
                             "--listen ADDRESS         a path with a /, or HOST:PORT of the loopback: clients share the server\n"
                             "--listen-hex ADDRESS     the same, by lines of hexadecimal digits\n"
                             "--alone ADDRESS          a client has the server to itself while it is connected\n"

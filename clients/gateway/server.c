@@ -145,6 +145,8 @@ double let_go_on(void) {
     is_held = false;
     return seconds;
 }
+/* Whether one that has the server alone, or a backup, keeps the others waiting: not a server that is slow itself. */
+bool kept_waiting(void) { return (alone || is_held) && !(in_flight() && sent > 0 && now - sent > 5); }
 /* The next batch goes out, where there is one and it is its time. */
 void pump(void) {
     if (!is_up || in_flight()) return;

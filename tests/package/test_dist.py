@@ -160,7 +160,7 @@ class Packed(Cases):
         self.tell("the first requests in a clean root", (done.returncode, said[3:]) == (0, wanted), (done.returncode, said, done.stderr))
         if done.returncode == 0:
             told = subprocess.run(["dpkg-deb", "--contents", said[1]], capture_output=True, text=True).stdout
-            for path in ("usr/bin/oaut", "usr/bin/oaut-gateway", "usr/share/man/man1/oaut.1.gz", "usr/share/man/man1/oaut-gateway.1.gz", "usr/lib/python3/dist-packages/oaut/py.typed", "lib/systemd/system/oaut@.socket", "etc/oaut/items.idl"):
+            for path in ("usr/bin/oaut", "usr/bin/oaut-gateway", "usr/share/man/man1/oaut.1.gz", "usr/share/man/man1/oaut-gateway.1.gz", "usr/lib/python3/dist-packages/oaut/py.typed", "lib/systemd/system/oaut@.socket", "usr/lib/ocf/resource.d/oaut/gateway", "etc/oaut/items.idl"):
                 self.tell(f"the package has {path}", f" ./{path}\n" in told, told)
             depends = subprocess.run(["dpkg-deb", "--field", said[1], "Depends"], capture_output=True, text=True).stdout
             self.tell("it depends on the C library that has what the program calls", re.match(r"libc6 \(>= 2\.\d+\)", depends), depends)

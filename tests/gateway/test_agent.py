@@ -1,0 +1,236 @@
+"""The resource agent, dist/ocf/gateway: what its actions answer, by the statuses that OCF gives a meaning, and `oaut-gateway probe`, by which it asks."""
+import contextlib
+import os
+import pwd
+import re
+import shutil
+import signal
+import socket
+import stat
+import struct
+import subprocess
+import tempfile
+import threading
+import time
+import unittest
+
+import wire
+from codes import BAD_INDEX, E_FAIL, WRITE_FAULT
+from gateways import FAILS, FULL, SECONDS, Gateway, built, copy_store, library, store_of
+from preloaded import COMPILER, fast_folder
+from running import PROGRAM, ROOT, Cases
+from wire import oaut
+
+AGENT = f"{ROOT}/dist/ocf/gateway"
+OCF_ROOT = os.environ.get("OCF_ROOT") or "/usr/lib/ocf"
+# the statuses of OCF's resource agents
+OK, GENERIC, ARGUMENTS, UNIMPLEMENTED, INSTALLED, CONFIGURED, NOT_RUNNING = 0, 1, 2, 3, 5, 6, 7
+why_not = next((told for told, there in (("ocf-tester", shutil.which("ocf-tester")), ("ocf-shellfuncs", os.path.exists(f"{OCF_ROOT}/lib/heartbeat/ocf-shellfuncs")), ("cc", COMPILER)) if not there), None)
+
+
+def has_ended(number):
+    """Whether a process has ended, though who started it may not have waited for it yet."""
+    try:
+        with open(f"/proc/{number}/stat") as file:
+            return file.read().rpartition(") ")[2][0] == "Z"
+    except OSError:
+        return True
+
+
+class Agent:
+    """A store, and the agent's actions over it. Its processes are this user's."""
+
+    def __init__(self, **given):
+        self.own = tempfile.TemporaryDirectory(dir=fast_folder())
+        self.room = self.own.name
+        os.chmod(self.room, 0o755)
+        self.store, self.run = f"{self.room}/it.store", f"{self.room}/run"
+        copy_store(store_of(FULL)[0], self.store)
+        self.given = {"store": self.store, "gateway": built()[0], "program": PROGRAM, "user": pwd.getpwuid(os.getuid()).pw_name, "rundir": self.run, "logdir": self.room, **given}
+
+    def __enter__(self):
+        return self
+
+    def __exit__(self, *_):
+        self.act("stop")
+        self.own.cleanup()
+
+    def act(self, action, timeout=20, **given):
+        """The status of an action, and why it is so, as it tells the cluster."""
+        given = {name: it for name, it in {**self.given, **given}.items() if it is not None}
+        told = {"OCF_ROOT": OCF_ROOT, "OCF_RESOURCE_INSTANCE": "it", "OCF_RESKEY_CRM_meta_timeout": f"{timeout}000", **{f"OCF_RESKEY_{name}": it for name, it in given.items()}}
+        # (a file, since what it starts keeps the streams that it was given)
+        with tempfile.TemporaryFile() as said:
+            status = subprocess.run([AGENT, action], env={**os.environ, **told}, stdin=subprocess.DEVNULL, stdout=said, stderr=said, timeout=SECONDS).returncode
+            said.seek(0)
+            return status, " ".join(re.findall("^ocf-exit-reason:(.*)", said.read().decode(), re.MULTILINE))
+
+    def number(self):
+        """The gateway's process."""
+        return self.child_of(int(open(f"{self.run}/it.pid").read()), b"oaut-gateway")
+
+    def server(self):
+        return self.child_of(self.number(), b"serve")
+
+    @staticmethod
+    def child_of(number, word):
+        with open(f"/proc/{number}/task/{number}/children") as file:
+            for it in map(int, file.read().split()):
+                with open(f"/proc/{it}/cmdline", "rb") as words:
+                    if any(part.endswith(word) for part in words.read().split(b"\0")):
+                        return it
+        raise AssertionError(f"{number} has no such child: {word}")
+
+    @contextlib.contextmanager
+    def session(self, name="it.sock"):
+        with socket.socket(socket.AF_UNIX) as sock:
+            sock.settimeout(SECONDS)
+            sock.connect(f"{self.run}/{name}")
+            with oaut.connect(sock, timeout=SECONDS) as server:
+                yield server
+
+    def script(self, name, text):
+        path = f"{self.room}/{name}"
+        with open(path, "w") as file:
+            file.write(f"#!/bin/sh\n{text}\n")
+        os.chmod(path, 0o755)
+        return path
+
+
+@unittest.skipIf(why_not, f"{why_not} not there")
+class AgentCases(Cases):
+    def does(self, name, got, status, says=""):
+        self.tell(name, got[0] == status and re.search(says, got[1]), f"wanted {status} {says!r}, got {got}")
+
+    def test_ocf_tester(self):
+        with Agent() as agent:
+            words = [word for name, it in agent.given.items() for word in ("-o", f"{name}={it}")]
+            done = subprocess.run(["ocf-tester", "-n", "it", *words, AGENT], stdin=subprocess.DEVNULL, stdout=subprocess.PIPE, stderr=subprocess.STDOUT, text=True, timeout=SECONDS)
+            self.tell("ocf-tester has nothing to say", done.returncode == 0 and "passed all tests" in done.stdout, done.stdout)
+
+    def test_from_start_to_stop(self):
+        with Agent(options="--alone ALONE") as agent:
+            agent.given["options"] = f"--alone {agent.run}/alone.sock"
+            self.does("nothing runs", agent.act("monitor"), NOT_RUNNING)
+            self.does("there is nothing to stop", agent.act("stop"), OK)
+            self.does("it starts", agent.act("start"), OK)
+            self.does("it serves", agent.act("monitor"), OK)
+            self.does("it runs already", agent.act("start"), OK)
+            with agent.session() as server:
+                item = server.create("Item")
+                item.Count = 7
+            with Agent(store=agent.store) as other:
+                self.does("another one over the same store", other.act("start", timeout=8), GENERIC, "in use by another process")
+            with agent.session("alone.sock") as server:
+                server.object(1, "Item").Count = 8
+                self.does("a client has it alone, the others wait", agent.act("monitor", patience="1"), OK)
+            number, server = agent.number(), agent.server()
+            self.does("it stops", agent.act("stop"), OK)
+            self.tell("no process is left", has_ended(number) and has_ended(server))
+            self.does("nothing runs any more", agent.act("monitor"), NOT_RUNNING)
+            self.does("it starts again", agent.act("start"), OK)
+            with agent.session() as server:
+                self.tell("what was put is there", server.object(1, "Item").Count == 8)
+
+    def test_what_monitor_sees(self):
+        """A gateway that was killed, one whose server does not answer, and one that was told to end by somebody else."""
+        with Agent() as agent:
+            agent.act("start")
+            os.kill(agent.server(), signal.SIGKILL)
+            deadline = time.monotonic() + SECONDS
+            while agent.act("monitor")[0] != OK and time.monotonic() < deadline:
+                time.sleep(0.1)
+            self.does("the gateway has started a killed server again", agent.act("monitor"), OK)
+            server = agent.server()
+            os.kill(server, signal.SIGSTOP)
+            self.does("a server that does not answer", agent.act("monitor", patience="1"), GENERIC, "no answer within 1 s")
+            self.does("it is stopped all the same", agent.act("stop", timeout=8), OK)
+            self.tell("and is not left", has_ended(server))
+            agent.act("start")
+            parent = int(open(f"{agent.run}/it.pid").read())
+            for it in (parent, agent.number()):
+                os.kill(it, signal.SIGKILL)
+            self.does("a gateway that was killed", agent.act("monitor"), GENERIC, "was killed|does not serve")
+            self.does("it starts again", agent.act("start"), OK)
+            os.kill(agent.number(), signal.SIGTERM)
+            while agent.act("monitor")[0] in (OK, GENERIC) and time.monotonic() < deadline:
+                time.sleep(0.1)
+            self.does("one that has ended in order", agent.act("monitor"), NOT_RUNNING)
+
+    def test_a_device_that_fails(self):
+        with Agent() as agent:
+            failing = agent.script("failing", f'LD_PRELOAD={library("fails", FAILS)[0]} SYNCS=40 exec {PROGRAM} "$@"')
+            self.does("it starts", agent.act("start", program=failing), OK)
+            with agent.session() as server, contextlib.suppress(oaut.Fault):
+                item = server.create("Item")
+                for it in range(100):
+                    item.Count = it
+            self.does("it is not for this host", agent.act("monitor"), INSTALLED, "device has failed here")
+            deadline = time.monotonic() + SECONDS
+            while not os.path.exists(f"{agent.run}/it.status") and time.monotonic() < deadline:
+                time.sleep(0.1)
+            self.does("nor once it has ended", agent.act("monitor"), INSTALLED, "device has failed here")
+            self.does("it stops", agent.act("stop"), OK)
+            self.does("that is all of it", agent.act("monitor"), NOT_RUNNING)
+
+    def test_what_is_refused(self):
+        with Agent() as agent:
+            rows = [
+                ("all is there", "validate-all", {}, OK, ""),
+                ("no store is named", "validate-all", {"store": None}, CONFIGURED, "store is not given"),
+                ("a store by no whole path", "validate-all", {"store": "it.store"}, CONFIGURED, "from / on"),
+                ("no gateway", "validate-all", {"gateway": "/nowhere/oaut-gateway"}, INSTALLED, "no program /nowhere/oaut-gateway"),
+                ("no program", "monitor", {"program": "/nowhere/oaut"}, INSTALLED, "no program /nowhere/oaut"),
+                ("no such user", "start", {"user": "no-such-user"}, INSTALLED, "no user no-such-user"),
+                ("a store that is not there is asked for by start alone", "monitor", {"store": "/nowhere/it.store"}, NOT_RUNNING, ""),
+                ("there it is refused", "start", {"store": "/nowhere/it.store"}, ARGUMENTS, "no store /nowhere/it.store"),
+                ("an option that is none", "start", {"options": "--nothing 1"}, CONFIGURED, "--nothing"),
+                ("what has to be done before it fails", "start", {"before": "echo not equal; false"}, GENERIC, "not equal"),
+                ("an action that is none", "promote", {}, UNIMPLEMENTED, ""),
+            ]
+            for name, action, given, status, says in rows:
+                self.does(name, agent.act(action, timeout=7, **given), status, says)
+                agent.act("stop")
+            with open(f"{agent.room}/no.store", "wb"):
+                pass
+            self.does("a file that is no store", agent.act("start", store=f"{agent.room}/no.store"), INSTALLED, "not a store|not started again")
+
+    def test_probe(self):
+        """What is answered decides: a server of this test answers in the gateway's place."""
+
+        def record(code):
+            return struct.pack("<IIIII", 16, 1, code, oaut.NO_INDEX, 0)
+
+        rows = [
+            ("a refusal of a server that serves", record(BAD_INDEX), 0),
+            ("E_FAIL", record(E_FAIL), 3),
+            ("STG_E_WRITEFAULT", record(WRITE_FAULT), 3),
+            ("no answer", None, 1),
+            ("a part of one", record(BAD_INDEX)[:7], 1),
+            ("the end", b"", 1),
+        ]
+        with tempfile.TemporaryDirectory() as room, socket.socket(socket.AF_UNIX) as listener:
+            listener.bind(f"{room}/it.sock")
+            listener.listen()
+            for name, answer, wanted in rows:
+                held = []
+
+                def serve():
+                    sock, _ = listener.accept()
+                    held.append((sock, sock.recv(64)))
+                    if answer is not None:
+                        sock.sendall(answer)
+                        sock.shutdown(socket.SHUT_WR)
+
+                thread = threading.Thread(target=serve)
+                thread.start()
+                status = subprocess.run([built()[0], "probe", f"{room}/it.sock", "0.5"], stdout=subprocess.PIPE, stderr=subprocess.PIPE, timeout=SECONDS).returncode
+                thread.join()
+                self.tell(name, status == wanted, status)
+                self.tell(f"{name}: a TYPEINFO of no interface was asked", held[0][1] == struct.pack("<IIHHII", 16, 1, 10, 0, 0xFFFF_FFFF, 0), held[0][1])
+                held[0][0].close()
+            for name, words, wanted in (("no such socket", [f"{room}/no.sock", "1"], 1), ("no seconds", [f"{room}/it.sock", "x"], 2), ("none at all", [f"{room}/it.sock", "0"], 2)):
+                self.tell(name, subprocess.run([built()[0], "probe", *words], stderr=subprocess.PIPE, timeout=SECONDS).returncode == wanted)
+
+    def test_what_the_package_has(self):
+        self.tell("it may be run", stat.S_IMODE(os.stat(AGENT).st_mode) & 0o111 == 0o111)

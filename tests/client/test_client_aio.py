@@ -108,7 +108,7 @@ class Awaited(ClientCases):
                 await item.get("Count")
                 self.tell("no answer in time", False)
             except oaut.TimedOut as end:
-                self.same("no answer in time", str(end), "no answer within 0.2 seconds")
+                self.same("no answer in time", (str(end), end.may_stand), ("no answer within 0.2 seconds; what was asked is done or not, wholly", True))
             await server.close()
             for name, opening, kind in (
                 ("no program", aio.play(FULL, program="no-such-oaut"), oaut.ProgramNotFound),

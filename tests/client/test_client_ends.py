@@ -80,6 +80,9 @@ def counted(path):
             time.sleep(0.02)
 
 
+WHOLLY = "; what was asked is done or not, wholly"
+
+
 class Ends(ClientCases):
     def test_a_program_that_is_killed(self):
         server = play(FULL)
@@ -138,7 +141,7 @@ class Ends(ClientCases):
                         item.Count = number
                 self.same("a session over a socket", item.Count, I4(1_999))
                 ours.shutdown(socket.SHUT_WR)
-                self.raises("a socket whose server ends", oaut.Stopped, lambda: item.Count, "the server has ended")
+                self.raises("a socket whose server ends", oaut.Stopped, lambda: item.Count, f"the server has ended{WHOLLY}", may_stand=True)
             self.same("the server's status", child.wait(300), 0)
         ours.close()
 
@@ -153,7 +156,7 @@ class Ends(ClientCases):
             ours, theirs = socket.socketpair()
             with theirs, ours:
                 server, begun = over[how](ours), time.monotonic()
-                self.raises(f"{name} over {how}", oaut.TimedOut, lambda: server.exchange(asks), "no answer within 0.05 seconds", status=None, fault=None)
+                self.raises(f"{name} over {how}", oaut.TimedOut, lambda: server.exchange(asks), f"no answer within 0.05 seconds{WHOLLY}", status=None, fault=None, may_stand=True)
                 self.raises(f"{name} over {how}, and behind it", oaut.TimedOut, lambda: server.create("Item"))
                 self.tell(f"{name} over {how} takes no longer", time.monotonic() - begun < 5, time.monotonic() - begun)
                 server.close()
@@ -169,7 +172,7 @@ class Ends(ClientCases):
             self.same(f"{name}: in time", later.value, I4(7))
             os.kill(server._connection.child.pid, signal.SIGSTOP)
             server._connection.timeout = 0.2
-            self.raises(f"{name} of a program that is stopped", oaut.TimedOut, lambda: act(item), "no answer within 0.2 seconds")
+            self.raises(f"{name} of a program that is stopped", oaut.TimedOut, lambda: act(item), f"no answer within 0.2 seconds{WHOLLY}", may_stand=True)
             self.same(f"{name}: the program is killed", server._connection.child.returncode, -signal.SIGKILL)
             server.close()
 

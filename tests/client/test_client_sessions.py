@@ -240,7 +240,7 @@ class Dialled(ClientCases):
                     item.Grid = [1, 2]
                     item.Grid.lock()
                     self.let_go(seen, 3)
-                    self.raises("locks go with a connection", oaut.Stopped, lambda: item.Count)
+                    self.raises("locks go with a connection", oaut.Stopped, lambda: item.Count, may_stand=False)
                     self.same("no other is made", len(seen), 3)
                 server = oaut.connect(f"{room}/socket", timeout=60)
                 item = server.object(1, "Item")
@@ -248,8 +248,45 @@ class Dialled(ClientCases):
                 server._connection.drop()
                 os.kill(fourth.pid, signal.SIGSTOP)
                 threading.Timer(0.2, fourth.kill).start()
-                self.raises("nothing is behind a request that was sent and not answered", oaut.Stopped, lambda: setattr(item, "Count", 9), "the server has ended")
+                self.raises("nothing is behind a request that was sent and not answered", oaut.Stopped, lambda: setattr(item, "Count", 9), "the server has ended; what was asked is done or not, wholly", may_stand=True)
                 self.same("no connection is made for it", len(seen), 4)
+                server.close()
+
+    def test_an_address_that_is_taken_over(self):
+        """Nobody is there for a while, then somebody who hangs up at once, as what passes connections on does, then a server."""
+        with stores_of() as path, tempfile.TemporaryDirectory() as room:
+            at, words = f"{room}/socket", [PROGRAM, "serve", path, FULL, "--group", "64"]
+            self.raises("nobody comes", FileNotFoundError, lambda: oaut.connect(at, patience=0.3))
+            with contextlib.ExitStack() as until:
+                seen = []
+
+                def take_over():
+                    time.sleep(0.3)
+                    with socket.socket(socket.AF_UNIX) as sock:
+                        sock.bind(at)
+                        sock.listen()
+                        for _ in range(2):
+                            sock.accept()[0].close()
+                    os.unlink(at)
+                    time.sleep(0.3)
+                    seen.append(until.enter_context(self.listening(at, words)))
+
+                def taken_over(act):
+                    thread = threading.Thread(target=take_over)
+                    thread.start()
+                    try:
+                        return act()
+                    finally:
+                        thread.join()
+
+                server = taken_over(lambda: oaut.connect(at, timeout=60, patience=60))
+                item = server.create("Item")
+                item.Count = 7
+                self.same("a session begins once somebody serves", item.Count, I4(7))
+                server._connection.drop()
+                os.unlink(at)
+                self.let_go(seen[0], 1)
+                self.same("one that goes on waits too", taken_over(lambda: item.Count), I4(7))
                 server.close()
 
     def test_another_server_behind_the_address(self):

@@ -404,6 +404,7 @@ class Server:
         except asyncio.TimeoutError:
             if self._end is None:
                 self._end = TimedOut(f"no answer within {self._timeout:g} seconds")
+                self._end.may_stand = True
                 if self._child is not None:
                     self._child.kill()
                 self._writer.close()
@@ -438,6 +439,7 @@ class Server:
             self._writer.close()
             stopped = await self._ended()
             if self._end is None:
+                stopped.may_stand = any(future is not None for _, future in self._due)
                 self._end = end or stopped
             for _, future in self._due:
                 if future is not None and not future.done():

@@ -32,7 +32,14 @@ class Stopped(Fault):
     """The session has ended. `fault` is the line that the program left on standard error, `cause`
     what the system said of a file that cannot be read or written, `status` the program's exit
     status (negative for a signal). All are None where no program was started here, `fault` where
-    it wrote none, and `cause` where it told of no file."""
+    it wrote none, and `cause` where it told of no file. `may_stand` says that a request was sent
+    and not answered: what it asked is done or not, wholly, which a get in another session tells."""
+
+    may_stand = False
+
+    def __str__(self) -> str:
+        told = super().__str__()
+        return f"{told}; what was asked is done or not, wholly" if self.may_stand else told
 
     def __init__(
         self,

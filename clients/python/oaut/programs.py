@@ -1,6 +1,7 @@
 """Where a session comes from: a program that is started here, or streams that reach one."""
 from __future__ import annotations
 
+import contextlib
 import errno
 import io
 import mmap
@@ -9,10 +10,11 @@ import socket
 import subprocess
 import sysconfig
 import tempfile
+import time
 import typing
 
 from . import store as stores
-from .connection import Connection
+from .connection import Connection, Ended, Late
 from .faults import (
     Fault,
     LibraryDiffers,
@@ -26,7 +28,7 @@ from .faults import (
 from .framing import FRAMING, FRAMINGS
 from .paths import Path as Path
 from .paths import beside, named, place_of, text_file
-from .protocol import GROUP
+from .protocol import END, GROUP
 from .session import Server, ending
 
 # a program's path, or the words of a command line in front of its own: ["ssh", "host", "oaut"]
@@ -35,6 +37,15 @@ Program = typing.Union[Path, typing.Sequence[str]]
 Address = typing.Union[Path, typing.Tuple[str, int]]
 # the program that was installed with this package, or else the one of this name on the path
 PROGRAM = "oaut"
+# the seconds of one try to reach an address, and between two
+_TRY, _PAUSE = 2.0, 0.1
+# a machine silent for 5 s is asked three times, every 5 s; what was sent has to be taken in 20
+_WATCH = (
+    ("TCP_KEEPIDLE", 5),
+    ("TCP_KEEPINTVL", 5),
+    ("TCP_KEEPCNT", 3),
+    ("TCP_USER_TIMEOUT", 20_000),
+)
 
 
 def words_of_program(program: Program) -> typing.List[str]:
@@ -139,6 +150,7 @@ def connect(
     group: typing.Optional[int] = None,
     *,
     timeout: typing.Optional[float] = None,
+    patience: float = 0,
 ) -> Server:
     """A session over an address (the path of a socket, or host and port), a socket, or two streams
     of bytes: what is written to `writer` reaches a server's standard input, and `reader` has its
@@ -146,7 +158,8 @@ def connect(
     has to be said. Closing it closes both streams, and not a socket that was given. Where an
     address was given and the server lets the connection go while nothing is asked of it, it is
     dialled again once something is. With `timeout`, a number of seconds, what waits longer for a
-    reply raises TimedOut."""
+    reply raises TimedOut. With `patience`, a number of seconds too, an address where nobody serves
+    is dialled that long until somebody does, both times: another machine may take it over."""
     how = {"group": group, "ends": group != 1}
     if isinstance(reader, socket.socket):
         return _session(Connection(reader, reader, framing, timeout), "a socket", how)
@@ -155,6 +168,8 @@ def connect(
         name = ":".join(map(str, address)) if isinstance(address, tuple) else os.fspath(address)
 
         def dial() -> Connection:
+            if patience > 0:
+                return _patiently(address, framing, timeout, patience)
             sock = dialled(address, timeout)
             return Connection(sock, sock, framing, timeout, owned=True)
 
@@ -162,6 +177,34 @@ def connect(
     if writer is None:
         raise TypeError("connect takes an address, a socket, or a reader and a writer")
     return _session(Connection(reader, writer, framing, timeout), "streams", how)
+
+
+def _patiently(
+    address: Address, framing: str, timeout: typing.Optional[float], patience: float
+) -> Connection:
+    """A connection whose other side has answered END, which asks for nothing: what only passes
+    connections on, as stunnel and ssh do, lets one go where nobody serves behind it."""
+    until = time.monotonic() + patience
+    while True:
+        left = until - time.monotonic()
+        try:
+            sock = dialled(address, max(0.1, min(_TRY, left)))
+            connection = Connection(sock, sock, framing, max(0.1, left), owned=True)
+            try:
+                connection.exchange([END])
+            except BaseException:
+                connection.close(late=True)
+                raise
+            connection.timeout = timeout
+            sock.settimeout(timeout)
+            return connection
+        except (OSError, Ended, Late) as error:
+            if time.monotonic() >= until:
+                if isinstance(error, OSError):
+                    raise
+                told = f"nobody has served there for {patience:g} seconds"
+                raise ConnectionRefusedError(errno.ECONNREFUSED, told) from None
+        time.sleep(_PAUSE)
 
 
 def _session(connection: Connection, name: str, how: typing.Dict[str, typing.Any]) -> Server:
@@ -173,6 +216,7 @@ def dialled(address: Address, timeout: typing.Optional[float]) -> socket.socket:
         sock = socket.create_connection(address, timeout)
         # a request leaves when it is sent
         sock.setsockopt(socket.IPPROTO_TCP, socket.TCP_NODELAY, 1)
+        _watch(sock)
         return sock
     sock = socket.socket(socket.AF_UNIX)
     try:
@@ -182,6 +226,16 @@ def dialled(address: Address, timeout: typing.Optional[float]) -> socket.socket:
         sock.close()
         raise
     return sock
+
+
+def _watch(sock: socket.socket) -> None:
+    """Has the system notice within some 20 seconds that the other machine is gone, as far as it
+    can: who waits for a reply of it would else wait for ever."""
+    sock.setsockopt(socket.SOL_SOCKET, socket.SO_KEEPALIVE, 1)
+    for name, value in _WATCH:
+        if hasattr(socket, name):
+            with contextlib.suppress(OSError):
+                sock.setsockopt(socket.IPPROTO_TCP, getattr(socket, name), value)
 
 
 def make_store(

@@ -334,11 +334,13 @@ class Server:
                     self._wrong_tag(reply)
         except Ended:
             self._end = self._finish()
+            self._end.may_stand = True
             raise self._end from None
         except Late:
             self._late()
         except Malformed:
             self._end = Stopped("the server has sent what is no reply")
+            self._end.may_stand = True
             raise
         if self.trace is not None:
             for reply in replies:
@@ -389,6 +391,7 @@ class Server:
         timeout = self._connection.timeout
         within = "in time" if timeout is None else f"within {timeout:g} seconds"
         self._end = TimedOut(f"no answer {within}")
+        self._end.may_stand = True
         self._finish(late=True)
         raise self._end
 

@@ -17,6 +17,7 @@ is ended again, by its number. No machine's power is cut: what a server's cache 
     idle      the same with a first machine that waits, and puts once its link is there again: the lock has to fence it
     apart     the last gate stands in one replica alone, as a mount leaves it that dies between its writes; the second machine opens the store and puts; then it is healed
     healed    the same, healed before the second machine opens it
+    rewritten the same, not healed: the second machine writes the store's bytes over themselves before it opens it (dist/lib/rewrite)
 
 Each round ends with all mounted anew and healed; then each machine and each replica have to show what was acknowledged. In `apart` there may be losses; elsewhere each one is a fault.
 """
@@ -354,7 +355,7 @@ class Trial:
         self.free = time.monotonic() - killed
         self.judge(puts, "two")
 
-    def apart(self, turn, size, heals=False):
+    def apart(self, turn, size, heals=False, rewrites=False):
         paths = [self.store(it) for it in (1, 2, 3)]
         with open(paths[0], "rb") as file:
             before = file.read()
@@ -374,11 +375,17 @@ class Trial:
             self.site.heal()
         for who in MACHINES:
             self.site.mount(who)
+        if rewrites:
+            status, said = did(f"{ROOT}/dist/lib/rewrite", self.store("two"))
+            assert status == 0, said
         self.found = self.held("two")
         self.judge(self.puts(self.store("two"), 1, 40).end(), "two")
 
     def healed(self, turn, size):
         self.apart(turn, size, True)
+
+    def rewritten(self, turn, size):
+        self.apart(turn, size, rewrites=True)
 
     def rounds(self, name, times):
         losses, waits, codes = 0, [], []
@@ -419,7 +426,7 @@ class Trial:
             print(f"groups of {size}: {far:,.0f} puts a second, {local:,.0f} beside the volume: {far / local:.3f} of it", flush=True)
 
 
-ROUNDS = "rates lock server replica replicas mount cut idle apart healed".split()
+ROUNDS = "rates lock server replica replicas mount cut idle apart healed rewritten".split()
 parser = argparse.ArgumentParser(description=__doc__, formatter_class=argparse.RawDescriptionHelpFormatter)
 parser.add_argument("--program", metavar="PATH", default=f"{ROOT}/crates/oaut/out/oaut")
 parser.add_argument("--rounds", metavar="N", type=int, default=4)

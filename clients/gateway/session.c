@@ -112,14 +112,16 @@ static bool ask_lock(Client *c, const char *record, size_t size) {
     append(&to_server, &server_bytes, record, size);
     return true;
 }
-/* Its reply has come; `c` is none where the client has gone. */
+/* Its reply has come; `c` is none where the client has gone. Held it is behind a LOCK that was done, and behind an UNLOCK that was not. */
 static void lock_answered(Part *part, Client *c, uint32_t code) {
+    bool is_held = (part->opcode == LOCK) == !code;
     if (c && part->opcode == LOCK) c->locking--;
-    if ((part->opcode == LOCK) == !code && c) {
+    if (!is_held) drop(part->lock, c);
+    else if (!c) give_back(part->lock);
+    else {
         part->lock->next = c->locks;
         c->locks = part->lock;
-    } else if (part->opcode == LOCK && !code) give_back(part->lock);
-    else drop(part->lock, c);
+    }
     part->lock = NULL;
 }
 

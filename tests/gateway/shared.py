@@ -65,6 +65,9 @@ class Shared:
             refused = struct.unpack_from("<I", self.replies, at + 8)[0]
             if act == LOCK and not refused:
                 client.locks[key, bytes(record)] += 1
+            elif act == UNLOCK and not refused:
+                client.locks[key] -= 1
+                client.locks += collections.Counter()
             if number is not None:
                 self.tell(number, bytes(self.replies[at : at + 4 + size]))
             at += 4 + size
@@ -104,8 +107,7 @@ class Shared:
             found = next((it for it in client.locks if it[0] == key), None)
             if found is None:
                 return self.tell(number, struct.pack("<I4sIII", 16, body[:4], UNEXPECTED, 0xFFFFFFFF, 0))
-            client.locks[found] -= 1
-            client.locks += collections.Counter()
+            key = found
         return self.ask(record, client, number, opcode or None, key)
 
     def ends(self, number):

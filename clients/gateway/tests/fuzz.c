@@ -121,6 +121,7 @@ static void makes_record(Man *m, unsigned what) {
     record[8] = (char)opcode;
     record[12] = (char)(what >> 3 & 3);
     record[16] = (char)(what >> 5 & 3);
+    if (opcode == 9) record[40] = (char)(what >> 7); /* a word that is wrong, so that the server refuses it */
     sends_record(m, record, size);
 }
 static char harmless(unsigned it) { return (char)(it == 8 || it == 9 || (it >= MARK && it < MARK + MEN) || strchr("489", (int)it) ? '3' : it); }
@@ -207,7 +208,7 @@ static void serve_one(const char *record, size_t n, Man *from) {
     assert(!from || !of || from == of);
     if (n >= 68 && (record[8] == 8 || record[8] == 9) && !record[9] && of) {
         unsigned cell = (record[12] & 3) | (record[16] & 3) << 2;
-        if (record[8] == 8 && (tag & 7) == 7) code = 0x8002000D;
+        if (record[40] || (record[8] == 8 && (tag & 7) == 7)) code = 0x8002000D;
         else if (record[8] == 8) {
             locks[cell]++;
             of->held[cell]++;

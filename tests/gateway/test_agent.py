@@ -191,6 +191,10 @@ class AgentCases(Cases):
             for name, action, given, status, says in rows:
                 self.does(name, agent.act(action, timeout=7, **given), status, says)
                 agent.act("stop")
+            taken = 'if [ "$1" = serve ]; then echo "oaut: cannot read it.store" >&2; echo "it.store: in use by another process" >&2; exit 1; fi'
+            late = agent.script("late", f'{taken}\nexec {PROGRAM} "$@"')
+            self.does("a store that another one takes in between", agent.act("start", timeout=8, program=late), GENERIC, "in use by another process")
+            agent.act("stop")
             with open(f"{agent.room}/no.store", "wb"):
                 pass
             self.does("a file that is no store", agent.act("start", store=f"{agent.room}/no.store"), INSTALLED, "not a store|not started again")

@@ -99,7 +99,7 @@ primitive files ocf:heartbeat:Filesystem \\
     op start timeout=60s op stop timeout=20s op monitor interval=10s timeout=20s
 primitive server ocf:oaut:gateway \\
     params store=/srv/stores/items.store before="/usr/lib/oaut/rewrite /srv/stores/items.store" \\
-    op start timeout=60s op stop timeout=20s op monitor interval=3s timeout=15s
+    op start timeout=60s op stop timeout=20s op monitor interval=3s timeout=20s
 primitive address ocf:heartbeat:IPaddr2 \\
     params ip=10.78.0.100 cidr_netmask=24 nic=clients \\
     op monitor interval=5s

@@ -13,6 +13,7 @@ pub mod Tags
 pub mod Beginning
 pub mod OneState
 -- what this crate alone does
+mod LockAsked
 mod Wants
 mod Releases
 mod Refused

@@ -9,3 +9,4 @@ pub mod Renewals
 pub mod Beginnings
 pub mod Traces
 pub mod OwnCodes
+pub mod Locking

@@ -3,6 +3,8 @@ ghost use Rattle.std.specs.Prelude.{◌≡◌, ℕ, IfErr, IsOk, OnErr};
 ghost use Rattle.oa_model.specs.Codes.{e_outofmemory};
 ghost use Rattle.oa_turn.specs.Changes.{ChangesTable, MakesTable, RelocksTable};
 ghost use Rattle.oa_turn.specs.Limits.{IsSoundTable};
+ghost use Rattle.oa_turn.specs.Locking.{table_or};
+ghost use Rattle.oa_turn.specs.Steps.{relocked};
 ghost use Rattle.oa_decision.specs.Limits.{StaysWithin, allowed};
 ghost use Rattle.oa_decision.specs.declared.decision.LockChange.TheVariants.{Lock as ALock, Unlock as AnUnlock};
 ghost use Rattle.oa_table.specs.Events.{BringsNoLocks};
@@ -87,4 +89,13 @@ fn unlock(table: &mut Table, name: CellName) -> Result<(), TableFault>
 {
     table.unlock(&name)?;
     Ok(())
+}
+
+/// Takes a lock of an array away, where it has one. Takes no memory.
+pub(crate) fn take_lock_back(table: &mut Table, name: &CellName)
+    ensures change { table.new ≡ table_or table.old (relocked (AnUnlock name.now) table.old) }
+    ensures same { unlocked_table table.new ≡ unlocked_table table.old }
+    ensures sound { (bank : ℕ) → IsSoundTable bank table.old → IsSoundTable bank table.new }
+{
+    if let Err(_) = table.unlock(name) {}
 }

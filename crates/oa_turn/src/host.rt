@@ -28,6 +28,7 @@ use oa_typelib::Library;
 use std::alloc::{AllocError, Global};
 use std::marker::Model;
 
+pub(crate) mod locking;
 pub(crate) mod renewal;
 
 /// A library and a table of its objects, in memory, and how large the table may grow: what a server's answers depend on.

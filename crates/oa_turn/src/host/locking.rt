@@ -1,0 +1,98 @@
+//! Which lock a body asks to be changed, and locks that are taken back without a request.
+ghost use Rattle.std.specs.Prelude.{◌≡◌, ◌⊎◌, true, Some, None, Ok};
+ghost use Rattle.oa_decision.specs.declared.decision.LockChange.TheVariants.{Unlock as AnUnlock};
+ghost use Rattle.oa_record.specs.Replacement.{is_replacement};
+ghost use Rattle.oa_turn.specs.Locking.{FindsLock, FindsLockBy, asks_lock, changes_lock, is_lock};
+ghost use Rattle.oa_turn.specs.Plans.{HoldsSame};
+ghost use Rattle.oa_turn.specs.Steps.{after_locks};
+
+use super::Host;
+use crate::changes::take_lock_back;
+use oa_decision::{Decision, LockChange, Undecided};
+use oa_record::laws::{one_request, opcode_stands, refused_asks_nothing};
+use oa_record::{Opcode, RecordFault, Request, opcode_of, read_request};
+use oa_table::CellName;
+use std::alloc::AllocError;
+
+impl Host {
+    /// The lock that a body asks to be changed, where it is a LOCK or an UNLOCK of an array that is there; None for every other body. Only
+    /// reads. Err where memory is refused.
+    pub fn lock_asked(&self, body: &[u8]) -> Result<Option<LockChange>, AllocError>
+        ensures finds { FindsLock self.now body.now result }
+        ensures plain { is_replacement body.now ≡ true → result ≡ Ok None }
+    {
+        opcode_stands();
+        if !asks_lock(body) {
+            return Ok(None);
+        }
+        self.lock_in(body)
+    }
+
+    /// The same of any body.
+    fn lock_in(&self, body: &[u8]) -> Result<Option<LockChange>, AllocError>
+        ensures { FindsLock self.now body.now result }
+    {
+        one_request();
+        refused_asks_nothing();
+        match read_request(self.alloc, body) {
+            Ok(request) => self.lock_by(request),
+            Err(RecordFault::Memory) => Err(AllocError),
+            Err(RecordFault::Stub) => Ok(None),
+            Err(RecordFault::BadVarType(_)) => Ok(None),
+        }
+    }
+
+    /// The same of a request.
+    fn lock_by(&self, request: Request) -> Result<Option<LockChange>, AllocError>
+        ensures { FindsLockBy self.now request result }
+    {
+        if !changes_lock(&request) {
+            return Ok(None);
+        }
+        match self.decide(request) {
+            Ok(Decision::Relock { change, .. }) => Ok(Some(change)),
+            Ok(Decision::Answer { .. }) => Ok(None),
+            Ok(Decision::Change { .. }) => Ok(None),
+            Err(Undecided::Refused(_)) => Ok(None),
+            Err(Undecided::OutOfMemory) => Err(AllocError),
+        }
+    }
+
+    /// Takes a lock of the array in a cell back, where it has one. Takes no memory.
+    pub fn take_back(&mut self, name: &CellName)
+        ensures state { self.new ≡ after_locks self.old (Some (AnUnlock name.now)) }
+        ensures same { HoldsSame self.old self.new }
+    {
+        take_lock_back(&mut self.table, name);
+    }
+}
+
+/// Whether it is a LOCK or an UNLOCK.
+fn changes_lock(request: &Request) -> bool
+    ensures { result ≡ changes_lock request.now }
+{
+    match request {
+        Request::Lock(_) | Request::Unlock(_) => true,
+        _ => false,
+    }
+}
+
+/// Whether the opcode in a body is that of a LOCK or of an UNLOCK.
+fn asks_lock(body: &[u8]) -> bool
+    ensures { result ≡ asks_lock body.now }
+{
+    match opcode_of(body) {
+        Some(opcode) => is_lock(opcode),
+        None => false,
+    }
+}
+
+/// Whether it is the opcode of a LOCK or of an UNLOCK.
+fn is_lock(opcode: Opcode) -> bool
+    ensures { result ≡ is_lock opcode }
+{
+    match opcode {
+        Opcode::Lock | Opcode::Unlock => true,
+        _ => false,
+    }
+}

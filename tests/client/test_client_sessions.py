@@ -289,6 +289,13 @@ class Dialled(ClientCases):
                 self.same("one that goes on waits too", taken_over(lambda: item.Count), I4(7))
                 server.close()
 
+    def test_a_machine_that_is_gone_is_noticed(self):
+        with socket.create_server(("127.0.0.1", 0)) as listener, contextlib.closing(oaut.programs.dialled(listener.getsockname(), 10)) as sock:
+            self.tell("the system asks a silent machine", sock.getsockopt(socket.SOL_SOCKET, socket.SO_KEEPALIVE) == 1)
+            if hasattr(socket, "TCP_KEEPIDLE"):
+                waits = [sock.getsockopt(socket.IPPROTO_TCP, getattr(socket, f"TCP_KEEP{it}")) for it in ("IDLE", "INTVL", "CNT")]
+                self.same("within 20 seconds", (waits[0] + waits[1] * waits[2], sock.getsockopt(socket.IPPROTO_TCP, socket.TCP_USER_TIMEOUT)), (20, 20_000))
+
     def test_another_server_behind_the_address(self):
         with tempfile.TemporaryDirectory() as room:
             with self.listening(f"{room}/socket", [PROGRAM, "play", FULL]) as seen:

@@ -1,5 +1,7 @@
 pub mod Serving
 pub mod Requests
+pub mod Sharing
+pub mod SharedRequests
 pub mod Openings
 pub mod OpenGroups
 pub mod Answers

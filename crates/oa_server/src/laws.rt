@@ -13,6 +13,7 @@ ghost use Rattle.oa_turn.specs.Beginnings.{CanBegin};
 ghost use Rattle.oa_turn.specs.Events.{change_bytes};
 ghost use Rattle.oa_turn.specs.Limits.{least_bank};
 ghost use Rattle.oa_server.specs.Requests.{opened, requests};
+ghost use Rattle.oa_server.specs.SharedRequests.{shared_requests};
 ghost use Rattle.oa_decision.specs.States.{State, state_of};
 ghost use Rattle.oa_turn.specs.Steps.{outcome};
 ghost use Rattle.oa_turn.specs.Turns.{Turn};
@@ -114,4 +115,17 @@ pub fn a_stop_keeps_what_was_answered<D: Disk>()
     ensures all { EndCountsAll requests D.Disk }
     // So it is a link of the history of a store.
     ensures link { StopIsLink requests D.Disk }
+{}
+
+/// What holds of sessions, of stops and of the history of a store holds of the requests of many clients too, which stand in one order, with
+/// the ends of these clients among them; and so does that refused requests leave no trace.
+pub fn many_clients<D: Disk>()
+    ensures headline { HistoryKeepsAnswered shared_requests D.Disk }
+    ensures others { OthersAreRun shared_requests }
+    ensures opened { OpeningBegins shared_requests D.Disk }
+    ensures called { CallCounts shared_requests D.Disk }
+    ensures goes_on { CallGoesOn shared_requests D.Disk }
+    ensures late { LateCallCounts shared_requests D.Disk }
+    ensures one { OneFault shared_requests D.Disk }
+    ensures stopped { StopKeepsAnswered shared_requests D.Disk }
 {}

@@ -4,8 +4,9 @@
     python3 tools/trusted.py LOG PROGRAM            compares the page with LOG, what `rt ci` printed, and with the built program
     python3 tools/trusted.py --write LOG PROGRAM    writes it into the page
 
-Of the program's crate the build names each library whose statements it took as proved, and how many functions in C of each have contracts
-that it assumed. `nm` names the functions that the linked program takes of the C library.
+Of the program's crate the build names each library whose statements it took as proved (the kit's: those of this repository it has proved in the same run, or
+in an earlier one over the same files), and how many functions in C of each have contracts that it assumed. `nm` names the functions that the linked program
+takes of the C library.
 """
 import os
 import re
@@ -14,7 +15,8 @@ import subprocess
 import sys
 import textwrap
 
-PAGE = os.path.join(os.path.dirname(os.path.dirname(os.path.abspath(__file__))), "docs", "trusted.md")
+ROOT = os.path.dirname(os.path.dirname(os.path.abspath(__file__)))
+PAGE = f"{ROOT}/docs/trusted.md"
 BLOCK = re.compile(r"(?<=```text\n).*?(?=```)", re.DOTALL)
 NOT_OF_C = ("_ITM_", "__gmon_start__", "__cxa_finalize", "__libc_start_main")  # of the loader
 
@@ -27,7 +29,7 @@ def said_of(log):
         return None
     said = lines[lines.index("== oaut") : lines.index("rt: oaut proved")]
     verdict = next(line for line in reversed(said) if line.startswith("logic=proved") and " axioms=" in line)
-    statements = [found[1] for found in (re.match(r"statements (\w+):", line) for line in said) if found]
+    statements = [found[1] for found in (re.match(r"statements (\w+):", line) for line in said) if found and not os.path.isdir(f"{ROOT}/crates/{found[1]}")]
     axioms = [(found[1], found[2] or "0", found[3]) for found in (re.match(r"axioms (\w+): .*?(?:\((\d+) of|none reached of) the (\d+) declared", line) for line in said) if found]
     words = dict(word.split("=", 1) for word in verdict.split() if "=" in word)
     return statements, axioms, words

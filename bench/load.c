@@ -19,7 +19,7 @@
 #include <time.h>
 #include <unistd.h>
 
-enum { PUT = 108, REPLY = 20, STEPS = 1000000 }; /* the latencies are counted by 10 microseconds */
+enum { PUT = 108, REPLY = 20, STEPS = 1000000 }; /* the latencies are counted by microseconds */
 typedef struct {
     int fd;
     uint32_t sent, heard;
@@ -104,7 +104,7 @@ static void hear(Client *c) {
     size_t at = 0;
     for (; c->have - at >= REPLY; at += REPLY, c->heard++, done++) {
         if (get32(c->in + at) != REPLY - 4 || get32(c->in + at + 4) != c->heard || get32(c->in + at + 8)) fail("a reply that is none of its put");
-        double steps = (t - c->started[c->heard % pipeline]) * 1e5;
+        double steps = (t - c->started[c->heard % pipeline]) * 1e6;
         latencies[steps < STEPS - 1 ? (unsigned)steps : STEPS - 1]++;
     }
     memmove(c->in, c->in + at, c->have -= at);
@@ -149,11 +149,11 @@ int main(int argc, char **argv) {
     double middle = 0, high = 0, top = 0;
     for (unsigned i = 0; i < STEPS; i++) {
         if (!latencies[i]) continue;
-        if (sum <= count / 2) middle = i / 100.0;
-        if (sum <= count - count / 100) high = i / 100.0;
-        top = i / 100.0;
+        if (sum <= count / 2) middle = i / 1000.0;
+        if (sum <= count - count / 100) high = i / 1000.0;
+        top = i / 1000.0;
         sum += latencies[i];
     }
-    printf("%.0f %.2f %.2f %.1f\n", (double)count / (t - warmed), middle, high, top);
+    printf("%.0f %.3f %.3f %.1f\n", (double)count / (t - warmed), middle, high, top);
     return 0;
 }

@@ -111,7 +111,8 @@ class Ends(ClientCases):
         with library_of("properties: long Count;") as library:
             end = self.raises("a library that is refused", oaut.faults.LibraryRefused, lambda: play(library), status=2)
             self.tell("its fault line", (end.fault or "").startswith("oaut: syntax at byte "), end.fault)
-        self.raises("a library that is not there", oaut.Stopped, lambda: play("/none.idl"), status=1, fault="oaut: cannot read /none.idl")
+        self.raises("a library that is not there", oaut.Stopped, lambda: play("/none.idl"), status=1, fault="oaut: cannot read /none.idl", cause="No such file or directory")
+        self.raises("a folder for a library", oaut.Stopped, lambda: play("/"), status=1, fault="oaut: cannot read /", cause="Is a directory")
         for program in ("/none/oaut", "no-such-oaut", FULL + "/oaut", ["no-such-ssh", "host", "oaut"]):
             name = program if isinstance(program, str) else program[0]
             says = f"there is no program {name}: name it by program=, or have it on the path"

@@ -1,9 +1,12 @@
 """The client against the program, with objects in memory."""
+import re
 import struct
+import subprocess
+import sys
 import tempfile
 from decimal import Decimal
 
-from clients import ARRAYS, FULL, HI, LIBRARY, PROGRAM, ROOT, TABLES, ClientCases, library_of, oaut, play
+from clients import ARRAYS, ENVIRONMENT, FULL, HI, LIBRARY, PROGRAM, ROOT, TABLES, ClientCases, library_of, oaut, play
 from oaut import EMPTY, I1, I2, I4, I8, INT, NULL_BSTR, UI1, UI2, UI4, UI8, UINT, VT, Array, Currency, Error, Field
 
 TYPES = {
@@ -183,6 +186,25 @@ class Program(ClientCases):
                 print("pandas is not there: no table of it")
             else:
                 self.same("a table of pandas", [int(it) for it in pandas.DataFrame(rows)["Count"]], [0, 1, 2])
+
+    def test_a_library_to_start_from(self):
+        """Two texts of `python3 -m oaut new`: libraries that are served, with GUIDs of their own."""
+        guids = []
+        for name in ("Sheet", "x" * 57):
+            told = subprocess.run([sys.executable, "-m", "oaut", "new", name], env=ENVIRONMENT, capture_output=True, text=True)
+            self.same(f"new {name} ends well", (told.returncode, told.stderr), (0, ""))
+            with tempfile.NamedTemporaryFile("w", suffix=".idl") as file:
+                file.write(told.stdout)
+                file.flush()
+                with oaut.play(file.name, program=PROGRAM) as server:
+                    item = server.create(name)
+                    item.Cell[1, "a"], item.Numbers = "x", [1, 2]
+                    self.same(f"an object of {name}", (item.Cell[1, "a"], list(item.Numbers)), ("x", [I4(1), I4(2)]))
+            guids += re.findall(r"uuid\(([0-9a-f-]{36})\)", told.stdout)
+        self.same("GUIDs of their own", (len(guids), len({*guids})), (6, 6))
+        for name in ("", "long", "a b", "1x", "x" * 58):
+            told = subprocess.run([sys.executable, "-m", "oaut", "new", name], env=ENVIRONMENT, capture_output=True, text=True)
+            self.tell(f"new {name!r} is refused", (told.returncode, told.stdout) == (1, "") and "cannot name a coclass" in told.stderr, told)
 
     def test_many_interfaces(self):
         with tempfile.NamedTemporaryFile("w", suffix=".idl") as file:

@@ -20,8 +20,8 @@ class Stores(ClientCases):
         with tempfile.TemporaryDirectory() as room:
             STORE = f"{room}/it.store"
             serve = lambda **how: oaut.serve(STORE, FULL, program=PROGRAM, **how)
-            self.raises("a store that is not there", oaut.Stopped, serve, status=1, fault=f"oaut: cannot read {STORE}")
-            self.raises("no store for a library that is not there", oaut.Stopped, lambda: oaut.make_store(STORE, "/none.idl", program=PROGRAM), status=1, fault="oaut: cannot read /none.idl")
+            self.raises("a store that is not there", oaut.Stopped, serve, status=1, fault=f"oaut: cannot read {STORE}", cause="No such file or directory")
+            self.raises("no store for a library that is not there", oaut.Stopped, lambda: oaut.make_store(STORE, "/none.idl", program=PROGRAM), status=1, fault="oaut: cannot read /none.idl", cause="No such file or directory")
             oaut.make_store(STORE, FULL, program=PROGRAM)
             with serve() as server:
                 self.same("a new store has no objects", server.objects(), [])

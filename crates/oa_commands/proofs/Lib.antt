@@ -1,3 +1,4 @@
 pub mod Dumped
 pub mod Failing
 pub mod Printed
+mod Showing

@@ -1,7 +1,11 @@
 //! Texts of libraries, and the libraries that they stand for.
-ghost use Rattle.std.specs.Prelude.{◌≤◌, length, IfSome};
+ghost use Rattle.std.specs.Prelude.{◌≡◌, ◌≤◌, length, IfSome};
 ghost use Rattle.std.specs.Prelude.{ℕ, List, IfErr, IfOk};
 ghost use Rattle.oa_checks.specs.IsLibrary.{IsLibrary};
+ghost use Rattle.std.specs.IoError.{error_kind};
+ghost use Rattle.std.specs.declared.io.ErrorKind.TheVariants as kinds;
+ghost use Rattle.oa_commands.specs.declared.fault.Fault.TheVariants as faults;
+ghost use Rattle.oa_commands.specs.Files.{TellsUnread};
 ghost use Rattle.oa_commands.specs.Statuses.{IsOfLibrary, IsOfReading, IsOfLibraryText, IsOfTree};
 
 use crate::fault::Fault;
@@ -57,7 +61,9 @@ pub(crate) fn library_of(alloc: Global, text: &str) -> Result<Library, Fault>
 
 /// Why a file cannot be read.
 pub(crate) fn unread(alloc: Global, error: &io::Error, path: &str) -> Fault
-    ensures { IsOfReading result }
+    ensures kind { IsOfReading result }
+    ensures told { TellsUnread path.now result }
+    ensures memory { error_kind error.now ≡ kinds.OutOfMemory → result ≡ faults.Memory }
 {
     if error.kind() == ErrorKind::OutOfMemory {
         return Fault::Memory;

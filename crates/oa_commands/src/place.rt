@@ -1,4 +1,8 @@
 //! Where in a text a fault stands, for a person to read.
+ghost use Rattle.std.specs.Prelude.{◌≡◌, [], string_bytes, IfOk, OnOk};
+ghost use Rattle.oa_commands.specs.Places.{BeginsLine, ReadsCharacter, place_head, shown_in_line};
+ghost use Rattle.oa_commands.specs.Places as places;
+
 use crate::hint::word_left_out;
 use crate::shown::shown_name;
 use std::alloc::{AllocError, Global};
@@ -52,7 +56,13 @@ struct Line {
 
 impl Line {
     /// The first line of a text.
-    fn new(alloc: Global) -> Line {
+    fn new(alloc: Global) -> Line
+        ensures number { result.number ≡ 1 }
+        ensures column { result.column ≡ 1 }
+        ensures shown { string_bytes result.shown ≡ [] }
+        ensures blank { string_bytes result.blank ≡ [] }
+        ensures last { result.last ≡ 32 }
+    {
         Line {
             shown: String::new(alloc),
             blank: String::new(alloc),
@@ -63,7 +73,9 @@ impl Line {
     }
 
     /// Reads a character, of which is said whether it stands before the place.
-    fn take(&mut self, c: char, is_before: bool) -> Result<(), AllocError> {
+    fn take(&mut self, c: char, is_before: bool) -> Result<(), AllocError>
+        ensures { OnOk result (ReadsCharacter c is_before self.old self.new) }
+    {
         if is_end(c) {
             self.end(c);
         } else {
@@ -78,7 +90,9 @@ impl Line {
     }
 
     /// Begins the next line, but between a CR and its LF.
-    fn end(&mut self, c: char) {
+    fn end(&mut self, c: char)
+        ensures { BeginsLine c self.old self.new }
+    {
         if c == '\r' || self.last != '\r' {
             self.number = self.number.saturating_add(1);
         }
@@ -93,7 +107,10 @@ impl Line {
         alloc: Global,
         file: &str,
         left_out: Option<&'static str>,
-    ) -> Result<Place, AllocError> {
+    ) -> Result<Place, AllocError>
+        ensures head { IfOk result (λ place. string_bytes place.head ≡ place_head file.now self.number self.column) }
+        ensures line { IfOk result (λ place. place.line ≡ self.shown) }
+    {
         let file = shown_name(alloc, file)?;
         let head = format!(in alloc; "{file}:{}:{}: ", self.number, self.column)?;
         let blank = blanks(alloc, &head, &self.blank)?;
@@ -107,7 +124,9 @@ impl Line {
 }
 
 /// Whether a character ends a line.
-fn is_end(c: char) -> bool {
+fn is_end(c: char) -> bool
+    ensures { result ≡ places.is_end c }
+{
     c == '\n' || c == '\r'
 }
 
@@ -122,7 +141,9 @@ fn blanks(alloc: Global, head: &str, of_line: &str) -> Result<String, AllocError
 }
 
 /// A character as a line shows it: a control character would move the caret.
-fn shown(c: char) -> char {
+fn shown(c: char) -> char
+    ensures { result ≡ shown_in_line c }
+{
     if c != '\t' && c.is_control() { '?' } else { c }
 }
 

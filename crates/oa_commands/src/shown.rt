@@ -1,17 +1,29 @@
 //! Names as a line of standard error shows them.
+ghost use Rattle.std.specs.Prelude.{◌≡◌, ◌++◌, string_bytes, IfOk, OnOk};
+ghost use Rattle.oa_commands.specs.Shown.{shown_character, shown_name as as_shown};
+
 use std::alloc::{AllocError, Global};
 
 /// A file's name, with `\u{a}` and the like for its control characters: one that ends a line would break a fault in two.
-pub(crate) fn shown_name(alloc: Global, name: &str) -> Result<String, AllocError> {
+pub(crate) fn shown_name(alloc: Global, name: &str) -> Result<String, AllocError>
+    ensures { IfOk result (λ shown. string_bytes shown ≡ as_shown name.now) }
+{
     let mut shown = String::new(alloc);
     for c in name.chars() {
-        if c.is_control() {
-            for sign in c.escape_unicode() {
-                shown.push(sign)?;
-            }
-        } else {
-            shown.push(c)?;
-        }
+        push_shown(&mut shown, c)?;
     }
     Ok(shown)
+}
+
+/// Adds a character, or what stands for it.
+fn push_shown(shown: &mut String, c: char) -> Result<(), AllocError>
+    ensures { OnOk result (string_bytes shown.new ≡ string_bytes shown.old ++ shown_character c) }
+{
+    if !c.is_control() {
+        return shown.push(c);
+    }
+    for sign in c.escape_unicode() {
+        shown.push(sign)?;
+    }
+    Ok(())
 }

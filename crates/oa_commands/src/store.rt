@@ -1,5 +1,9 @@
 //! Files that hold a store.
-ghost use Rattle.std.specs.Prelude.{◌≤◌, IfErr, IfOk};
+ghost use Rattle.std.specs.Prelude.{◌≡◌, ◌≢◌, ◌≤◌, IfErr, IfOk};
+ghost use Rattle.std.specs.IoError.{error_kind};
+ghost use Rattle.std.specs.declared.io.ErrorKind.TheVariants as kinds;
+ghost use Rattle.oa_commands.specs.declared.fault.Fault.TheVariants as faults;
+ghost use Rattle.oa_commands.specs.Files.{TellsUnread, TellsUse, TellsUnwritten};
 ghost use Rattle.oa_commands.specs.Statuses.{IsOfFormat, IsOfMaking, IsOfOpening, IsOfTaking, IsOfUse};
 ghost use Rattle.oa_commands.specs.Stores.{IsNewlyFormatted, bank_near};
 ghost use Rattle.oa_disk.specs.After.{BeginsHonest};
@@ -172,7 +176,9 @@ fn made(
 
 /// Why the file of a store was not opened.
 pub(crate) fn unopened(alloc: Global, error: &io::Error, path: &str) -> Fault
-    ensures { IsOfOpening result }
+    ensures kind { IsOfOpening result }
+    ensures used { error_kind error.now ≡ kinds.WouldBlock → TellsUse path.now result }
+    ensures unread { error_kind error.now ≢ kinds.WouldBlock → TellsUnread path.now result }
 {
     if error.kind() == ErrorKind::WouldBlock {
         return in_use(alloc, path);
@@ -182,7 +188,8 @@ pub(crate) fn unopened(alloc: Global, error: &io::Error, path: &str) -> Fault
 
 /// A file that another process has.
 fn in_use(alloc: Global, path: &str) -> Fault
-    ensures { IsOfUse result }
+    ensures kind { IsOfUse result }
+    ensures told { TellsUse path.now result }
 {
     match shown_name(alloc, path) {
         Ok(path) => Fault::InUse(path),
@@ -192,7 +199,9 @@ fn in_use(alloc: Global, path: &str) -> Fault
 
 /// Why the file of a store was not made, not lengthened, or is not to be written.
 pub(crate) fn unwritten(alloc: Global, error: &io::Error, path: &str) -> Fault
-    ensures { IsOfMaking result }
+    ensures kind { IsOfMaking result }
+    ensures told { TellsUnwritten path.now result }
+    ensures memory { error_kind error.now ≡ kinds.OutOfMemory → result ≡ faults.Memory }
 {
     if error.kind() == ErrorKind::OutOfMemory {
         return Fault::Memory;

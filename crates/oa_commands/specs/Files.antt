@@ -1,0 +1,23 @@
+-- The faults that name a file, as a line shows it. (This project's choice.)
+use Rattle.std.specs.Prelude.{◌≡◌, ℕ, List, ⊤, string_bytes}
+use Rattle.oa_commands.specs.Shown.{shown_name}
+use Rattle.oa_commands.specs.declared.fault.Fault.{Fault}
+use Rattle.oa_commands.specs.declared.fault.Fault.TheVariants as faults
+
+-- of a file that cannot be read
+abbrev pub TellsUnread : List ℕ → Fault → Type 0
+TellsUnread path (faults.CannotRead name reason) = string_bytes name ≡ shown_name path
+TellsUnread path faults.Memory = ⊤
+TellsUnread path other = ⊥
+
+-- of one that another process has
+abbrev pub TellsUse : List ℕ → Fault → Type 0
+TellsUse path (faults.InUse name) = string_bytes name ≡ shown_name path
+TellsUse path faults.Memory = ⊤
+TellsUse path other = ⊥
+
+-- of one that cannot be made, lengthened or written as far as is needed
+abbrev pub TellsUnwritten : List ℕ → Fault → Type 0
+TellsUnwritten path (faults.CannotWrite name reason) = string_bytes name ≡ shown_name path
+TellsUnwritten path faults.Memory = ⊤
+TellsUnwritten path other = ⊥

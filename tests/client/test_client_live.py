@@ -166,11 +166,32 @@ class Interleaved(ClientCases):
             )
 
 
-class Load:
-    """A server that is fed puts and replaced libraries without an end. `asked` become its
-    requests, None for a library; each has a reply of 20 bytes."""
+class Requests:
+    """All that was ever asked: puts, and None for each replaced library. Of the first of them,
+    which `forget` names, the last put of each cell alone is kept, so that any number of them fits
+    the memory of a few."""
 
-    def __init__(self, room, group, number, libraries):
+    def __init__(self):
+        self.forgotten, self.last, self.rest = 0, {}, []
+
+    def __len__(self):
+        return self.forgotten + len(self.rest)
+
+    def forget(self, count):
+        some = count - self.forgotten
+        self.last.update((it[:2], it[2]) for it in self.rest[:some] if it)
+        del self.rest[:some]
+        self.forgotten = count
+
+    def cut(self, count):
+        del self.rest[count - self.forgotten :]
+
+
+class Load:
+    """A server that is fed puts and replaced libraries without an end, but while `goes` is not
+    set. `asked` gets what it is asked; each has a reply of 20 bytes, of which `heard` have come."""
+
+    def __init__(self, room, group, asked, libraries):
         self.process = subprocess.Popen(
             [PROGRAM, "serve", "it.store", "lib.idl", "--group", str(group)],
             cwd=room,
@@ -178,27 +199,24 @@ class Load:
             stdout=subprocess.PIPE,
             bufsize=0,
         )
-        self.number, self.libraries, self.asked, self.heard, self.wrong, self.over = (
-            number,
-            libraries,
-            [],
-            0,
-            None,
-            False,
-        )
+        self.libraries, self.asked, self.before = libraries, asked, len(asked)
+        self.heard, self.wrong, self.over = 0, None, False
+        self.goes = threading.Event()
+        self.goes.set()
         self.threads = [threading.Thread(target=it, daemon=True) for it in (self.feed, self.hear)]
         for it in self.threads:
             it.start()
 
     def feed(self):
-        draw = random.Random(self.number)
+        number, draw = self.before, random.Random(self.before)
         try:
             while not self.over:
+                self.goes.wait()
                 some = []
                 for _ in range(16):
-                    self.number += 1
-                    some.append(None if draw.random() < 0.02 else kills.Put(self.number, True))
-                self.asked += [it and (it.object, it.dispid, it.number) for it in some]
+                    number += 1
+                    some.append(None if draw.random() < 0.02 else kills.Put(number, True))
+                self.asked.rest += [it and (it.object, it.dispid, it.number) for it in some]
                 bodies = (
                     it.body
                     if it
@@ -219,8 +237,12 @@ class Load:
                     self.wrong = rest[at : at + 20].hex()
             self.heard, rest = self.heard + whole // 20, rest[whole:]
 
+    def acknowledged(self):
+        return self.before + self.heard
+
     def kill(self):
         self.over = True
+        self.goes.set()
         self.process.kill()
         self.process.wait()
         for it in self.threads:
@@ -251,8 +273,8 @@ class UnderLoad(ClientCases):
         self.oaut("serve", "it.store", "lib.idl", input=b"".join(map(kills.record, made)))
 
     def judged(self, name, path, asked, least):
-        """What a store holds is what a first part of the requests has left; how many these are.
-        `asked` begins with all that was ever asked."""
+        """What a store holds is what a first part of the requests has left, all that is forgotten
+        of them among these; how many they are."""
         with open(path, "rb") as file:
             found = read(file.fileno())
         now = {
@@ -260,17 +282,19 @@ class UnderLoad(ClientCases):
             for number, (_, cells) in found.objects.items()
             for where, value in cells.items()
         }
+        forgotten, rest = asked.forgotten, asked.rest[:]
         # (a put is its number: what it puts is made anew)
         is_there = lambda it: now.get(it[:2]) == kills.Put(it[2], True).value
-        puts = (it for it in range(len(asked), 0, -1) if asked[it - 1])
-        there = next((it for it in puts if is_there(asked[it - 1])), 0)
-        last = {it[:2]: it[2] for it in asked[:there] if it}
+        puts = (it for it in range(len(rest), 0, -1) if rest[it - 1])
+        there = next((it for it in puts if is_there(rest[it - 1])), 0)
+        last = {**asked.last, **{it[:2]: it[2] for it in rest[:there] if it}}
         wanted = {where: kills.Put(number, True).value for where, number in last.items()}
-        behind = next((it for it in range(there, len(asked)) if asked[it]), len(asked))
+        behind = next((it for it in range(there, len(rest)) if rest[it]), len(rest)) + forgotten
+        there += forgotten
         self.tell(
             f"{name}: a first part of what was asked",
             now == wanted and found.library in self.libraries,
-            f"{there} of {len(asked)}",
+            f"{there} of {forgotten + len(rest)}",
         )
         self.tell(f"{name}: all that was acknowledged", behind >= least, f"{there} of {least}")
         self.tell(
@@ -282,45 +306,43 @@ class UnderLoad(ClientCases):
     def test_copies_under_load(self):
         """Each is of a server that is fed and, now and then, killed within the copy. None is
         behind what was acknowledged before the copy began."""
-        draw, asked, library = random.Random(SEED), [], self.first
+        draw, asked, library = random.Random(SEED), Requests(), self.first
         self.libraries = [self.first, self.first.replace(b"version(1.0)", b"version(2.0)")]
         server, checkpoints, killed, switched, sent = None, 0, 0, None, 0
+        store, copy = f"{self.room}/it.store", f"{self.room}/copy"
         for turn in range(COPIES):
+            name = f"copy {turn}, seed {SEED}"
             if server is None:
                 with open(f"{self.room}/lib.idl", "wb") as file:
                     file.write(library)
-                server = Load(
-                    self.room, draw.choice((1, 16, 64, 1_024)), len(asked), self.libraries
-                )
+                server = Load(self.room, draw.choice((1, 16, 64, 1_024)), asked, self.libraries)
+            server.goes.set()
             time.sleep(draw.random() * 0.2)
-            copy = f"{self.room}/copy"
             dies = draw.random() < 0.2
             timer = threading.Timer(draw.random() * 0.05, server.process.kill)
             if dies:
                 timer.start()
-            acknowledged = len(asked) + server.heard
-            oaut.backup(f"{self.room}/it.store", copy)
+            acknowledged = server.acknowledged()
+            oaut.backup(store, copy)
             timer.cancel()
-            with self.subTest(f"copy {turn}, seed {SEED}"):
-                self.judged(f"copy {turn}, seed {SEED}", copy, asked + server.asked, acknowledged)
-            checkpoints, switched = (
-                checkpoints + (switched != files.info(copy)["bank"]),
-                files.info(copy)["bank"],
-            )
+            server.goes.clear()  # else it is asked more and more while the copy is looked at
+            asked.forget(acknowledged)
+            with self.subTest(name):
+                self.judged(name, copy, asked, acknowledged)
+            bank = files.info(copy)["bank"]
+            checkpoints, switched = checkpoints + (switched != bank), bank
             os.unlink(copy)
             if dies:
                 server.kill()
+                sent += len(asked) - server.before
                 there, library = self.judged(
-                    f"behind kill {turn}, seed {SEED}",
-                    f"{self.room}/it.store",
-                    asked + server.asked,
-                    len(asked) + server.heard,
+                    f"behind kill {turn}, seed {SEED}", store, asked, server.acknowledged()
                 )
-                sent += len(server.asked)
-                asked, server, killed = (asked + server.asked)[:there], None, killed + 1
+                asked.cut(there)
+                server, killed = None, killed + 1
         if server:
-            sent += len(server.asked)
             self.same("each request was answered by S_OK", server.wrong, None)
+            sent += len(asked) - server.before
             server.kill()
         print(
             f"{COPIES} copies under load, {sent} requests, {killed} kills, "

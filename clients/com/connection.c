@@ -168,13 +168,16 @@ static HRESULT dial(Connection *connection)
 
     hints.ai_family = AF_UNSPEC;
     hints.ai_socktype = SOCK_STREAM;
-    if (GetAddrInfoW(connection->settings.host, connection->settings.port, &hints, &list))
+    if ((connection->cause = GetAddrInfoW(connection->settings.host, connection->settings.port, &hints, &list)))
         return OAUT_E_NOT_REACHED;
     for (address = list; address && made == INVALID_SOCKET; address = address->ai_next) {
         /* not for the processes that the host starts: one that goes on would keep the next client waiting */
         made = WSASocketW(address->ai_family, address->ai_socktype, address->ai_protocol, NULL, 0,
                           WSA_FLAG_OVERLAPPED | WSA_FLAG_NO_HANDLE_INHERIT);
-        if (made != INVALID_SOCKET && connect(made, address->ai_addr, (int)address->ai_addrlen)) {
+        if (made == INVALID_SOCKET) {
+            connection->cause = WSAGetLastError();
+        } else if (connect(made, address->ai_addr, (int)address->ai_addrlen)) {
+            connection->cause = WSAGetLastError();
             closesocket(made);
             made = INVALID_SOCKET;
         }
@@ -209,9 +212,10 @@ BOOL has_gone(Connection *connection)
     return select((int)connection->socket + 1, &readable, NULL, NULL, &now) != 0;
 }
 
-static HRESULT socket_fault(void)
+static HRESULT socket_fault(Connection *connection)
 {
-    return WSAGetLastError() == WSAETIMEDOUT ? OAUT_E_LATE : OAUT_E_LOST;
+    connection->cause = WSAGetLastError();
+    return connection->cause == WSAETIMEDOUT ? OAUT_E_LATE : OAUT_E_LOST;
 }
 
 static HRESULT send_all(Connection *connection)
@@ -223,7 +227,7 @@ static HRESULT send_all(Connection *connection)
         int count = send(connection->socket, (const char *)request->bytes + sent, (int)(request->length - sent), 0);
 
         if (count <= 0)
-            return socket_fault();
+            return socket_fault(connection);
         sent += (size_t)count;
     }
     return S_OK;
@@ -258,8 +262,10 @@ static HRESULT receive(Connection *connection, UINT32 length, ULONGLONG until)
             return result;
         got = recv(connection->socket, (char *)connection->reply + connection->received,
                    (int)(connection->reply_room - connection->received), 0);
-        if (got <= 0)
-            return got ? socket_fault() : OAUT_E_LOST;
+        if (got < 0)
+            return socket_fault(connection);
+        if (!got)
+            return OAUT_E_LOST;
         connection->received += (UINT32)got;
         if (connection->received < length && until && GetTickCount64() > until)
             return OAUT_E_LATE; /* a server that sends a byte now and then is late too */
@@ -292,6 +298,7 @@ static HRESULT try_exchange(Connection *connection, enum way way)
         return result;
     until = timeout ? GetTickCount64() + timeout : 0;
     connection->received = 0;
+    connection->cause = 0;
     if (FAILED(result = send_all(connection)) || FAILED(result = receive(connection, LENGTH, until)))
         return result;
     memcpy(&length, connection->reply, sizeof length);

@@ -55,6 +55,7 @@ typedef struct Connection {
     UINT32 reply_length, reply_room; /* of the body, of all that is received */
     UINT32 received;
     UINT32 argument;         /* the last reply's index of an argument, or NO_ARGUMENT */
+    int cause;               /* why there was none, as Winsock tells it; 0 where the server ended the connection */
     struct Library *library; /* what the server has said of its library (library.h) */
 } Connection;
 

@@ -697,7 +697,7 @@ static HRESULT perform(HubCall *call)
 /* Tells in words what is wrong with a call, where the host has given room for them. */
 static HRESULT refuse(const HubCall *call, int member, HRESULT code, EXCEPINFO *told)
 {
-    Refusal refusal = {code, NULL, NULL, NULL, NULL, VT_EMPTY, NULL};
+    Refusal refusal = {code, NULL, NULL, NULL, NULL, VT_EMPTY, NULL, call->hub->connection};
     WCHAR source[80];
 
     if (!told)

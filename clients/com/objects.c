@@ -316,7 +316,7 @@ static HRESULT refuse(const Call *call, HRESULT code, EXCEPINFO *told)
     WCHAR source[80], object[96], member_name[MAX_NAME + 1], argument[MAX_NAME + 1];
     const Target *target = call->target;
     BOOL has_argument = call->argument < call->given->cArgs;
-    Refusal refusal = {code, source, object, NULL, NULL, VT_EMPTY, NULL};
+    Refusal refusal = {code, source, object, NULL, NULL, VT_EMPTY, NULL, target->connection};
     const Library *library;
     const Item *type;
     Member member;

@@ -167,6 +167,42 @@ static void add_argument(Text *to, const Refusal *refusal)
     }
 }
 
+/* Which server was not reached, or lost, and why, as far as this end is told. */
+static void add_cause(Text *to, const Connection *connection)
+{
+    static const struct {
+        int cause;
+        const WCHAR *words;
+    } CAUSES[] = {
+        {0, L"the server ended the connection"},
+        {WSAECONNREFUSED, L"connection refused: nothing listens there"},
+        {WSAHOST_NOT_FOUND, L"no host has this name"},
+        {WSANO_DATA, L"no host has this name"},
+        {WSAETIMEDOUT, L"timed out"},
+        {WSAEHOSTUNREACH, L"no route to this host"},
+        {WSAENETUNREACH, L"no route to this network"},
+        {WSAECONNRESET, L"the server reset the connection"},
+        {WSAECONNABORTED, L"this machine aborted the connection"},
+    };
+    const WCHAR *words = L"";
+    WCHAR number[16];
+    size_t i;
+
+    for (i = 0; i < ARRAYSIZE(CAUSES); i++)
+        if (CAUSES[i].cause == connection->cause)
+            words = CAUSES[i].words;
+    add(to, L"; ");
+    add(to, connection->settings.host);
+    add(to, L":");
+    add(to, connection->settings.port);
+    add(to, L": ");
+    add(to, words);
+    if (connection->cause) {
+        swprintf(number, ARRAYSIZE(number), *words ? L", %d" : L"%d", connection->cause);
+        add(to, number);
+    }
+}
+
 static void describe(Text *to, const Refusal *refusal)
 {
     const WCHAR *name = NULL, *words = L"it is refused";
@@ -187,6 +223,8 @@ static void describe(Text *to, const Refusal *refusal)
     add(to, L": ");
     add(to, words);
     add_argument(to, refusal);
+    if (refusal->code == OAUT_E_NOT_REACHED || refusal->code == OAUT_E_LOST)
+        add_cause(to, refusal->connection);
     add(to, L" (");
     if (name) {
         add(to, name);

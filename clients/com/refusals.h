@@ -13,6 +13,7 @@ typedef struct Refusal {
     const WCHAR *argument; /* the name of the argument at fault */
     VARTYPE declared;      /* the type that is declared for it, VT_EMPTY where that is not known */
     const VARIANT *given;  /* it */
+    const Connection *connection;
 } Refusal;
 
 /* The code by which VBScript, JScript and VBA have a number of their own for one of the server's: 0x800A0000 and that

@@ -6,6 +6,7 @@ WaitFor WScript.Arguments(0)
 On Error Resume Next
 item.Count = 42
 Refused "a put that has no reply", Err.Number, &H80010006
+Same "the description says which server ended the connection", InStr(Err.Description, "127.0.0.1:") > 0 And InStr(Err.Description, ": the server ") > 0, True
 Err.Clear
 count = item.Count
 Same "a get behind it", Err.Number, CLng(0)

@@ -1,11 +1,13 @@
 //! Texts of libraries, and the libraries that they stand for.
-ghost use Rattle.std.specs.Prelude.{◌≡◌, ◌≤◌, length, IfSome};
+ghost use Rattle.std.specs.Prelude.{◌≡◌, ◌≤◌, length, string_bytes, IfSome};
 ghost use Rattle.std.specs.Prelude.{ℕ, List, IfErr, IfOk};
 ghost use Rattle.oa_checks.specs.IsLibrary.{IsLibrary};
 ghost use Rattle.std.specs.IoError.{error_kind};
 ghost use Rattle.std.specs.declared.io.ErrorKind.TheVariants as kinds;
 ghost use Rattle.oa_commands.specs.declared.fault.Fault.TheVariants as faults;
-ghost use Rattle.oa_commands.specs.Files.{TellsUnread};
+ghost use Rattle.oa_commands.specs.Files.{IsWithinLimit, TellsUnread};
+ghost use Rattle.oa_idl.specs.declared.stop.Limit.TheVariants as limits;
+ghost use Rattle.oa_idl.specs.declared.stop.ParseError.TheVariants as parsing;
 ghost use Rattle.oa_commands.specs.Statuses.{IsOfLibrary, IsOfReading, IsOfLibraryText, IsOfTree};
 
 use crate::fault::Fault;
@@ -76,11 +78,12 @@ pub(crate) fn unread(alloc: Global, error: &io::Error, path: &str) -> Fault
 
 /// What a reader gives, up to its end, as a text. One byte above the limit tells that the text breaks it.
 fn text_of<R: Read>(alloc: Global, reader: &mut R, path: &str) -> Result<String, Fault>
-    ensures { IfErr result IsOfLibraryText }
+    ensures whole { IfOk result (λ text. IfSome (R.remaining reader.old) (λ bytes. IsWithinLimit bytes × (string_bytes text ≡ bytes))) }
+    ensures long { IfErr result (λ fault. (fault ≡ faults.Parse (parsing.Limit limits.Text)) → IfSome (R.remaining reader.old) (λ bytes. IsWithinLimit bytes → ⊥)) }
+    ensures refused { IfErr result IsOfLibraryText }
 {
     let mut bytes = Vec::new(alloc);
-    if let Err(error) = reader
-        .by_ref()
+    if let Err(error) = (&mut *reader)
         .take(MAX_LIBRARY_BYTES as u64 + 1)
         .read_to_end(&mut bytes)
     {
@@ -89,7 +92,10 @@ fn text_of<R: Read>(alloc: Global, reader: &mut R, path: &str) -> Result<String,
     if bytes.len() > MAX_LIBRARY_BYTES {
         return Err(refusal_of_long(alloc, reader, bytes, path));
     }
-    String::from_utf8(bytes).map_err(|_| Fault::NotUtf8)
+    let Ok(text) = String::from_utf8(bytes) else {
+        return Err(Fault::NotUtf8);
+    };
+    Ok(text)
 }
 
 /// Why a text is refused that begins with these bytes, more than a text may have: it is not UTF-8, or it breaks the limit.

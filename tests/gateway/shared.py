@@ -33,7 +33,7 @@ class Client:
 
 class Shared:
     def __init__(self, words):
-        self.child = subprocess.Popen([PROGRAM, *words], stdin=subprocess.PIPE, stdout=subprocess.PIPE, bufsize=0)
+        self.child = subprocess.Popen([PROGRAM, *words], stdin=subprocess.PIPE, stdout=subprocess.PIPE, bufsize=0, close_fds=False)
         self.asked = collections.deque()  # for whom a reply is due: client, number, and what a lock's is for
         self.replies, self.frames = bytearray(), bytearray()
         self.clients = {}

@@ -7,7 +7,6 @@ Printed of each table: the MiB of its image, those that are resident of a server
 without objects, as so many times the image.
 """
 import os
-import re
 import struct
 import sys
 import tempfile
@@ -20,37 +19,21 @@ FOLDER = sys.argv[2] if len(sys.argv) > 2 else "."
 import full
 import store
 import wire
+from full import cells_by_key, keyed, long
 from memory import peak_of, resident_of
 from stores import CLASS, FACE
 
-LONG = lambda at: (wire.I4, struct.pack("<i", at))
 SHORT = lambda at: (wire.BSTR, struct.pack("<I", 8) + struct.pack("<II", at, at))
-ARRAY = lambda at: store.Array(wire.I4, [(2, 0)], [LONG(at)[1], LONG(at + 1)[1]])
-PROPERTY = "[propget, id(1)] {0} Of({1}); [propput, id(1)] void Of({1}, {0} value);"
-
-
-def library(type, parameters):
-    """A library with the coclass of `full`, whose property 1 has so many parameters, and whose properties 2 and 3 have none."""
-    parts = full.library(3, type).decode()
-    if parameters:
-        names = ", ".join(f"long p{it}" for it in range(parameters))
-        parts = re.sub(r"\[id\(1\)\] [^;]*; ", "", parts).replace("methods: ", "methods: " + PROPERTY.format(type, names))
-    return parts.encode()
-
-
-def one(count, parameters, value):
-    """An object with so many cells."""
-    return {1: (CLASS, {(FACE, 1, tuple(LONG(at) for _ in range(parameters))): value(at) for at in range(count)})}
-
+ARRAY = lambda at: store.Array(wire.I4, [(2, 0)], [long(at)[1], long(at + 1)[1]])
 
 TABLES = (
-    ("no objects", library("long", 0), {}),
-    ("300,000 longs of three parameters", library("long", 3), one(300_000, 3, LONG)),
-    ("400,000 longs of one parameter", library("long", 1), one(400_000, 1, LONG)),
-    ("300,000 texts of 8 bytes, of one parameter", library("BSTR", 1), one(300_000, 1, SHORT)),
-    ("250,000 arrays of two longs, of one parameter", library("SAFEARRAY(long)", 1), one(250_000, 1, ARRAY)),
-    ("65,536 objects of three longs", library("long", 0), {it: (CLASS, {(FACE, at, ()): LONG(at) for at in (1, 2, 3)}) for it in range(1, 65_537)}),
-    ("65,536 objects of one long", library("long", 0), {it: (CLASS, {(FACE, 1, ()): LONG(it)}) for it in range(1, 65_537)}),
+    ("no objects", keyed("long", 0), {}),
+    ("300,000 longs of three parameters", keyed("long", 3), cells_by_key(300_000, 3)),
+    ("400,000 longs of one parameter", keyed("long", 1), cells_by_key(400_000, 1)),
+    ("300,000 texts of 8 bytes, of one parameter", keyed("BSTR", 1), cells_by_key(300_000, 1, SHORT)),
+    ("250,000 arrays of two longs, of one parameter", keyed("SAFEARRAY(long)", 1), cells_by_key(250_000, 1, ARRAY)),
+    ("65,536 objects of three longs", keyed("long", 0), {it: (CLASS, {(FACE, at, ()): long(at) for at in (1, 2, 3)}) for it in range(1, 65_537)}),
+    ("65,536 objects of one long", keyed("long", 0), {it: (CLASS, {(FACE, 1, ()): long(it)}) for it in range(1, 65_537)}),
 )
 
 with tempfile.TemporaryDirectory(dir=FOLDER) as room:

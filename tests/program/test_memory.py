@@ -9,6 +9,7 @@ import full
 import store
 import wire
 import worked
+from memory import resident_of
 from model import LIBRARY, first_library
 from preloaded import COMPILER, Preloaded, fast_folder
 from refused_growths import LONG, Over, Session
@@ -35,6 +36,17 @@ class Memory(Cases):
                 run_in(room, ["format", "--bank", str(bank), "it.store", "lib.idl"])
                 peak, _ = full.opening(room)
                 self.tell(f"a store without objects in banks of {bank} bytes is opened in less than 8 MiB", 1_024 < peak < 8 * MEBIBYTE, peak)
+
+    def test_cells_with_keys(self):
+        """A cell takes a place, a value, and a block for its key, which has room for what the key has and no more."""
+        taken = []
+        for count, most in ((0, 0), (40_000, 5.0)):
+            with tempfile.TemporaryDirectory(dir=fast_folder()) as room:
+                size = full.laid_objects(room, full.keyed("long", 1), full.cells_by_key(count, 1)) / MEBIBYTE
+                with full.Serving(room) as session:
+                    session.ask(wire.live_objects(1))
+                    taken.append(resident_of(session.child.pid))
+                self.tell(f"{count} longs of one parameter take at most {most} times their image", taken[-1] - taken[0] <= most * size, (taken, size))
 
     def test_a_session_in_little_memory(self):
         body = struct.pack("<I", 1) + oaut.ask_create(worked.ITEM)

@@ -1,4 +1,5 @@
 """Stores whose table is as large as it may be, and the memory of a server over one while it is asked something."""
+import re
 import struct
 import subprocess
 import sys
@@ -22,6 +23,24 @@ def library(count, type):
     properties = "".join(f"[id({it})] {type} T{it}; " for it in range(1, count + 1))
     interface = f"[uuid(11223344-5566-7788-99aa-bbccddeeff02)] dispinterface F {{ properties: {properties} [id({LAST})] BSTR Last; methods: }}"
     return f"[uuid(11223344-5566-7788-99aa-bbccddeeff01)] library D {{ {interface} [uuid(11223344-5566-7788-99aa-bbccddeeff03)] coclass C {{ [default] dispinterface F; }} }}".encode()
+
+
+def keyed(type, parameters):
+    """The same with a property of a type that has so many parameters, each a long, and two that have none."""
+    parts, property = library(3, type).decode(), "[propget, id(1)] {0} Of({1}); [propput, id(1)] void Of({1}, {0} value);"
+    if parameters:
+        names = ", ".join(f"long p{it}" for it in range(parameters))
+        parts = re.sub(r"\[id\(1\)\] [^;]*; ", "", parts).replace("methods: ", "methods: " + property.format(type, names))
+    return parts.encode()
+
+
+def long(at):
+    return wire.I4, struct.pack("<i", at)
+
+
+def cells_by_key(count, parameters, value=long):
+    """An object with so many cells of such a property."""
+    return {1: (CLASS, {(FACE, 1, tuple(long(at) for _ in range(parameters))): value(at) for at in range(count)})}
 
 
 def wider(text):

@@ -378,6 +378,9 @@ class Trial:
         if rewrites:
             status, said = did(f"{ROOT}/dist/lib/rewrite", self.store("two"))
             assert status == 0, said
+            unequal = [it for it in paths[1:] if did("cmp", paths[0], it)[0]]
+            if unequal:
+                self.lost.append(f"these replicas are not equal to the first one: {unequal}")
         self.found = self.held("two")
         self.judge(self.puts(self.store("two"), 1, 40).end(), "two")
 

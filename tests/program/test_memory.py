@@ -4,6 +4,7 @@ import resource
 import struct
 import tempfile
 import unittest
+import uuid
 
 import full
 import store
@@ -14,7 +15,7 @@ from model import LIBRARY, first_library
 from preloaded import COMPILER, Preloaded, fast_folder
 from refused_growths import LONG, Over, Session
 from running import CREATE, SMALL, Cases, fill, run_in, within
-from stores import DUE_ASKED, OLD, nearly_full
+from stores import CLASS, DUE_ASKED, OLD, nearly_full
 from wire import oaut
 
 MEBIBYTE = 1_024  # KiB
@@ -152,6 +153,29 @@ class Asked(Cases):
             for name, one, other in pairs:
                 found = asks(one), asks(other)
                 self.tell(f"{name}: one growth more", found[0] - found[1] == 1, found)
+
+    def test_what_a_table_holds(self):
+        """Objects and cells take what they need and an eighth more, in whatever order they come, and give it back."""
+        count, cells = 4_096, full.LAST - 1
+        with Preloaded() as preloaded:
+            preloaded.fill("lib.idl", full.library(cells, "long"))
+
+            def holds(*bodies):
+                preloaded.fill("given", oaut.Raw.pack([struct.pack("<I", tag) + it for tag, it in enumerate(bodies)]))
+                return preloaded.ample(["play", preloaded.path("lib.idl")], "given").held
+
+            create = oaut.ask_create(uuid.UUID(bytes_le=CLASS))
+            releases = [oaut.ask_release(number) for number in range(1, count + 1)]
+            puts = [worked.put(it, worked.i4(it)) for it in range(1, cells + 1)]
+            one = holds(create)
+            rising, scattered = holds(create, *puts) - one, holds(create, *(puts[it * 1_021 % cells] for it in range(cells))) - one
+            self.tell("cells by rising and by scattered names take as much, but for an eighth", max(rising, scattered) <= 9 / 8 * min(rising, scattered), (rising, scattered))
+            empty, objects = holds(create, releases[0]), holds(*[create] * count)
+            some = holds(*[create] * count, *(it for at, it in enumerate(releases) if at % 16))
+            self.tell("objects that were released leave an eighth at most", some - empty <= (objects - empty) / 8, (objects, some, empty))
+            for what, requests in (("objects", [create] * count + releases), ("an object with many cells", [create, *puts, releases[0]])):
+                found = holds(*requests)
+                self.tell(f"{what}, released, leave nothing", found == empty, (found, empty))
 
     def test_what_a_dump_asks_for(self):
         """Of a store of a short library, no block as long as the longest library is."""

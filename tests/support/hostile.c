@@ -12,11 +12,13 @@
    AFTER                 behind so many that are made
    LARGE                 how many bytes are many
    TOLD                  a file, which gets the number of calls of the allocator, of blocks that were not freed, of reads of standard input, of
-                         writes to standard output, and of calls of the allocator that asked for LARGE bytes or more */
+                         writes to standard output, of calls of the allocator that asked for LARGE bytes or more, and of the bytes of all
+                         blocks at the last read of standard input */
 #define _GNU_SOURCE
 #include <dlfcn.h>
 #include <errno.h>
 #include <fcntl.h>
+#include <malloc.h>
 #include <stddef.h>
 #include <stdio.h>
 #include <stdlib.h>
@@ -35,7 +37,7 @@ ssize_t __pread64(int file, void *into, size_t size, off64_t at);
 ssize_t __pwrite64(int file, const void *from, size_t size, off64_t at);
 
 static int counts;
-static long calls, blocks, reads, writes, larges, refused, refused_from, interrupted, times, in_a_row, blocked, after, rising, lacking, cut, moved;
+static long calls, blocks, reads, writes, larges, refused, refused_from, interrupted, times, in_a_row, blocked, after, rising, lacking, cut, moved, bytes, held;
 static size_t most = (size_t)-1, large = (size_t)-1;
 
 static long number(const char *name) {
@@ -64,6 +66,7 @@ static int is_refused(size_t size) {
 
 static void *got(void *block) {
     blocks += counts && block != NULL;
+    if (counts) bytes += malloc_usable_size(block);
     return block;
 }
 
@@ -73,8 +76,11 @@ void *calloc(size_t count, size_t size) { return is_refused(count * size) ? NULL
 
 void *realloc(void *block, size_t size) {
     if (is_refused(size)) return NULL;
+    long before = malloc_usable_size(block);
     void *found = __libc_realloc(block, size);
-    return block == NULL ? got(found) : found;
+    if (block == NULL) return got(found);
+    if (counts && found != NULL) bytes += (long)malloc_usable_size(found) - before;
+    return found;
 }
 
 void *memalign(size_t unit, size_t size) { return is_refused(size) ? NULL : got(__libc_memalign(unit, size)); }
@@ -90,6 +96,7 @@ int posix_memalign(void **block, size_t unit, size_t size) {
 
 void free(void *block) {
     blocks -= counts && block != NULL;
+    if (counts) bytes -= malloc_usable_size(block);
     __libc_free(block);
 }
 
@@ -112,6 +119,7 @@ static int kept_off(long stream) {
 ssize_t read(int file, void *into, size_t size) {
     if (counts && file == 0) {
         reads++;
+        held = bytes;
         if (kept_off(1)) return -1;
     }
     return __read(file, into, brought(size));
@@ -149,7 +157,7 @@ static int (*program)(int, char **, char **);
 static void told(void) {
     counts = 0;
     char text[128];
-    int length = snprintf(text, sizeof text, "%ld %ld %ld %ld %ld\n", calls, blocks, reads, writes, larges);
+    int length = snprintf(text, sizeof text, "%ld %ld %ld %ld %ld %ld\n", calls, blocks, reads, writes, larges, held);
     int file = open(getenv("TOLD"), O_WRONLY | O_CREAT | O_TRUNC, 0600);
     if (__write(file, text, length) != length) abort();
     close(file);
@@ -168,7 +176,7 @@ static int counted(int count, char **words, char **variables) {
     if (number("SHORT") > 0) most = number("SHORT");
     if (number("LARGE") > 0) large = number("LARGE");
     atexit(told);
-    calls = blocks = 0;
+    calls = blocks = bytes = 0;
     counts = 1;
     int status = program(count, words, variables);
     counts = 0;

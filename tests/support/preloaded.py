@@ -102,7 +102,7 @@ class StoreFile:
 
 class Told(NamedTuple):
     """What came of a run: status, output and fault; how many calls of the allocator were made, how many blocks were not freed, how often standard input was read and
-    standard output written, and how many calls of the allocator asked for many bytes."""
+    standard output written, how many calls of the allocator asked for many bytes, and how many bytes all blocks had at the last read of standard input."""
 
     status: int
     out: bytes
@@ -112,6 +112,7 @@ class Told(NamedTuple):
     reads: int
     writes: int
     larges: int
+    held: int
 
 
 @functools.lru_cache(None)
@@ -144,7 +145,7 @@ class Preloaded:
     def run(self, words, given="nothing", program=PROGRAM, **how):
         """Runs the program, or another one, with the file `given` on standard input. `how` are the variables that the library reads, in lower case."""
         variables = {"LD_PRELOAD": compiled()[0], "TOLD": self.path("told"), **{name.upper(): str(it) for name, it in how.items()}}
-        self.fill("told", b"-1 -1 -1 -1 -1")
+        self.fill("told", b"-1 -1 -1 -1 -1 -1")
         status, _ = spawned([program, *words], self.path(given), self.path("out"), self.path("err"), variables)
         return Told(status, read(self.path("out")), read(self.path("err")), *map(int, read(self.path("told")).split()))
 

@@ -502,7 +502,7 @@ class Site:
             config += "".join(FENCE.format(it.name, 2 if self.members == 2 and it is one else 0) for it in self.in_cluster)
         with open(f"{self.room}/one/root-config", "w") as file:
             file.write(config)
-        print(one.must("crm", "-F", "configure", "load", "update", f"{self.room}/one/root-config"))
+        one.must("crm", "-F", "configure", "load", "update", f"{self.room}/one/root-config")
         self.clients = [Client(n, lambda: socket.create_connection((ADDRESS, PORT), 1)) for n in range(1, CLIENTS + 1)]
         for it in self.clients:
             it.is_paused, it.is_anew = lambda: self.paused, lambda: self.anew

@@ -4,7 +4,7 @@
     shared.py serve --shared --group N STORE LIB        frames on standard input and output, as docs/shared.md has them
     shared.py ..                                        the program itself
 
-The program is the one that OAUT_PROGRAM names. A lock is one client's own by its object, DISPID, interface and arguments, byte by byte.
+The program is crates/oaut/out/oaut, or the one that OAUT_PROGRAM names. A lock is one client's own by its object, DISPID, interface and arguments, byte by byte.
 """
 import collections
 import os
@@ -13,7 +13,8 @@ import struct
 import subprocess
 import sys
 
-PROGRAM = os.environ["OAUT_PROGRAM"]
+ROOT = os.path.dirname(os.path.dirname(os.path.dirname(os.path.abspath(__file__))))
+PROGRAM = os.environ.get("OAUT_PROGRAM") or f"{ROOT}/crates/oaut/out/oaut"
 NOW, LOCK, UNLOCK, CALL = 0xFFFFFFFF, 8, 9, 64
 END = struct.pack("<IIHH", 8, 0xFFFFFFFF, 12, 0)  # a record that ends a group, and is refused
 UNEXPECTED = 0x8000FFFF

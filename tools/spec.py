@@ -30,7 +30,7 @@ SENTENCES = {
     9: ["oa_keeps.specs.Keeps.KeepsLibrary", "oa_server.specs.Answers.RenewsStore", "oa_store.specs.Changes.IsUpgrade", "oa_store.specs.Faults.IsBrought"],
 }
 # more than this nobody should have to read
-LIMITS = {"Turn": 970, "IsLived": 1_200}
+LIMITS = {"Turn": 970, "IsLived": 1_220}
 
 COLUMNS = "| Sentence | Word | Definitions | Lines | Files | Crates |"
 TABLE = re.compile(rf"^{re.escape(COLUMNS)}\n(?:\|.*\n)*", re.MULTILINE)

@@ -27,6 +27,14 @@ same_state a b bank library table =
     ∙ ap (λ (l : TreeValue). state_of b.bank l a.table) library
     ∙ ap (λ (t : TableValue). state_of b.bank b.library t) table
 
+-- what was opened with the library and the table of a host, told by the host's state
+pub begun_on : {D : Type 0} {g : Ghosts D} (disk : D) (library : TreeValue) (state host : State) (storage : Storage D g) → host.library ≡ library
+    → host ≡ state → OverStore storage (λ store. IsOpened g disk library store host.table)
+    → OverStore storage (λ store. IsOpened g disk state.library store state.table)
+begun_on {g = g} disk library state host storage library_is same is =
+    subst (λ (s : State). OverStore storage (λ store. IsOpened g disk s.library store s.table)) same
+    (subst (λ (l : TreeValue). OverStore storage (λ store. IsOpened g disk l store host.table)) (sym library_is) is)
+
 module _ {D : Type 0} {g : Ghosts D} (disk : D) (library : TreeValue) (state : State) (alone : NothingPending g.contents g.image disk) (honest : (d : D) → IsTrue (g.is_honest d))
     (holds : HoldsState requests state (g.contents disk)) (unlocked : opened state ≡ state) (is_its : library ≡ state.library) where
   found_is : (store : Store D g) (table : TableValue) → IsOpened g disk library store table → state_of (body_bytes store.bank.shape) library table ≡ state

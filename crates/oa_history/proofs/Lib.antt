@@ -4,6 +4,7 @@ pub mod Few
 pub mod Found
 pub mod Leaving
 pub mod Living
+pub mod Marking
 pub mod Reading
 pub mod Replying
 pub mod Streams

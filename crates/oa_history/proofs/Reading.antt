@@ -2,6 +2,7 @@
 use Rattle.std.proofs.Common.{Err, ◌≡◌, ⊎_elim, inl, inr, ℕ, Bool, true, false, List, [], ◌∷◌, Option, None, Some, length, map, refl, sym, ◌∙◌, ap, subst, arith}
 use Rattle.std.specs.List.{list_any}
 use Rattle.std.specs.Prelude.{if◌then◌else◌}
+use Rattle.std.specs.Str.{IsUtf8}
 use Rattle.oa_canonical.specs.Canonical.{canonical}
 use Rattle.oa_idl.specs.IsTree.{IsTree}
 use Rattle.oa_canonical.specs.Marked.{mark_first, marked, marked_entries, marked_item}
@@ -26,7 +27,6 @@ use Rattle.oa_store.specs.declared.fault.OpenFault.TheVariants.{NotAStore, OldFo
 use Rattle.oa_table.specs.Tables.{TableValue}
 use Rattle.oa_typelib.specs.Checked.{IsChecked}
 use Rattle.oa_checks.specs.IsLibrary.{IsLibrary}
-use Rattle.oa_history.specs.Kept.{IsUnread}
 
 -- ---- a store is not refused by whoever wants any library
 
@@ -112,11 +112,11 @@ items_again : (xs : List Item) → map marked_item (map marked_item xs) ≡ map 
 items_again [] = refl
 items_again (x ∷ xs) = rw (item_again x, items_again xs) refl
 
-marked_again : (t : TreeValue) → marked (marked t) ≡ marked t
+pub marked_again : (t : TreeValue) → marked (marked t) ≡ marked t
 marked_again t = ap (λ (xs : List Item). record { guid = t.guid; version = t.version; name = t.name; items = xs }) (items_again t.items)
 
 -- a library's defaults are marked
-library_marked : (t : TreeValue) → IsChecked t → marked t ≡ t
+pub library_marked : (t : TreeValue) → IsChecked t → marked t ≡ t
 library_marked t checked = let is = checked.1 in ap marked is.says ∙ marked_again is.tree ∙ sym is.says
 
 module _ (one_tree : (text : List ℕ) (s t : TreeValue) → IsTree text s → IsTree text t → s ≡ t) (read : (t : TreeValue) → IsChecked t → IsTree (canonical t) t) where
@@ -126,6 +126,6 @@ module _ (one_tree : (text : List ℕ) (s t : TreeValue) → IsTree text s → I
       is.says ∙ ap marked tree ∙ library_marked t checked
 
 -- the text of a library was not read
-pub unread : (text : List ℕ) (library : TreeValue) (fault : TextError) → IsChecked library → text ≡ canonical library → IsTextOf text (Err fault) → IsUnread fault
-unread text library texts.NoLibrary checked same none = (library, checked, λ stands. none library (subst (λ (l : List ℕ). StandsFor l library) (sym same) stands))
-unread text library texts.Memory checked same none = tt
+pub unread : (text : List ℕ) (library : TreeValue) (fault : TextError) → IsUtf8 (canonical library) → IsLibrary (canonical library) library → text ≡ canonical library → IsTextOf text (Err fault) → fault ≡ texts.Memory
+unread text library texts.NoLibrary utf8 is same none = absurd (none library (subst (λ (l : List ℕ). StandsFor l library) (sym same) (utf8, is)))
+unread text library texts.Memory utf8 is same none = refl

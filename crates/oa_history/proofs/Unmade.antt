@@ -1,27 +1,44 @@
 -- Why there is no store, and no checkpoint of one.
-use Rattle.std.proofs.Common.{◌≡◌, ◌<◌, ℕ, Bool, false, true, true≢false, Err, IsErrOf, Result, refl, sym, ◌∙◌, ap}
+use Rattle.std.proofs.Common.{◌≡◌, ◌<◌, ℕ, List, Bool, false, true, true≢false, Err, IsErrOf, Result, refl, sym, ◌∙◌, ap}
 use Rattle.oa_disk.specs.declared.disk.DeviceFault.{DeviceFault}
 use Rattle.oa_disk.specs.declared.disk.DeviceFault.TheVariants.{Write}
+use Rattle.oa_journal.specs.Shapes.{disk_bytes}
+use Rattle.oa_journal.specs.declared.shape.Shape.TheVariants.{Two}
+use Rattle.oa_store.specs.Faults.{UpgradeSays}
+use Rattle.oa_store.specs.declared.fault.UpgradeFault.{UpgradeFault}
+use Rattle.oa_store.specs.declared.fault.UpgradeFault.TheVariants as upgrades
 use Rattle.oa_store.specs.declared.fault.WriteFault.{WriteFault}
 use Rattle.oa_store.specs.declared.fault.WriteFault.TheVariants as writes
 use Rattle.oa_store.specs.declared.fault.FormatFault.{FormatFault}
 use Rattle.oa_store.specs.declared.fault.FormatFault.TheVariants.{TooSmall, Device, Memory}
-use Rattle.oa_history.specs.Kept.{IsUnformatted, IsUnmade, IsWanting}
+use Rattle.oa_history.specs.Kept.{IsNotBrought, IsUnformatted, IsUnmade, IsWanting}
 use Rattle.oa_history.specs.declared.fault.HistoryFault.{HistoryFault}
 use Rattle.oa_history.specs.declared.fault.HistoryFault.TheVariants as histories
 
-pub unformatted : (size : ℕ) (fault : FormatFault) → (fault ≡ TooSmall → size < 75505664) → IsUnformatted size fault
-unformatted size TooSmall small = small refl
-unformatted size (Device fault) small = tt
-unformatted size Memory small = tt
+pub unformatted : (bank size : ℕ) (fault : FormatFault) → (fault ≡ TooSmall → size < disk_bytes (Two bank)) → IsUnformatted bank size fault
+unformatted bank size TooSmall small = small refl
+unformatted bank size (Device fault) small = tt
+unformatted bank size Memory small = tt
 
 -- what keeps a store from a history keeps a disk from one
-pub unmade : (size : ℕ) (fault : HistoryFault) → IsWanting fault → IsUnmade size fault
-unmade size (histories.Format fault) wanting = absurd wanting
-unmade size (histories.Open fault) wanting = wanting
-unmade size (histories.Checkpoint fault) wanting = wanting
-unmade size (histories.Text fault) wanting = wanting
-unmade size histories.Memory wanting = tt
+pub unmade : (bank size : ℕ) (fault : HistoryFault) → IsWanting fault → IsUnmade bank size fault
+unmade bank size (histories.Format fault) wanting = absurd wanting
+unmade bank size (histories.Upgrade fault) wanting = absurd wanting
+unmade bank size (histories.Open fault) wanting = wanting
+unmade bank size (histories.Checkpoint fault) wanting = wanting
+unmade bank size (histories.Text fault) wanting = wanting
+unmade bank size histories.Memory wanting = tt
+
+-- what keeps a store of format 1 from being brought to such banks
+pub unbrought : (bank size : ℕ) (contents : List ℕ) (fault : UpgradeFault) → (fault ≡ upgrades.TooSmall → size < disk_bytes (Two bank))
+    → (UpgradeSays bank size contents upgrades.NotAStore → ⊥) → (UpgradeSays bank size contents upgrades.AlreadyNew → ⊥)
+    → ((place : ℕ) → UpgradeSays bank size contents (upgrades.Damaged place) → ⊥) → UpgradeSays bank size contents fault → IsNotBrought bank size fault
+unbrought bank size contents upgrades.TooSmall small none new damaged says = small refl
+unbrought bank size contents upgrades.NotAStore small none new damaged says = none says
+unbrought bank size contents upgrades.AlreadyNew small none new damaged says = new says
+unbrought bank size contents (upgrades.Damaged place) small none new damaged says = damaged place says
+unbrought bank size contents (upgrades.Device fault) small none new damaged says = tt
+unbrought bank size contents upgrades.Memory small none new damaged says = tt
 
 -- a checkpoint of a store that goes on fails by a write
 pub write_failed : (was : Bool) (result : Result (Unit {0}) WriteFault) (fault : WriteFault) → result ≡ Err fault → was ≡ false → (IsErrOf result writes.Stopped → was ≡ true) → ((device : DeviceFault) → IsErrOf result (writes.Device device) → device ≡ Write)

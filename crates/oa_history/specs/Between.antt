@@ -1,4 +1,4 @@
--- What stands beside sessions: a new store, and a checkpoint.
+-- What stands beside sessions: a new store, one that is brought to format 2, and a checkpoint.
 use Rattle.std.specs.Prelude.{◌≡◌, ◌⊎◌, ℕ, ◌+◌, ◌*◌, ◌-◌, ◌≤◌, IsTrue, true, min, List, length}
 use Rattle.oa_disk.specs.Disk.{Torn}
 use Rattle.oa_disk.specs.Memory.{IsTornAt, image_of, moments_of}
@@ -11,13 +11,13 @@ use Rattle.oa_idl.specs.Trees.{TreeValue}
 use Rattle.oa_image.specs.Tables.{is_numbered}
 use Rattle.oa_journal.specs.Banks.{first_gate}
 use Rattle.oa_journal.specs.Reads.{WritesNothing}
-use Rattle.oa_journal.specs.Shapes.{default_bank_bytes}
-use Rattle.oa_journal.specs.declared.shape.Shape.TheVariants.{Two}
+use Rattle.oa_journal.specs.declared.shape.Shape.TheVariants.{One, Two}
 use Rattle.oa_turn.specs.Events.{held_of}
 use Rattle.oa_decision.specs.States.{State}
 use Rattle.oa_server.specs.Requests.{requests}
 use Rattle.oa_store.specs.Calls.{checkpoint_calls, format_calls}
-use Rattle.oa_store.specs.Changes.{IsNoneOrFirst}
+use Rattle.oa_store.specs.Changes.{IsNoneOrFirst, IsUpgrade}
+use Rattle.oa_store.specs.Faults.{IsBrought}
 use Rattle.oa_store.specs.Stores.{IsStoreAt}
 use Rattle.oa_store.specs.declared.store.Store.{Store}
 use Rattle.oa_table.specs.Tables.{TableValue, unlocked_table}
@@ -25,11 +25,24 @@ use Rattle.oa_history.specs.declared.session.Stop.{Stop}
 
 -- A disk that held this was formatted with the library, and stopped: it holds the same but for the first byte, or no store, or the new
 -- one; and that is what a crash of the disk at the moment of the stop leaves, as the tear says. It made the calls of one format at most.
-pub record IsStoppedFormatting (found : List ℕ) (library : TreeValue) (moment : ℕ) (tear : Tear) (disk : MemoryDisk)
+pub record IsStoppedFormatting (found : List ℕ) (library : TreeValue) (bank : ℕ) (moment : ℕ) (tear : Tear) (disk : MemoryDisk)
     (left : List ℕ) : Type 0 where
-  pub either : Torn 0 1 found left ⊎ IsNoneOrFirst default_bank_bytes (canonical library) left
+  pub either : Torn 0 1 found left ⊎ IsNoneOrFirst bank (canonical library) left
   pub torn : IsTornAt disk tear (min moment (moments_of disk)) left
   pub calls : moments_of disk ≤ 2 * format_calls (canonical library)
+
+-- A disk that held this was brought to format 2 with banks of this size, and stopped: whatever it was a store of, it is that still, in its
+-- format of before or in the new one, as a crash of the disk at the moment of the stop leaves it and the tear says. It was a store of format
+-- 1, and once the last call of the disk has ended it is the same one in the new format. It made the calls of one reading and of one
+-- checkpoint at most.
+pub record IsStoppedUpgrading (found : List ℕ) (bank : ℕ) (stop : Stop) (disk : MemoryDisk) (left : List ℕ) : Type 0 where
+  pub either : IsUpgrade bank found left
+  pub torn : IsTornAt disk stop.tear (min stop.moment (moments_of disk)) left
+  pub brought : IsBrought bank found (image_of disk)
+  pub chosen : ℕ
+  pub gate : ℕ
+  pub was : IsStoreAt One chosen gate brought.was.library brought.was.table found
+  pub calls : moments_of disk + length brought.was.library ≤ 16 + gate + 2 * checkpoint_calls brought.was.library brought.was.table
 
 -- A store was opened on the disk: what is read is that store, and each image is, once it was opened, which wrote nothing.
 pub record IsFoundStore {D : Type 0} {g : Ghosts D} (disk : D) (store : Store D g) (table : TableValue) : Type 0 where

@@ -1,5 +1,5 @@
 -- What stands on a disk between two sessions, and what an opening of it makes.
-use Rattle.std.specs.Prelude.{◌≡◌, ◌<◌, ℕ, false, [], ⊤}
+use Rattle.std.specs.Prelude.{◌≡◌, ◌<◌, ℕ, List, false, [], ⊤}
 use Rattle.oa_disk.specs.Disk.{NothingPending}
 use Rattle.oa_disk.specs.Memory.{contents_of, image_of, moments_of}
 use Rattle.oa_disk.specs.declared.disk.DeviceFault.TheVariants as devices
@@ -8,11 +8,12 @@ use Rattle.oa_disk.specs.declared.memory.MemoryDisk.{MemoryDisk}
 use Rattle.oa_canonical.specs.Canonical.{canonical}
 use Rattle.oa_groups.specs.Runs.{HoldsState}
 use Rattle.oa_groups.specs.Sessions.{Sitting}
-use Rattle.oa_idl.specs.Trees.{TreeValue}
-use Rattle.oa_keeps.specs.LibraryTexts.{StandsFor}
-use Rattle.oa_keeps.specs.declared.library_text.TextError.{TextError}
 use Rattle.oa_keeps.specs.declared.library_text.TextError.TheVariants as texts
+use Rattle.oa_journal.specs.Shapes.{disk_bytes}
+use Rattle.oa_journal.specs.declared.shape.Shape.TheVariants.{One, Two}
 use Rattle.oa_turn.specs.Beginnings.{CanBegin}
+use Rattle.oa_turn.specs.Events.{held_of}
+use Rattle.oa_server.specs.Openings.{IsOpened}
 use Rattle.oa_server.specs.Requests.{opened, requests}
 use Rattle.oa_decision.specs.States.{State}
 use Rattle.oa_server.specs.Storages.{OverStore}
@@ -20,11 +21,13 @@ use Rattle.oa_server.specs.declared.server.Server.{Server}
 use Rattle.oa_store.specs.Faults.{SpeaksOfContents}
 use Rattle.oa_store.specs.declared.fault.FormatFault.{FormatFault}
 use Rattle.oa_store.specs.declared.fault.FormatFault.TheVariants as formats
+use Rattle.oa_store.specs.declared.fault.UpgradeFault.{UpgradeFault}
+use Rattle.oa_store.specs.declared.fault.UpgradeFault.TheVariants as upgrades
 use Rattle.oa_store.specs.declared.fault.WriteFault.TheVariants as writes
+use Rattle.oa_store.specs.Stores.{IsStoreIn}
 use Rattle.oa_store.specs.declared.store.Store.{Store}
-use Rattle.oa_typelib.specs.Checked.{IsChecked}
 use Rattle.oa_history.specs.declared.fault.HistoryFault.{HistoryFault}
-use Rattle.oa_history.specs.declared.fault.HistoryFault.TheVariants.{Format, Open, Checkpoint, Text, Memory}
+use Rattle.oa_history.specs.declared.fault.HistoryFault.TheVariants.{Format, Upgrade, Open, Checkpoint, Text, Memory}
 
 -- A disk that was just made, or found after a crash: its clock stands at 0, and a crash leaves what a read gives.
 pub record IsFreshDisk (disk : MemoryDisk) : Type 0 where
@@ -37,39 +40,63 @@ pub record IsKept (disk : MemoryDisk) (state : State) : Type 0 where
   pub begins : CanBegin state
   pub unlocked : opened state ≡ state
 
+-- These are a store of format 1 of the state's library and table, with which a server can begin once it is brought to banks of this size.
+pub record CanBecome (bank : ℕ) (contents : List ℕ) (state : State) : Type 0 where
+  pub was : IsStoreIn One contents (canonical state.library) (held_of state)
+  pub banks : bank ≡ state.bank
+  pub begins : CanBegin state
+  pub unlocked : opened state ≡ state
+
 -- A session of a server was begun on the disk: it serves the state, and so far nothing was asked.
 pub record Sits {D : Type 0} {g : Ghosts D} (disk : D) (store : Store D g) (state : State) : Type 0 where
   pub goes_on : store.stopped ≡ false
   pub sits : Sitting requests disk store state state []
 
+-- It was opened on that very disk: nothing was written, and no more calls were made than an opening makes.
 pub record BeginsServing {D : Type 0} {g : Ghosts D} (disk : D) (server : Server D g) (state : State) : Type 0 where
   pub host : server.engine.host ≡ state
+  pub found : OverStore server.engine.storage (λ store. IsOpened g disk state.library store state.table)
   pub over : OverStore server.engine.storage (λ store. Sits disk store state)
 
--- Why the canonical text of a checked library was not read: it does not stand for that one, or memory was refused.
-abbrev pub IsUnread : TextError → Type 0
-IsUnread texts.NoLibrary = (library : TreeValue) × IsChecked library × (StandsFor (canonical library) library → ⊥)
-IsUnread texts.Memory = ⊤
-
--- Why a store that stands has no history: memory is wanting, or room on the disk, or a call of it has failed, or a text
--- was not read. No opening was refused.
+-- Why a store that stands has no history: memory is wanting, or room on the disk, or a call of it has failed. No opening was refused, and the
+-- text of each library is read.
 abbrev pub IsWanting : HistoryFault → Type 0
 IsWanting (Format fault) = ⊥
+IsWanting (Upgrade fault) = ⊥
 IsWanting (Open fault) = SpeaksOfContents fault → ⊥
 IsWanting (Checkpoint fault) = fault ≡ writes.Device devices.Write
-IsWanting (Text fault) = IsUnread fault
+IsWanting (Text fault) = fault ≡ texts.Memory
 IsWanting Memory = ⊤
 
--- it says no more than that of a disk of this size: one is too small where it has no room for a store
-abbrev pub IsUnformatted : ℕ → FormatFault → Type 0
-IsUnformatted size formats.TooSmall = size < 75505664
-IsUnformatted size (formats.Device fault) = ⊤
-IsUnformatted size formats.Memory = ⊤
+-- it says no more than that of a disk of this size: one is too small where it has no room for a store with such banks
+abbrev pub IsUnformatted : ℕ → ℕ → FormatFault → Type 0
+IsUnformatted bank size formats.TooSmall = size < disk_bytes (Two bank)
+IsUnformatted bank size (formats.Device fault) = ⊤
+IsUnformatted bank size formats.Memory = ⊤
 
--- Why a disk of this size has none: that, or it was not formatted.
-abbrev pub IsUnmade : ℕ → HistoryFault → Type 0
-IsUnmade size (Format fault) = IsUnformatted size fault
-IsUnmade size (Open fault) = SpeaksOfContents fault → ⊥
-IsUnmade size (Checkpoint fault) = fault ≡ writes.Device devices.Write
-IsUnmade size (Text fault) = IsUnread fault
-IsUnmade size Memory = ⊤
+-- Why a disk of this size has none over a new store with such banks: that, or it was not formatted.
+abbrev pub IsUnmade : ℕ → ℕ → HistoryFault → Type 0
+IsUnmade bank size (Format fault) = IsUnformatted bank size fault
+IsUnmade bank size (Upgrade fault) = ⊥
+IsUnmade bank size (Open fault) = SpeaksOfContents fault → ⊥
+IsUnmade bank size (Checkpoint fault) = fault ≡ writes.Device devices.Write
+IsUnmade bank size (Text fault) = fault ≡ texts.Memory
+IsUnmade bank size Memory = ⊤
+
+-- Why a store of format 1 that such banks take was not brought to them on a disk of this size: it has no room for them, or memory is wanting,
+-- or a call of it has failed.
+abbrev pub IsNotBrought : ℕ → ℕ → UpgradeFault → Type 0
+IsNotBrought bank size upgrades.TooSmall = size < disk_bytes (Two bank)
+IsNotBrought bank size upgrades.NotAStore = ⊥
+IsNotBrought bank size upgrades.AlreadyNew = ⊥
+IsNotBrought bank size (upgrades.Damaged place) = ⊥
+IsNotBrought bank size (upgrades.Device fault) = ⊤
+IsNotBrought bank size upgrades.Memory = ⊤
+
+abbrev pub IsUnbrought : ℕ → ℕ → HistoryFault → Type 0
+IsUnbrought bank size (Format fault) = ⊥
+IsUnbrought bank size (Upgrade fault) = IsNotBrought bank size fault
+IsUnbrought bank size (Open fault) = ⊥
+IsUnbrought bank size (Checkpoint fault) = ⊥
+IsUnbrought bank size (Text fault) = ⊥
+IsUnbrought bank size Memory = ⊤

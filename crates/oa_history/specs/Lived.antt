@@ -98,17 +98,21 @@ Lives found before (step ∷ steps) (heard ∷ others) left after =
 Lives found before [] (heard ∷ others) left after = ⊥
 Lives found before (step ∷ steps) [] left after = ⊥
 
--- What is played on a new store of a state, on a disk of so many bytes, and told at last: a server that was opened on what is left, and
--- serves the state that this is a store of; the store's library, and its table.
-pub record IsLived (bytes : ℕ) (state : State) (steps : List Step) (lived : Lived) : Type 0 where
-  pub new : List ℕ
-  pub size : length new ≡ bytes
-  pub holds : HoldsState requests state new
+-- What is played on a store of a state, and told at last: a server that was opened on what is left, and serves the state that this is a store
+-- of; the store's library, and its table.
+pub record IsLivedOn (found : List ℕ) (state : State) (steps : List Step) (lived : Lived) : Type 0 where
   pub left : List ℕ
   pub last : State
-  pub lives : Lives new state steps lived.heard.items left last
+  pub lives : Lives found state steps lived.heard.items left last
   pub end : MemoryDisk
   pub holds_left : contents_of end ≡ left
   pub begins : BeginsServing end lived.opened.server last
   pub library : lived.library.items ≡ canonical last.library
   pub table : lived.table ≡ last.table
+
+-- Such a store is new, on a disk of so many bytes.
+pub record IsLived (bytes : ℕ) (state : State) (steps : List Step) (lived : Lived) : Type 0 where
+  pub new : List ℕ
+  pub size : length new ≡ bytes
+  pub holds : HoldsState requests state new
+  pub history : IsLivedOn new state steps lived

@@ -12,7 +12,9 @@ use Rattle.oa_groups.specs.Sessions.{AnsweredCall, ServesCalls}
 use Rattle.oa_groups.specs.Turns.{Exchange}
 use Rattle.oa_canonical.specs.Canonical.{canonical}
 use Rattle.oa_record.specs.Replies.{ReplyValue}
-use Rattle.oa_server.specs.Openings.{IsOpened}
+use Rattle.oa_idl.specs.Trees.{TreeValue}
+use Rattle.oa_server.specs.Openings.{IsNotOpened, IsOpened}
+use Rattle.oa_store.specs.declared.fault.OpenFault.TheVariants.{Device}
 use Rattle.oa_turn.specs.Events.{held_of}
 use Rattle.oa_server.specs.Requests.{opened, requests}
 use Rattle.oa_decision.specs.States.{State}
@@ -81,15 +83,25 @@ pub record IsPlayed (disk : MemoryDisk) (first_failing : ℕ) (calls : List Serv
   pub all : fault ≡ false → length groups ≡ count
   pub all_but_one : fault ≡ true → length groups ≡ count + 1
 
+-- A server was refused on such a disk, with this library, by a fault of the device of this kind, and the disk was handed back.
+pub record IsUnopened (g : Ghosts (FuseDisk MemoryDisk)) (disk : MemoryDisk) (first_failing : ℕ) (library : TreeValue) (fault : DeviceFault)
+    (back : MemoryDisk) : Type 0 where
+  pub fuse : FuseDisk MemoryDisk
+  pub within : inner_of fuse ≡ disk
+  pub passes : calls_left_of fuse ≡ first_failing - 1
+  pub end : FuseDisk MemoryDisk
+  pub handed_back : back ≡ inner_of end
+  pub tells : IsNotOpened g fuse end library (Device fault)
+
 -- What calls over such a disk come to, and what it may hold when it is handed back.
-pub record IsWithstood (disk : MemoryDisk) (first_failing : ℕ) (calls : List ServerCall) (told : Result (Vec Told) DeviceFault)
+pub record IsWithstood (g : Ghosts (FuseDisk MemoryDisk)) (disk : MemoryDisk) (first_failing : ℕ) (calls : List ServerCall) (told : Result (Vec Told) DeviceFault)
     (before : State)
     (back : MemoryDisk) : Type 0 where
   pub groups : List (List (Exchange ReplyValue))
   pub count : ℕ
   pub played : IfOk told (λ all. IsPlayed disk first_failing calls all.items before groups count back)
-  -- no server was opened, and so there is no group
-  pub unopened : IfErr told (λ fault. groups ≡ [])
+  -- no server was opened, which tells how it was refused, and so there is no group
+  pub unopened : IfErr told (λ fault. IsUnopened g disk first_failing before.library fault back × (groups ≡ []))
   -- All groups that were answered are kept, and the one in which the device failed, whole or not at all: so what is read, and so whatever
   -- a loss of power leaves.
   pub kept : (c : List ℕ) → image_of back c → IsAfter requests count before groups c
@@ -102,16 +114,22 @@ pub record IsTakenUp {D : Type 0} {g : Ghosts D} (disk : D) (server : Server D g
   pub found : OverStore server.engine.storage (λ store. IsOpened g disk state.library store state.table)
   pub over : OverStore server.engine.storage (λ store. AllHoldState requests store state)
 
--- Calls over a new store of a state, on a disk of so many bytes that fails from some call on; then the disk is opened as it was handed
--- back, by way of nothing that fails.
-pub record IsSurvived (bytes : ℕ) (state : State) (calls : List ServerCall) (first_failing : ℕ) (survived : Survived) : Type 0 where
-  pub new : MemoryDisk
-  pub size : new.first.size ≡ bytes
-  pub holds : HoldsAlone new state
+-- Calls over a store of a state, on a disk that fails from some call on; then the disk is opened as it was handed back, by way of nothing
+-- that fails.
+pub record IsSurvivedOn (g : Ghosts (FuseDisk MemoryDisk)) (disk : MemoryDisk) (state : State) (calls : List ServerCall)
+    (first_failing : ℕ) (survived : Survived) : Type 0 where
   pub back : MemoryDisk
-  pub withstood : IsWithstood new first_failing calls survived.told state back
+  pub withstood : IsWithstood g disk first_failing calls survived.told state back
   -- what is read of it
   pub kept : IsAfter requests withstood.count state withstood.groups (contents_of back)
   pub taken_up : IsTakenUp back survived.opened.server (opened kept.state)
   pub library : survived.library.items ≡ canonical kept.state.library
   pub table : survived.table ≡ held_of kept.state
+
+-- Such a store is new, on a disk of so many bytes.
+pub record IsSurvived (g : Ghosts (FuseDisk MemoryDisk)) (bytes : ℕ) (state : State) (calls : List ServerCall) (first_failing : ℕ)
+    (survived : Survived) : Type 0 where
+  pub new : MemoryDisk
+  pub size : new.first.size ≡ bytes
+  pub holds : HoldsAlone new state
+  pub failing : IsSurvivedOn g new state calls first_failing survived

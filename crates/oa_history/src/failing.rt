@@ -2,7 +2,7 @@
 ghost use Rattle.std.specs.Prelude.{◌≡◌, IfOk, IfErr};
 ghost use Rattle.oa_decision.specs.States.{State};
 ghost use Rattle.oa_history.specs.Kept.{IsKept, IsFreshDisk, IsWanting};
-ghost use Rattle.oa_history.specs.Survived.{AnsweredBy, BeginsOver, HoldsAlone, IsWithstood};
+ghost use Rattle.oa_history.specs.Survived.{AnsweredBy, BeginsOver, HoldsAlone, IsUnopened, IsWithstood};
 ghost use Rattle.oa_history.specs.declared.fault.HistoryFault.TheVariants.{Memory};
 
 use crate::reopening::library_on;
@@ -42,6 +42,8 @@ fn opened_through(
     ensures begins { IfOk result (λ outcome. IfOk outcome (λ fused. (state : State) → IsKept disk state
         → BeginsOver disk first_failing fused.server state)) }
     ensures refused { IfOk result (λ outcome. IfErr outcome (λ e. (state : State) → IsKept disk state → HoldsAlone e.0 state)) }
+    ensures tells { IfOk result (λ outcome. IfErr outcome (λ e. (state : State) → IsKept disk state
+        → IsUnopened ⟦<FuseDisk<MemoryDisk> as Disk>⟧ disk first_failing state.library e.1 e.0)) }
     ensures wanting { IfErr result (λ fault. (state : State) → IsKept disk state → IsWanting fault) }
 {
     an_opening_finds_what_was_kept::<FuseDisk<MemoryDisk>>();
@@ -75,7 +77,8 @@ fn told_by(
 }
 
 /// Opens the store on the disk with its own library, makes the calls, and hands the disk back; from call number `first_failing` of the disk
-/// on, each call of it fails. Answers what each call of the server was told, or the fault of the device that the opening has met.
+/// on, each call of it fails. Answers what each call of the server was told, or the fault of the device that the opening has met, as it tells
+/// it.
 pub fn withstood(
     alloc: Global,
     disk: MemoryDisk,
@@ -84,7 +87,7 @@ pub fn withstood(
 ) -> Result<(Result<Vec<Told>, DeviceFault>, MemoryDisk), HistoryFault>
     requires { IsFreshDisk disk }
     ensures withstood { IfOk result (λ r. (before : State) → IsKept disk before
-        → IsWithstood disk first_failing calls.now r.0 before r.1) }
+        → IsWithstood ⟦<FuseDisk<MemoryDisk> as Disk>⟧ disk first_failing calls.now r.0 before r.1) }
     ensures wanting { IfErr result (λ fault. (before : State) → IsKept disk before → IsWanting fault) }
 {
     sessions_go_on::<FuseDisk<MemoryDisk>>();

@@ -3,7 +3,7 @@ ghost use Rattle.std.specs.Prelude.{◌≡◌};
 ghost use Rattle.oa_history.specs.declared.fault.HistoryFault.TheVariants.{Memory};
 
 use oa_keeps::TextError;
-use oa_store::{FormatFault, OpenFault, WriteFault};
+use oa_store::{FormatFault, OpenFault, UpgradeFault, WriteFault};
 use std::alloc::{AllocError, AllocFailed};
 use thiserror::Error;
 
@@ -13,13 +13,16 @@ pub enum HistoryFault {
     /// The disk was not formatted.
     #[error("not formatted: {0}")]
     Format(FormatFault),
+    /// A store of format 1 was not brought to format 2.
+    #[error("not brought: {0}")]
+    Upgrade(UpgradeFault),
     /// A store was not opened, since memory was refused or a call of the device failed.
     #[error("not opened: {0}")]
     Open(OpenFault),
     /// A checkpoint was not made, since a call of the device failed.
     #[error("no checkpoint: {0}")]
     Checkpoint(WriteFault),
-    /// The text of a store's library was not read.
+    /// The text of a store's library was not read, since memory was refused.
     #[error("library: {0}")]
     Text(TextError),
     /// Memory was refused.

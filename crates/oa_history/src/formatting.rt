@@ -1,7 +1,7 @@
 //! A new store whose making is stopped.
 ghost use Rattle.std.specs.Prelude.{◌≤◌, IfOk, IfErr};
 ghost use Rattle.oa_disk.specs.Memory.{contents_of, moments_of};
-ghost use Rattle.oa_journal.specs.Shapes.{default_bank_bytes};
+ghost use Rattle.oa_journal.specs.Shapes.{least_bank_bytes, most_bank_bytes};
 ghost use Rattle.oa_decision.specs.States.{state_of};
 ghost use Rattle.oa_table.specs.Tables.{first_table};
 ghost use Rattle.oa_history.specs.Between.{IsStoppedFormatting};
@@ -9,31 +9,33 @@ ghost use Rattle.oa_history.specs.Kept.{IsKept, IsFreshDisk, IsUnmade};
 
 use crate::HistoryFault;
 use oa_disk::{MemoryDisk, Tear};
-use oa_journal::DEFAULT_BANK_BYTES;
 use oa_server::laws::what_was_served_is_served_again;
 use oa_store::format;
 use oa_typelib::Library;
 use std::alloc::Global;
 
-/// Formats the disk with the library, and stops at the moment. Answers the disk as it was at the end, and the disk that the stop has left:
+/// Formats the disk with the library and bodies of that size, and stops at the moment. Answers the disk as it was at the end, and the disk that the stop has left:
 /// that holds what was there but for the first byte, or no store, or the new store; and at the end the new store.
 pub fn formatted(
     alloc: Global,
     disk: MemoryDisk,
     library: &Library,
+    bank: u32,
     moment: u64,
     tear: Tear,
 ) -> Result<(MemoryDisk, MemoryDisk), HistoryFault>
-    requires { IsFreshDisk disk }
+    requires fresh { IsFreshDisk disk }
+    requires least { least_bank_bytes ≤ bank }
+    requires most { bank ≤ most_bank_bytes }
     ensures settled { IfOk result (λ r. IsFreshDisk r.1) }
-    ensures formatted { IfOk result (λ r. IsStoppedFormatting (contents_of disk) library.now moment tear r.0 (contents_of r.1)) }
-    ensures kept { IfOk result (λ r. moments_of r.0 ≤ moment → IsKept r.1 (state_of default_bank_bytes library.now first_table)) }
-    ensures wanting { IfErr result (IsUnmade disk.first.size) }
+    ensures formatted { IfOk result (λ r. IsStoppedFormatting (contents_of disk) library.now bank moment tear r.0 (contents_of r.1)) }
+    ensures kept { IfOk result (λ r. moments_of r.0 ≤ moment → IsKept r.1 (state_of bank library.now first_table)) }
+    ensures wanting { IfErr result (IsUnmade bank disk.first.size) }
 {
     library.is_checked();
     what_was_served_is_served_again();
     let mut disk = disk;
-    if let Err(fault) = format(alloc, &mut disk, library.text(), DEFAULT_BANK_BYTES) {
+    if let Err(fault) = format(alloc, &mut disk, library.text(), bank) {
         return Err(HistoryFault::Format(fault));
     }
     let left = disk.crash(moment.min(disk.moments()), tear)?;

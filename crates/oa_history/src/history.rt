@@ -1,11 +1,11 @@
 //! Sessions, and checkpoints between them, one after another.
-ghost use Rattle.std.specs.Prelude.{IfOk, IfErr};
+ghost use Rattle.std.specs.Prelude.{◌≤◌, IfOk, IfErr};
 ghost use Rattle.oa_disk.specs.Memory.{contents_of};
-ghost use Rattle.oa_journal.specs.Shapes.{default_bank_bytes};
+ghost use Rattle.oa_journal.specs.Shapes.{least_bank_bytes, most_bank_bytes};
 ghost use Rattle.oa_decision.specs.States.{State, state_of};
 ghost use Rattle.oa_table.specs.Tables.{first_table};
 ghost use Rattle.oa_history.specs.Kept.{IsKept, IsFreshDisk, IsUnmade, IsWanting};
-ghost use Rattle.oa_history.specs.Lived.{IsLived, IsStepped};
+ghost use Rattle.oa_history.specs.Lived.{IsLived, IsLivedOn, IsStepped};
 
 use crate::reopening::{begun, reopened, shown};
 use crate::{Heard, HistoryFault, Opened, Replies, Step, checkpointed, stopped};
@@ -49,25 +49,24 @@ fn stepped(
     }
 }
 
-/// Formats the disk with the library, plays the sessions on it and makes the checkpoints, one after another, and opens it once more.
+/// Plays the sessions on the disk and makes the checkpoints, one after another, and opens it once more.
 ///
 /// Each session opens what the stop before it has left. Its replies are those of a run from the state that was kept, a library and a table of
 /// objects, group for group; and its own stop keeps some first groups of it, whole, all that were answered among them: over a stream all whose
 /// replies had been handed out. A checkpoint keeps the state. The state that is told at last is the one that the last stop has kept. A request
 /// that was not answered with S_OK leaves no trace in it.
 ///
-/// Memory is taken for each disk's calls and for what they write. An Err says that it was refused, that a disk has no room for a store or
-/// for a call more, or that the canonical text of some checked library does not stand for it: no opening is refused.
-pub fn relive(
-    alloc: Global,
-    library: &Library,
-    disk: MemoryDisk,
-    steps: &[Step],
-) -> Result<Lived, HistoryFault>
-    ensures lived { IfOk result (IsLived disk.first.size (state_of default_bank_bytes library.now first_table) steps.now) }
-    ensures wanting { IfErr result (IsUnmade disk.first.size) }
+/// The disk holds a store, whatever its banks, new or with objects: one that `formatted` or `upgraded` has left, or what was left by steps.
+///
+/// Memory is taken for each disk's calls and for what they write. An Err says that it was refused, or that a disk has no room for a call
+/// more: no opening is refused, and the text of a store's library is read.
+pub fn relive_on(alloc: Global, disk: MemoryDisk, steps: &[Step]) -> Result<Lived, HistoryFault>
+    requires { IsFreshDisk disk }
+    ensures lived { IfOk result (λ lived. (state : State) → IsKept disk state
+        → IsLivedOn (contents_of disk) state steps.now lived) }
+    ensures wanting { IfErr result (λ fault. (state : State) → IsKept disk state → IsWanting fault) }
 {
-    let mut disk = begun(alloc, disk, library)?;
+    let mut disk = disk;
     let mut heard = Vec::new(alloc);
     'steps: for step in steps {
         let (told, left) = stepped(alloc, disk, step)?;
@@ -82,4 +81,24 @@ pub fn relive(
         table,
         opened,
     })
+}
+
+/// Formats the disk with the library and bodies of that size, and then does what `relive_on` does. The state at first is that of the
+/// library and no objects.
+///
+/// An Err says what it says there, or that the disk was not formatted: where it has no room for a store, too.
+pub fn relive(
+    alloc: Global,
+    library: &Library,
+    bank: u32,
+    disk: MemoryDisk,
+    steps: &[Step],
+) -> Result<Lived, HistoryFault>
+    requires least { least_bank_bytes ≤ bank }
+    requires most { bank ≤ most_bank_bytes }
+    ensures lived { IfOk result (IsLived disk.first.size (state_of bank library.now first_table) steps.now) }
+    ensures wanting { IfErr result (IsUnmade bank disk.first.size) }
+{
+    let disk = begun(alloc, disk, library, bank)?;
+    relive_on(alloc, disk, steps)
 }

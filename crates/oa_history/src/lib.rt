@@ -1,5 +1,6 @@
 //! Sessions of a server on a disk in memory, as calls: one after another, by calls of the server or over a stream, each
-//! stopped at a moment of its disk's clock (`relive`), and one over a disk that fails from some call on (`survive`).
+//! stopped at a moment of its disk's clock (`relive_on`; `relive` over a new store), and one over a disk that fails from some call on
+//! (`survive_on`, `survive`).
 //!
 //! Its contract: what each call answers is lived or survived as a reader of the proofs would have it (`IsLived`,
 //! `IsSurvived`); docs/reading-the-proofs.md begins with them.
@@ -18,14 +19,16 @@ mod session;
 mod stopping;
 mod streaming;
 mod surviving;
+mod upgrading;
 
 pub use checkpointing::checkpointed;
 pub use failing::{Fused, Told, withstood};
 pub use fault::HistoryFault;
 pub use formatting::formatted;
-pub use history::{Lived, relive};
+pub use history::{Lived, relive, relive_on};
 pub use session::{
     Answer, Asked, Heard, Input, Opened, Replies, ServerCall, Session, Step, Stop, Written,
 };
 pub use stopping::stopped;
-pub use surviving::{Survived, survive};
+pub use surviving::{Survived, survive, survive_on};
+pub use upgrading::upgraded;

@@ -1,8 +1,8 @@
 //! A new store, and the opening of one with its own library.
-ghost use Rattle.std.specs.Prelude.{◌≡◌, IfOk, IfErr};
+ghost use Rattle.std.specs.Prelude.{◌≡◌, ◌≤◌, IfOk, IfErr};
 ghost use Rattle.oa_disk.specs.Memory.{contents_of};
 ghost use Rattle.oa_groups.specs.Runs.{HoldsState};
-ghost use Rattle.oa_journal.specs.Shapes.{default_bank_bytes};
+ghost use Rattle.oa_journal.specs.Shapes.{least_bank_bytes, most_bank_bytes};
 ghost use Rattle.oa_server.specs.Requests.{requests};
 ghost use Rattle.oa_decision.specs.States.{State, state_of};
 ghost use Rattle.oa_store.specs.Stores.{IsStore};
@@ -12,10 +12,9 @@ ghost use Rattle.oa_history.specs.Kept.{BeginsServing, IsKept, IsFreshDisk, IsUn
 ghost use Rattle.oa_history.specs.declared.fault.HistoryFault.TheVariants.{Memory};
 
 use crate::{HistoryFault, Opened};
-use oa_canonical::laws::marked_is_read;
+use oa_canonical::laws::{canonical_is_utf8, every_tree_is_printable, marked_is_read};
 use oa_disk::{MemoryDisk, Tear};
 use oa_idl::laws::one_tree;
-use oa_journal::DEFAULT_BANK_BYTES;
 use oa_keeps::read_library;
 use oa_server::Server;
 use oa_server::laws::{an_opening_finds_what_was_kept, what_was_served_is_served_again};
@@ -24,21 +23,24 @@ use oa_table::Table;
 use oa_typelib::Library;
 use std::alloc::Global;
 
-/// A disk with a store of this library and no objects, as it is found after its making.
+/// A disk with a store of this library and no objects, with bodies of that size, as it is found after its making.
 pub(crate) fn begun(
     alloc: Global,
     disk: MemoryDisk,
     library: &Library,
+    bank: u32,
 ) -> Result<MemoryDisk, HistoryFault>
+    requires least { least_bank_bytes ≤ bank }
+    requires most { bank ≤ most_bank_bytes }
     ensures settled { IfOk result IsFreshDisk }
     ensures size { IfOk result (λ made. made.first.size ≡ disk.first.size) }
-    ensures kept { IfOk result (λ disk. IsKept disk (state_of default_bank_bytes library.now first_table)) }
-    ensures wanting { IfErr result (IsUnmade disk.first.size) }
+    ensures kept { IfOk result (λ disk. IsKept disk (state_of bank library.now first_table)) }
+    ensures wanting { IfErr result (IsUnmade bank disk.first.size) }
 {
     library.is_checked();
     what_was_served_is_served_again();
     let mut disk = disk;
-    if let Err(fault) = format(alloc, &mut disk, library.text(), DEFAULT_BANK_BYTES) {
+    if let Err(fault) = format(alloc, &mut disk, library.text(), bank) {
         return Err(HistoryFault::Format(fault));
     }
     Ok(disk.crash(disk.moments(), Tear::Kept)?)
@@ -72,7 +74,9 @@ pub(crate) fn library_on(alloc: Global, disk: &MemoryDisk) -> Result<Library, Hi
         → IsChecked state.library → IsWanting fault) }
 {
     one_tree();
+    every_tree_is_printable();
     marked_is_read();
+    canonical_is_utf8();
     let (text, _) = shown(alloc, disk)?;
     match read_library(alloc, text.as_slice()) {
         Ok(library) => Ok(library),

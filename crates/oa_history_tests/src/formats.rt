@@ -1,5 +1,5 @@
 //! A format answers wherever it is stopped. What its stop leaves is shown of the program (`tests/program/test_crashes.py`).
-use crate::script::{library, new_disk};
+use crate::script::{BANK, library, new_disk};
 use oa_disk::Tear;
 use oa_history::formatted;
 use std::alloc::Global;
@@ -9,7 +9,8 @@ use std::rt::HostRuntime;
 fn answers(alloc: Global) -> Option<()> {
     let library = library(alloc)?;
     for moment in 0..17u64 {
-        let _ = formatted(alloc, new_disk(alloc)?, &library, moment, Tear::Lost).ok()?;
+        let disk = new_disk(alloc)?;
+        let _ = formatted(alloc, disk, &library, BANK, moment, Tear::Lost).ok()?;
     }
     Some(())
 }

@@ -107,6 +107,9 @@ pub(crate) fn replies(from: usize, to: usize) -> Option<&'static [&'static str]>
     REPLIES.get(from..to)
 }
 
+/// The bytes of a bank's body.
+pub(crate) const BANK: u32 = 20_971_520;
+
 /// Behind the end of any session.
 pub(crate) const END: u64 = 0xffff_ffff;
 
@@ -259,7 +262,8 @@ pub(crate) fn are_told(library: &Library, text: &[u8], table: &Table, place: usi
 pub(crate) fn new_store(alloc: Global) -> Option<MemoryDisk>
     ensures { IfSome result IsFreshDisk }
 {
-    match formatted(alloc, new_disk(alloc)?, &library(alloc)?, END, Tear::Kept) {
+    let disk = new_disk(alloc)?;
+    match formatted(alloc, disk, &library(alloc)?, BANK, END, Tear::Kept) {
         Ok((_, store)) => Some(store),
         Err(_) => None,
     }

@@ -3,8 +3,8 @@ ghost use Rattle.std.specs.Prelude.{◌≤◌};
 
 use crate::counts::{COMMIT, OPENING};
 use crate::script::{
-    TEARS, are_told, calls_of, expect, first, left_by, library, new_disk, new_store, next_store,
-    read_by, read_of, second,
+    BANK, TEARS, are_told, calls_of, expect, first, left_by, library, new_disk, new_store,
+    next_store, read_by, read_of, second,
 };
 use oa_disk::{DeviceFault, MemoryDisk, Tear};
 use oa_history::{ServerCall, Survived, Told, survive, withstood};
@@ -179,7 +179,8 @@ fn found_by(
 /// Plays these calls over a new store by `survive`, on a disk that fails from a call on.
 fn survived(alloc: Global, calls: &[ServerCall], first_failing: u64) -> Option<(Due, usize)> {
     let library = library(alloc)?;
-    match survive(alloc, &library, new_disk(alloc)?, calls, first_failing) {
+    let disk = new_disk(alloc)?;
+    match survive(alloc, &library, BANK, disk, calls, first_failing) {
         Ok(mut survived) => found_by(alloc, &library, &mut survived, first_failing),
         Err(_) => None,
     }

@@ -6,7 +6,7 @@ ghost use Rattle.oa_model.specs.Limits.{max_group};
 
 use crate::counts::{checkpoint_moments, groups_over, session_moments};
 use crate::script::{
-    END, TEARS, are_told, calls_of, expect, first, is_answered, library, new_disk, place_in,
+    BANK, END, TEARS, are_told, calls_of, expect, first, is_answered, library, new_disk, place_in,
     read_by, reads, replies, second,
 };
 use oa_frame::Framing;
@@ -152,7 +152,8 @@ fn history(alloc: Global, step: usize, way: Way, stop: Stop) -> Option<(u64, u64
     let mut steps = Vec::new(alloc);
     add_all(alloc, &mut steps, step, way, stop)?;
     let library = library(alloc)?;
-    match relive(alloc, &library, new_disk(alloc)?, steps.as_slice()) {
+    let disk = new_disk(alloc)?;
+    match relive(alloc, &library, BANK, disk, steps.as_slice()) {
         Ok(mut lived) => ends_of(alloc, &library, &mut lived, step, way, stop),
         Err(_) => None,
     }

@@ -5,7 +5,7 @@ use Rattle.oa_disk.specs.Memory.{contents_of, image_of}
 use Rattle.oa_disk.specs.declared.memory.MemoryDisk.{MemoryDisk}
 use Rattle.oa_groups.specs.Runs.{HoldsState}
 use Rattle.oa_server.specs.Requests.{requests}
-use Rattle.oa_history.proofs.Found.{never_refused, serves, sits}
+use Rattle.oa_history.proofs.Found.{begun_on, never_refused, serves, sits}
 use Rattle.oa_history.proofs.failing.opened_through.Goals as goal
 
 pub returns-in-Ok-clause-begins : goal.returns-in-Ok-clause-begins
@@ -16,12 +16,14 @@ returns-in-Ok-clause-begins c state kept =
     let holds = subst (λ (d : MemoryDisk). HoldsState requests state (contents_of d)) (sym c.new-fuse.ensures.disk) kept.holds in
     let same = c.in_ok-library.ensures.kept state kept.holds kept.begins.checked in
     let engine = c.in-Ok.server.engine in
+    let host = serves fuse library state alone (λ d. refl) holds kept.unlocked same engine.storage engine.host c.in-Ok.ensures.library c.in-Ok.ensures.bank c.in-Ok.ensures.opened in
     record {
       fuse = fuse;
       within = c.new-fuse.ensures.disk;
       passes = c.new-fuse.ensures.calls;
       begins = record {
-        host = serves fuse library state alone (λ d. refl) holds kept.unlocked same engine.storage engine.host c.in-Ok.ensures.library c.in-Ok.ensures.bank c.in-Ok.ensures.opened;
+        host = host;
+        found = begun_on fuse library state engine.host engine.storage c.in-Ok.ensures.library host c.in-Ok.ensures.opened;
         over = sits fuse library state alone (λ d. refl) holds kept.unlocked same c.an_opening_finds_what_was_kept.ensures.begins engine.storage engine.host.table c.in-Ok.ensures.opened;
       };
     }
@@ -33,10 +35,24 @@ returns-in-Device-clause-refused c state kept image is =
     let was = subst (λ (d : MemoryDisk). image_of d image) c.new-fuse.ensures.disk (told.reads.images image here) in
     subst (λ (l : List ℕ). HoldsState requests state l) (sym (c.requires.alone image was)) kept.holds
 
+pub returns-in-Device-clause-tells : goal.returns-in-Device-clause-tells
+returns-in-Device-clause-tells c state kept =
+    let fuse = c.new-fuse.result in
+    let same = c.in_ok-library.ensures.kept state kept.holds kept.begins.checked in
+    record {
+      fuse = fuse;
+      within = c.new-fuse.ensures.disk;
+      passes = c.new-fuse.ensures.calls;
+      end = c.in-Err.back;
+      handed_back = c.into_inner.ensures;
+      tells = rw (← same, ← c.in-Device.is) c.in-Err.ensures.refused;
+    }
+
 pub returns-in_default : goal.returns-in_default
 returns-in_default c = record {
   begins = tt;
   refused = tt;
+  tells = tt;
   wanting = λ state kept r.
       let fuse = c.new-fuse.result in
       let alone = subst (λ (d : MemoryDisk). NothingPending contents_of image_of d) (sym c.new-fuse.ensures.disk) c.requires.alone in

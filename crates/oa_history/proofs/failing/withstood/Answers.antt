@@ -1,4 +1,5 @@
 use Rattle.std.proofs.Common.{[], ◌≡◌, ◌≤◌, Result, IfErr, IfOk, refl, ◌∙◌, ap, subst, arith}
+use Rattle.std.proofs.lemmas.Result.{IfErr-at_err}
 use Rattle.oa_disk.specs.Fuse.{inner_of}
 use Rattle.oa_disk.specs.Memory.{history_of, image_of, moments_of}
 use Rattle.oa_disk.specs.Replaying.{counts_now}
@@ -57,12 +58,13 @@ pub returns-in-Err-clause-withstood : goal.returns-in-Err-clause-withstood
 returns-in-Err-clause-withstood c before kept =
     let disk = c.args.disk in
     let refused = subst (λ (r : Result Fused (MemoryDisk × DeviceFault)). IfErr r (λ e. (state : State) → IsKept disk state → HoldsAlone e.0 state)) c.in-Err.is c.in_ok-fused.ensures.refused in
+    let unopened = IfErr-at_err _ c.in-Err.is c.in_ok-fused.ensures.tells in
     let holds = refused before kept in
     record {
       groups = [];
       count = 0;
       played = tt;
-      unopened = refl;
+      unopened = (unopened before kept, refl);
       kept = λ image is. record {
         done = [];
         later = [];

@@ -15,17 +15,17 @@ returns-clause-formatted c =
     let old = c.args.disk in
     let disk = c.format.new.disk in
     let image = contents_of c.in_ok-left.left in
-    let from : moments_of old ≤ c.min.result = omega (arith, c.requires.start) in
+    let from : moments_of old ≤ c.min.result = omega (arith, c.requires.fresh.start) in
     let since = since_falls (history_of disk) (moments_of old) c.min.result image from c.in_ok-left.ensures.left in
-    let either : IsFormatting 20971520 (image_of old) c.text.result.now image = (c.in_default.ensures.any_moment refl).each image since in
+    let either : IsFormatting c.args.bank (image_of old) c.text.result.now image = (c.in_default.ensures.any_moment refl).each image since in
     record {
       either = rw (← c.text.ensures.text) (⊎_elim
-          (λ was. inl (subst (λ (l : List ℕ). Torn 0 1 l image) (c.requires.alone was.0 was.1) was.2))
+          (λ was. inl (subst (λ (l : List ℕ). Torn 0 1 l image) (c.requires.fresh.alone was.0 was.1) was.2))
           (λ none. inr none)
           either);
       torn = subst (λ (n : ℕ). IsTornAt disk c.args.tear (min c.args.moment n) image) c.moments.ensures
           (subst (λ (n : ℕ). IsTornAt disk c.args.tear n image) c.min.ensures c.in_ok-left.ensures.torn);
-      calls = subst (λ (text : List ℕ). moments_of disk ≤ 2 * format_calls text) c.text.ensures.text (let made = c.in_default.ensures.after.calls refl in omega (arith, c.requires.start, made));
+      calls = subst (λ (text : List ℕ). moments_of disk ≤ 2 * format_calls text) c.text.ensures.text (let made = c.in_default.ensures.after.calls refl in omega (arith, c.requires.fresh.start, made));
     }
 
 pub returns-clause-kept : goal.returns-clause-kept
@@ -36,7 +36,7 @@ returns-clause-kept c behind =
     let left = subst (λ (n : ℕ). image_since_of old n (contents_of disk)) last c.in_ok-left.ensures.left in
     let is = c.in_default.ensures.done refl (contents_of disk) (only_now (history_of old) (contents_of disk) left) in
     record {
-      holds = subst (λ (l : List ℕ). IsStoreIn (Two 20971520) (contents_of disk) l first_table) c.text.ensures.text (0, _, is);
-      begins = c.what_was_served_is_served_again.ensures.first 20971520 c.args.library.now c.is_checked.ensures (omega arith);
+      holds = subst (λ (l : List ℕ). IsStoreIn (Two c.args.bank) (contents_of disk) l first_table) c.text.ensures.text (0, _, is);
+      begins = c.what_was_served_is_served_again.ensures.first c.args.bank c.args.library.now c.is_checked.ensures (omega (arith, c.requires.least));
       unlocked = refl;
     }

@@ -13,7 +13,7 @@ returns-clause-kept c =
     let left = subst (λ (n : ℕ). image_since_of old n (contents_of disk)) c.moments.ensures c.in_ok-crash.ensures.left in
     let is = c.in_default.ensures.done refl (contents_of disk) (only_now (history_of old) (contents_of disk) left) in
     record {
-      holds = subst (λ (l : List ℕ). IsStoreIn (Two 20971520) (contents_of disk) l first_table) c.text.ensures.text (0, _, is);
-      begins = c.what_was_served_is_served_again.ensures.first 20971520 c.args.library.now c.is_checked.ensures (omega arith);
+      holds = subst (λ (l : List ℕ). IsStoreIn (Two c.args.bank) (contents_of disk) l first_table) c.text.ensures.text (0, _, is);
+      begins = c.what_was_served_is_served_again.ensures.first c.args.bank c.args.library.now c.is_checked.ensures (omega (arith, c.requires.least));
       unlocked = refl;
     }

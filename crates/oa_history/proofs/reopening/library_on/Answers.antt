@@ -3,6 +3,8 @@ use Rattle.std.proofs.lemmas.Result.{err_from_is_err_and}
 use Rattle.oa_disk.specs.Memory.{contents_of}
 use Rattle.oa_turn.proofs.Texts.{is_read}
 use Rattle.oa_history.proofs.Living.{shown_library}
+use Rattle.oa_canonical.specs.Canonical.{canonical}
+use Rattle.oa_history.proofs.Marking.{its_library}
 use Rattle.oa_history.proofs.Reading.{library_again, unread}
 use Rattle.oa_history.proofs.reopening.library_on.Goals as goal
 
@@ -17,4 +19,6 @@ returns-in_err-text-clause-wanting c = let p = err_from_is_err_and c.from_residu
 pub returns-clause-wanting : goal.returns-clause-wanting
 returns-clause-wanting c state holds checked =
     let text = shown_library (contents_of c.args.disk.now) c.in_ok-text.text.items _ state c.in_ok-text.ensures.shown holds in
-    unread c.as_slice.result.now state.library c.in-Err.fault checked (c.as_slice.ensures.value ∙ text) c.in-Err.ensures
+    let read = is_read c.marked_is_read.ensures in
+    let utf8 = c.canonical_is_utf8.ensures state.library (c.every_tree_is_printable.ensures (canonical state.library) state.library (read state.library checked)) in
+    unread c.as_slice.result.now state.library c.in-Err.fault utf8 (its_library read state.library checked) (c.as_slice.ensures.value ∙ text) c.in-Err.ensures

@@ -1,6 +1,6 @@
 use Rattle.std.proofs.Common.{refl}
 use Rattle.std.proofs.lemmas.Result.{err_from_is_err_and}
-use Rattle.oa_history.proofs.Found.{never_refused, serves, sits}
+use Rattle.oa_history.proofs.Found.{begun_on, never_refused, serves, sits}
 use Rattle.oa_history.proofs.reopening.reopened.Goals as goal
 
 pub returns-in-Ok-clause-begins : goal.returns-in-Ok-clause-begins
@@ -9,8 +9,10 @@ returns-in-Ok-clause-begins c state kept =
     let library = c.in_ok-library.library in
     let same = c.in_ok-library.ensures.kept state kept.holds kept.begins.checked in
     let engine = c.in-Ok.server.engine in
+    let host = serves disk library state c.requires.alone (λ d. refl) kept.holds kept.unlocked same engine.storage engine.host c.in-Ok.ensures.library c.in-Ok.ensures.bank c.in-Ok.ensures.opened in
     record {
-      host = serves disk library state c.requires.alone (λ d. refl) kept.holds kept.unlocked same engine.storage engine.host c.in-Ok.ensures.library c.in-Ok.ensures.bank c.in-Ok.ensures.opened;
+      host = host;
+      found = begun_on disk library state engine.host engine.storage c.in-Ok.ensures.library host c.in-Ok.ensures.opened;
       over = sits disk library state c.requires.alone (λ d. refl) kept.holds kept.unlocked same c.an_opening_finds_what_was_kept.ensures.begins engine.storage engine.host.table c.in-Ok.ensures.opened;
     }
 

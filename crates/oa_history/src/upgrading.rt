@@ -1,0 +1,43 @@
+//! A store of format 1 that is brought to format 2, and the stop of that.
+ghost use Rattle.std.specs.Prelude.{◌≤◌, IfOk, IfErr};
+ghost use Rattle.oa_disk.specs.Memory.{contents_of, moments_of};
+ghost use Rattle.oa_journal.specs.Shapes.{least_bank_bytes, most_bank_bytes};
+ghost use Rattle.oa_decision.specs.States.{State};
+ghost use Rattle.oa_history.specs.Between.{IsStoppedUpgrading};
+ghost use Rattle.oa_history.specs.Kept.{CanBecome, IsFreshDisk, IsKept, IsUnbrought};
+
+use crate::{HistoryFault, Stop};
+use oa_canonical::laws::marked_is_read;
+use oa_disk::MemoryDisk;
+use oa_store::laws::what_can_be_brought_is_not_refused;
+use oa_store::upgrade;
+use std::alloc::Global;
+
+/// Brings the store of format 1 on the disk to format 2 with bodies of that size, and stops. Answers the disk as it was at the end, and the
+/// disk that the stop has left: that holds the same store in the old format or in the new one, and at the end in the new one, with which a
+/// server can begin where it could with a state of such banks.
+pub fn upgraded(
+    alloc: Global,
+    disk: MemoryDisk,
+    bank: u32,
+    stop: Stop,
+) -> Result<(MemoryDisk, MemoryDisk), HistoryFault>
+    requires fresh { IsFreshDisk disk }
+    requires least { least_bank_bytes ≤ bank }
+    requires most { bank ≤ most_bank_bytes }
+    ensures settled { IfOk result (λ r. IsFreshDisk r.1) }
+    ensures upgraded { IfOk result (λ r. IsStoppedUpgrading (contents_of disk) bank stop r.0 (contents_of r.1)) }
+    ensures kept { IfOk result (λ r. moments_of r.0 ≤ stop.moment → (state : State) → CanBecome bank (contents_of disk) state
+        → IsKept r.1 state) }
+    ensures wanting { IfErr result (λ fault. (state : State) → CanBecome bank (contents_of disk) state
+        → IsUnbrought bank disk.first.size fault) }
+{
+    marked_is_read();
+    what_can_be_brought_is_not_refused();
+    let mut disk = disk;
+    if let Err(fault) = upgrade(alloc, &mut disk, bank) {
+        return Err(HistoryFault::Upgrade(fault));
+    }
+    let left = disk.crash(stop.moment.min(disk.moments()), stop.tear)?;
+    Ok((disk, left))
+}

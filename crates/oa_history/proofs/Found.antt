@@ -27,6 +27,10 @@ same_state a b bank library table =
     ∙ ap (λ (l : TreeValue). state_of b.bank l a.table) library
     ∙ ap (λ (t : TableValue). state_of b.bank b.library t) table
 
+-- locks end once
+pub opened_again : (state : State) → opened (opened state) ≡ opened state
+opened_again state = ap (λ (t : TableValue). record state { table = t }) (requests.reopens state).0
+
 -- what was opened with the library and the table of a host, told by the host's state
 pub begun_on : {D : Type 0} {g : Ghosts D} (disk : D) (library : TreeValue) (state host : State) (storage : Storage D g) → host.library ≡ library
     → host ≡ state → OverStore storage (λ store. IsOpened g disk library store host.table)
@@ -43,7 +47,7 @@ module _ {D : Type 0} {g : Ghosts D} (disk : D) (library : TreeValue) (state : S
       ⊎_elim (λ one. one) (λ two. two) ((is.found (honest store.disk)).one state state (λ c image. inl (subst (λ (l : List ℕ). HoldsState requests state l) (sym (alone c image)) holds))) in
       same_state (state_of (body_bytes store.bank.shape) library table) state finds.bank_is is_its (finds.table_is ∙ ap (λ (s : State). s.table) unlocked)
 
-  pub sits : OpenedBegins g → (storage : Storage D g) (table : TableValue) → OverStore storage (λ store. IsOpened g disk library store table) → OverStore storage (λ store. Sits disk store state)
+  pub sits : OpenedBegins g → (storage : Storage D g) (table : TableValue) → OverStore storage (λ store. IsOpened g disk library store table) → OverStore storage (λ store. Sits requests disk store state)
   sits begins (Memory d) table is = absurd is
   sits begins (Disk store) table is = record {
     goes_on = is.goes_on;

@@ -5,6 +5,7 @@ pub mod Found
 pub mod Leaving
 pub mod Living
 pub mod Marking
+pub mod Over
 pub mod Reading
 pub mod Replying
 pub mod Streams

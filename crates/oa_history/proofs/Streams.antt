@@ -11,7 +11,8 @@ use Rattle.oa_stream.specs.Source.{Input as Read, in_memory}
 use Rattle.oa_stream.specs.declared.ahead.Ahead.{Ahead}
 use Rattle.oa_stream.specs.declared.gathered.Gathered.{Gathered}
 use Rattle.oa_decision.specs.States.{State}
-use Rattle.oa_server.specs.Storages.{disk_of}
+use Rattle.oa_record.specs.Replies.{ReplyValue}
+use Rattle.oa_server.specs.Storages.{Serves, disk_of}
 use Rattle.oa_server.specs.Talks.{HasTalked, InParts, Part, Parts}
 use Rattle.oa_server.specs.declared.server.Server.{Server}
 use Rattle.oa_server.specs.declared.storage.Storage.{Storage}
@@ -20,15 +21,15 @@ use Rattle.oa_history.specs.Streamed.{HasWritten, calls_in, parts_of}
 use Rattle.oa_history.specs.declared.session.Input.{Input}
 use Rattle.oa_history.proofs.Calls.{made_push}
 
-parts_made : {D : Type 0} {g : Ghosts D} (size : ℕ) (old new : Storage D g) (before after : State) (parts : List Part) (is : Parts size old new before parts after) → Made old before (parts_of size old new before after parts is) new after
+parts_made : {D : Type 0} {g : Ghosts D} (size : ℕ) (old new : Storage D g) (before after : State) (parts : List Part) (is : Parts size old new before parts after) → Made Serves old before (parts_of size old new before after parts is) new after
 parts_made size old new before after [] is = is
 parts_made size old new before after (part ∷ parts) is = (is.0, is.1, is.2.serves, refl, parts_made size is.0 new is.1 after parts is.3)
 
 pub all_made_of : {D : Type 0} {g : Ghosts D} (size : ℕ) (old new : Storage D g) (before after : State) (bodies : List (List ℕ)) (handed : List (List (List ℕ))) (read_ahead : List (List ℕ)) (is : InParts size old new before after bodies handed read_ahead)
-    → Made old before (calls_in is) new after
+    → Made Serves old before (calls_in is) new after
 all_made_of {D} {g} size old new before after bodies handed read_ahead is =
-    let rest : Done = record { call = record { size = size; bodies = is.open_bodies; replies = is.told }; moment = g.moment (disk_of new) } in
-    made_push old before (parts_of size old is.mid before is.state is.parts is.served) is.mid is.state rest new after (parts_made size old is.mid before is.state is.parts is.served) is.ends refl
+    let rest : Done ReplyValue = record { call = record { size = size; bodies = is.open_bodies; replies = is.told }; moment = g.moment (disk_of new) } in
+    made_push Serves old before (parts_of size old is.mid before is.state is.parts is.served) is.mid is.state rest new after (parts_made size old is.mid before is.state is.parts is.served) is.ends refl
 
 -- nothing was read ahead of the bytes
 reads_from : (bytes : Bor (List ℕ)) (reader : Ahead (Bor (List ℕ))) → reader.reader ≡ bytes → read_ahead reader ≡ [] → ahead (λ (s : Bor (List ℕ)). in_memory s.now) reader ≡ in_memory bytes.now
@@ -37,7 +38,7 @@ reads_from bytes reader at none = ap (λ (l : List ℕ). with_front l (in_memory
 pub has_written : {g : Ghosts MemoryDisk} (input : Input) (framing : Framing) (bytes : Bor (List ℕ)) (reader : Ahead (Bor (List ℕ))) (empty output : Gathered) (served : Served) (old new : Server MemoryDisk g) (unread : Read)
     → input.framing ≡ framing → bytes.now ≡ input.bytes.items → reader.reader ≡ bytes → read_ahead reader ≡ [] → empty.bytes.items ≡ []
     → HasTalked (frames framing) (ahead (λ (s : Bor (List ℕ)). in_memory s.now) reader) unread (gathered_output empty) (gathered_output output) input.group old.engine new.engine served
-    → (done : List Done) × HasWritten input (record { output = output; served = served }) old new done × Made old.engine.storage old.engine.host done new.engine.storage new.engine.host
+    → (done : List (Done ReplyValue)) × HasWritten input (record { output = output; served = served }) old new done × Made Serves old.engine.storage old.engine.host done new.engine.storage new.engine.host
 has_written input framing bytes reader empty output served old new unread is same at none nothing talked =
     let whole : ahead (λ (s : Bor (List ℕ)). in_memory s.now) reader ≡ in_memory input.bytes.items = reads_from bytes reader at none ∙ ap in_memory same in
     let here : HasTalked (frames input.framing) (in_memory input.bytes.items) unread (gathered_output empty) (gathered_output output) input.group old.engine new.engine served =

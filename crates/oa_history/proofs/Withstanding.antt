@@ -5,40 +5,43 @@ use Rattle.oa_disk.specs.declared.disk.Disk.{Ghosts}
 use Rattle.oa_groups.specs.Laws.{CallCounts, CallGoesOn, EndCountsAll, LateCallCounts, StopKeepsAnswered}
 use Rattle.oa_groups.specs.Runs.{IsAfter}
 use Rattle.oa_groups.specs.Sessions.{AnsweredCall, IsSessionOn, Sitting}
+use Rattle.oa_groups.specs.Turns.{Turns}
 use Rattle.oa_record.specs.Replies.{ReplyValue}
 use Rattle.oa_server.specs.Requests.{requests}
 use Rattle.oa_decision.specs.States.{State}
-use Rattle.oa_server.specs.Storages.{OverStore, Serves, ServesStore, disk_of}
+use Rattle.oa_server.specs.Storages.{OverStore, Serves, disk_of}
 use Rattle.oa_server.specs.declared.storage.Storage.{Storage}
 use Rattle.oa_server.specs.declared.storage.Storage.TheVariants.{Disk, Memory}
 use Rattle.oa_store.specs.declared.store.Store.{Store}
 use Rattle.oa_history.specs.Kept.{Sits}
+use Rattle.oa_history.specs.Stops.{Serving}
+use Rattle.oa_history.proofs.Over.{IsServing, ServesOver, requests_are_served}
 use Rattle.oa_history.specs.Lived.{bodies_of}
 use Rattle.oa_history.specs.Survived.{Answered, told_call, told_calls}
 use Rattle.oa_history.specs.declared.failing.Told.{Told}
 use Rattle.oa_history.specs.declared.session.ServerCall.{ServerCall}
 
 -- These calls were made since the start: the session may go on, or the device has failed in it.
-pub record AtWork {D : Type 0} {g : Ghosts D} (start : D) (store : Store D g) (before : State) (calls : List (AnsweredCall ReplyValue)) (last : State) : Type 0 where
-  pub going : store.stopped ≡ false → Sitting requests start store before last calls
-  pub late : store.stopped ≡ true → (session : IsSessionOn requests g start store.disk before calls last) × (session.stopped ≡ true)
+pub record AtWork {S R D : Type 0} {g : Ghosts D} (t : Turns S R) (start : D) (store : Store D g) (before : S) (calls : List (AnsweredCall R)) (last : S) : Type 0 where
+  pub going : store.stopped ≡ false → Sitting t start store before last calls
+  pub late : store.stopped ≡ true → (session : IsSessionOn t g start store.disk before calls last) × (session.stopped ≡ true)
 
 -- the disk's members, by its server's storage
 abbrev pub ghosts_of : {D : Type 0} {g : Ghosts D} → Storage D g → Ghosts D
 ghosts_of {D} {g} storage = g
 
-module _ {D : Type 0} (g : Ghosts D) (start : D) (before : State) where
-  pub at_start : (storage : Storage D g) → OverStore storage (λ store. Sits start store before) → OverStore storage (λ store. AtWork start store before [] before)
+module _ {S R D : Type 0} (t : Turns S R) (g : Ghosts D) (start : D) (before : S) where
+  pub at_start : (storage : Storage D g) → OverStore storage (λ store. Sits t start store before) → OverStore storage (λ store. AtWork t start store before [] before)
   at_start (Memory d) is = absurd is
   at_start (Disk store) is = record {
     going = λ going. is.sits;
     late = λ stopped. absurd (true≢false (sym stopped ∙ is.goes_on));
   }
 
-  module _ (counts : CallCounts requests g) (goes_on : CallGoesOn requests g) (late_counts : LateCallCounts requests g) where
+  module _ (serving : Serving g S R) (over : IsServing t serving) (counts : CallCounts t g) (goes_on : CallGoesOn t g) (late_counts : LateCallCounts t g) where
     -- one call more
-    store_more : (old new : Store D g) (mid after : State) (calls : List (AnsweredCall ReplyValue)) (call : AnsweredCall ReplyValue) → AtWork start old before calls mid → ServesStore call.size old new mid call.bodies call.replies after
-        → (b : Bool) → old.stopped ≡ b → AtWork start new before (calls ++ call ∷ []) after
+    store_more : (old new : Store D g) (mid after : S) (calls : List (AnsweredCall R)) (call : AnsweredCall R) → AtWork t start old before calls mid → ServesOver t call.size old new mid call.bodies call.replies after
+        → (b : Bool) → old.stopped ≡ b → AtWork t start new before (calls ++ call ∷ []) after
     store_more old new mid after calls call is serves false going =
         let served = serves.served going in
         let was = is.going going in
@@ -52,46 +55,49 @@ module _ {D : Type 0} (g : Ghosts D) (start : D) (before : State) where
         let more = late_counts start old.disk before mid calls call was.0 was.1 late.told in
         record {
           going = λ on. absurd (true≢false (sym late.stopped ∙ on));
-          late = λ again. subst (λ (s : State). (session : IsSessionOn requests g start new.disk before (calls ++ call ∷ []) s) × (session.stopped ≡ true)) (sym late.state)
-              (subst (λ (d : D). (session : IsSessionOn requests g start d before (calls ++ call ∷ []) mid) × (session.stopped ≡ true)) (sym late.disk) (more.0, more.1));
+          late = λ again. subst (λ (s : S). (session : IsSessionOn t g start new.disk before (calls ++ call ∷ []) s) × (session.stopped ≡ true)) (sym late.state)
+              (subst (λ (d : D). (session : IsSessionOn t g start d before (calls ++ call ∷ []) mid) × (session.stopped ≡ true)) (sym late.disk) (more.0, more.1));
         }
 
-    storage_more : (old new : Storage D g) (mid after : State) (calls : List (AnsweredCall ReplyValue)) (call : AnsweredCall ReplyValue) → OverStore old (λ store. AtWork start store before calls mid) → Serves call.size old new mid call.bodies call.replies after
-        → OverStore new (λ store. AtWork start store before (calls ++ call ∷ []) after)
+    pub storage_more : (old new : Storage D g) (mid after : S) (calls : List (AnsweredCall R)) (call : AnsweredCall R) → OverStore old (λ store. AtWork t start store before calls mid) → serving call.size old new mid call.bodies call.replies after
+        → OverStore new (λ store. AtWork t start store before (calls ++ call ∷ []) after)
     storage_more (Memory old) new mid after calls call is serves = absurd is
-    storage_more (Disk old) (Memory new) mid after calls call is serves = absurd serves
-    storage_more (Disk old) (Disk new) mid after calls call is serves = store_more old new mid after calls call is serves old.stopped refl
-
-    -- all of them
-    pub all_answered : (old new : Storage D g) (mid last : State) (done : List (AnsweredCall ReplyValue)) (calls : List ServerCall) (told : List Told) → OverStore old (λ store. AtWork start store before done mid) → Answered old mid calls told new last
-        → OverStore new (λ store. AtWork start store before (done ++ told_calls calls told) last)
-    all_answered old new mid last done [] [] is answered =
-        subst (λ (l : List (AnsweredCall ReplyValue)). OverStore new (λ store. AtWork start store before l last)) (sym (append-nil done))
-        (subst (λ (s : State). OverStore new (λ store. AtWork start store before done s)) (sym answered.1)
-        (subst (λ (s : Storage D g). OverStore s (λ store. AtWork start store before done mid)) (sym answered.0) is))
-    all_answered old new mid last done [] (one ∷ told) is answered = absurd answered
-    all_answered old new mid last done (call ∷ calls) [] is answered = absurd answered
-    all_answered old new mid last done (call ∷ calls) (one ∷ told) is answered =
-        let here = told_call call one in
-        subst (λ (l : List (AnsweredCall ReplyValue)). OverStore new (λ store. AtWork start store before l last)) (append_assoc done (here ∷ []) (told_calls calls told))
-        (all_answered answered.0 new answered.1 last (done ++ here ∷ []) calls told (storage_more old answered.0 mid answered.1 done here is answered.2) answered.4)
+    storage_more (Disk old) (Memory new) mid after calls call is serves = absurd (over call.size old (Memory new) mid call.bodies call.replies after serves)
+    storage_more (Disk old) (Disk new) mid after calls call is serves =
+        store_more old new mid after calls call is (over call.size old (Disk new) mid call.bodies call.replies after serves) old.stopped refl
 
   -- the session, as it is
-  pub session_of : (storage : Storage D g) (calls : List (AnsweredCall ReplyValue)) (last : State) → OverStore storage (λ store. AtWork start store before calls last) → IsSessionOn requests g start (disk_of storage) before calls last
+  pub session_of : (storage : Storage D g) (calls : List (AnsweredCall R)) (last : S) → OverStore storage (λ store. AtWork t start store before calls last) → IsSessionOn t g start (disk_of storage) before calls last
   session_of (Memory d) calls last is = absurd is
   session_of (Disk store) calls last is = by store.stopped refl
     where
-      by : (b : Bool) → store.stopped ≡ b → IsSessionOn requests g start store.disk before calls last
+      by : (b : Bool) → store.stopped ≡ b → IsSessionOn t g start store.disk before calls last
       by false going = (is.going going).session
       by true stopped = (is.late stopped).0
 
   -- each image has all that was answered
-  pub all_kept : StopKeepsAnswered requests g → EndCountsAll requests g → (now : D) (calls : List (AnsweredCall ReplyValue)) (last : State) (session : IsSessionOn requests g start now before calls last) → g.moment start ≤ g.moment now
-      → ((t : ℕ) (c : List ℕ) → t ≤ g.moment now → g.image now c → g.image_since now t c) → (c : List ℕ) → g.image now c → IsAfter requests session.count before session.groups c
+  pub all_kept : StopKeepsAnswered t g → EndCountsAll t g → (now : D) (calls : List (AnsweredCall R)) (last : S) (session : IsSessionOn t g start now before calls last) → g.moment start ≤ g.moment now
+      → ((m : ℕ) (c : List ℕ) → m ≤ g.moment now → g.image now c → g.image_since now m c) → (c : List ℕ) → g.image now c → IsAfter t session.count before session.groups c
   all_kept keeps counts_all now calls last session le since c is =
       let end : g.moment now ≤ g.moment now = omega arith in
-      subst (λ (n : ℕ). IsAfter requests n before session.groups c) (counts_all start now before calls last session (g.moment now) end)
-      (keeps start now before calls last session (g.moment now) c le (λ t below. since t c below is))
+      subst (λ (n : ℕ). IsAfter t n before session.groups c) (counts_all start now before calls last session (g.moment now) end)
+      (keeps start now before calls last session (g.moment now) c le (λ m below. since m c below is))
+
+-- all calls of a session
+
+module _ {D : Type 0} (g : Ghosts D) (start : D) (before : State) (counts : CallCounts requests g) (goes_on : CallGoesOn requests g) (late_counts : LateCallCounts requests g) where
+  pub all_answered : (old new : Storage D g) (mid last : State) (done : List (AnsweredCall ReplyValue)) (calls : List ServerCall) (told : List Told) → OverStore old (λ store. AtWork requests start store before done mid) → Answered old mid calls told new last
+      → OverStore new (λ store. AtWork requests start store before (done ++ told_calls calls told) last)
+  all_answered old new mid last done [] [] is answered =
+      subst (λ (l : List (AnsweredCall ReplyValue)). OverStore new (λ store. AtWork requests start store before l last)) (sym (append-nil done))
+      (subst (λ (s : State). OverStore new (λ store. AtWork requests start store before done s)) (sym answered.1)
+      (subst (λ (s : Storage D g). OverStore s (λ store. AtWork requests start store before done mid)) (sym answered.0) is))
+  all_answered old new mid last done [] (one ∷ told) is answered = absurd answered
+  all_answered old new mid last done (call ∷ calls) [] is answered = absurd answered
+  all_answered old new mid last done (call ∷ calls) (one ∷ told) is answered =
+      let here = told_call call one in
+      subst (λ (l : List (AnsweredCall ReplyValue)). OverStore new (λ store. AtWork requests start store before l last)) (append_assoc done (here ∷ []) (told_calls calls told))
+      (all_answered answered.0 new answered.1 last (done ++ here ∷ []) calls told (storage_more requests g start before Serves (requests_are_served g) counts goes_on late_counts old answered.0 mid answered.1 done here is answered.2) answered.4)
 
 -- ---- one call more is made
 

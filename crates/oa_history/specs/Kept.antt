@@ -8,6 +8,7 @@ use Rattle.oa_disk.specs.declared.memory.MemoryDisk.{MemoryDisk}
 use Rattle.oa_canonical.specs.Canonical.{canonical}
 use Rattle.oa_groups.specs.Runs.{HoldsState}
 use Rattle.oa_groups.specs.Sessions.{Sitting}
+use Rattle.oa_groups.specs.Turns.{Turns}
 use Rattle.oa_keeps.specs.declared.library_text.TextError.TheVariants as texts
 use Rattle.oa_journal.specs.Shapes.{disk_bytes}
 use Rattle.oa_journal.specs.declared.shape.Shape.TheVariants.{One, Two}
@@ -48,15 +49,15 @@ pub record CanBecome (bank : ℕ) (contents : List ℕ) (state : State) : Type 0
   pub unlocked : opened state ≡ state
 
 -- A session of a server was begun on the disk: it serves the state, and so far nothing was asked.
-pub record Sits {D : Type 0} {g : Ghosts D} (disk : D) (store : Store D g) (state : State) : Type 0 where
+pub record Sits {S R D : Type 0} {g : Ghosts D} (t : Turns S R) (disk : D) (store : Store D g) (state : S) : Type 0 where
   pub goes_on : store.stopped ≡ false
-  pub sits : Sitting requests disk store state state []
+  pub sits : Sitting t disk store state state []
 
 -- It was opened on that very disk: nothing was written, and no more calls were made than an opening makes.
 pub record BeginsServing {D : Type 0} {g : Ghosts D} (disk : D) (server : Server D g) (state : State) : Type 0 where
   pub host : server.engine.host ≡ state
   pub found : OverStore server.engine.storage (λ store. IsOpened g disk state.library store state.table)
-  pub over : OverStore server.engine.storage (λ store. Sits disk store state)
+  pub over : OverStore server.engine.storage (λ store. Sits requests disk store state)
 
 -- Why a store that stands has no history: memory is wanting, or room on the disk, or a call of it has failed. No opening was refused, and the
 -- text of each library is read.

@@ -9,7 +9,7 @@ use Rattle.oa_canonical.specs.Canonical.{canonical}
 use Rattle.oa_record.specs.Replies.{ReplyValue}
 use Rattle.oa_server.specs.Requests.{requests}
 use Rattle.oa_decision.specs.States.{State}
-use Rattle.oa_server.specs.Storages.{disk_of}
+use Rattle.oa_server.specs.Storages.{Serves, disk_of}
 use Rattle.oa_server.specs.declared.server.Server.{Server}
 use Rattle.oa_history.specs.Between.{IsCheckpointed}
 use Rattle.oa_history.specs.Kept.{BeginsServing, IsFreshDisk}
@@ -37,18 +37,18 @@ bodies_of call = map (λ b. b.items) call.bodies.items
 abbrev pub call_as_heard : ServerCall → Answer → AnsweredCall ReplyValue
 call_as_heard call answer = record { size = call.group; bodies = bodies_of call; replies = answer.replies.items }
 
-abbrev pub calls_of : List ServerCall → List Answer → List Done
+abbrev pub calls_of : List ServerCall → List Answer → List (Done ReplyValue)
 calls_of [] answers = []
 calls_of (call ∷ calls) [] = []
 calls_of (call ∷ calls) (answer ∷ answers) = record { call = call_as_heard call answer; moment = answer.moment } ∷ calls_of calls answers
 
 -- each of these calls was answered
-pub record HasReplied (calls : List ServerCall) (answers : List Answer) (done : List Done) : Type 0 where
+pub record HasReplied (calls : List ServerCall) (answers : List Answer) (done : List (Done ReplyValue)) : Type 0 where
   pub all : length answers ≡ length calls
   pub are : done ≡ calls_of calls answers
 
 -- Calls were made, or the server was given a stream.
-abbrev pub HasAsked : {D : Type 0} {g : Ghosts D} → Asked → Replies → Server D g → Server D g → List Done → Type 0
+abbrev pub HasAsked : {D : Type 0} {g : Ghosts D} → Asked → Replies → Server D g → Server D g → List (Done ReplyValue) → Type 0
 HasAsked (ask.Calls calls) (told.Calls answers) old new done = HasReplied calls.items answers.items done
 HasAsked (ask.Stream input) (told.Stream written) old new done = HasWritten input written old new done
 HasAsked (ask.Calls calls) (told.Stream written) old new done = ⊥
@@ -68,13 +68,13 @@ pub record IsHeardUntilStop (session : Played) (heard : Heard) (found : List ℕ
   pub begins : BeginsServing start first.server before
   -- it was asked what the session asks, as so many calls, each of which was made where the one before was over; and it has handed its disk back
   pub last : Opened
-  pub calls : List Done
+  pub calls : List (Done ReplyValue)
   pub asks : HasAsked session.asked heard.replies first.server last.server calls
-  pub made : Made first.server.engine.storage before calls last.server.engine.storage last.server.engine.host
+  pub made : Made Serves first.server.engine.storage before calls last.server.engine.storage last.server.engine.host
   pub disk : heard.disk ≡ disk_of last.server.engine.storage
   -- what is left is what a crash of this disk at the moment of the stop leaves, as the tear says
   pub torn : IsTornAt heard.disk session.tear (min session.moment (moments_of heard.disk)) left
-  pub stops : Stops session.moment calls before after
+  pub stops : Stops requests session.moment calls before after
   pub holds : HoldsState requests after left
 
 -- ---- one step after another

@@ -1,30 +1,32 @@
--- What calls of a server come to, and what a stop leaves of them.
+-- What calls of a server come to, and what a stop leaves of them, whatever its requests are.
 use Rattle.std.specs.Prelude.{◌≡◌, ℕ, ◌+◌, ◌≤◌, nat_le, Bool, false, if◌then◌else◌, List, [], ◌∷◌, ◌++◌, length}
 use Rattle.oa_disk.specs.declared.disk.Disk.{Ghosts}
 use Rattle.oa_groups.specs.Groups.{joined}
 use Rattle.oa_groups.specs.History.{accepted}
 use Rattle.oa_groups.specs.Runs.{TurnsOver}
 use Rattle.oa_groups.specs.Sessions.{AnsweredCall, IsCalled}
-use Rattle.oa_groups.specs.Turns.{Exchange}
-use Rattle.oa_record.specs.Replies.{ReplyValue}
-use Rattle.oa_server.specs.Requests.{opened, requests}
-use Rattle.oa_decision.specs.States.{State}
-use Rattle.oa_server.specs.Storages.{Serves, disk_of}
+use Rattle.oa_groups.specs.Turns.{Exchange, Turns}
+use Rattle.oa_server.specs.Storages.{disk_of}
 use Rattle.oa_server.specs.declared.storage.Storage.{Storage}
 
 -- ---- what was asked, and answered
 
 -- A call that a server has answered, and the moment of its disk's clock at which it was over.
-pub record Done : Type 0 where
-  pub call : AnsweredCall ReplyValue
+pub record Done (R : Type 0) : Type 0 where
+  pub call : AnsweredCall R
   pub moment : ℕ
 
--- Calls of a server, each made where the one before was over: what is said of each by `run`, and the moment at which it was over.
-abbrev pub Made : {D : Type 0} {g : Ghosts D} → Storage D g → State → List Done → Storage D g → State → Type 0
-Made old first [] new last = (new ≡ old) × (last ≡ first)
-Made {D} {g} old first (one ∷ calls) new last =
-    (mid : Storage D g) × (state : State) × Serves one.call.size old mid first one.call.bodies one.call.replies state
-    × (one.moment ≡ g.moment (disk_of mid)) × Made mid state calls new last
+-- What is said of a call: the size of its groups, the storage of before and the one behind it, the state of before, the bodies, the replies,
+-- and the state behind it.
+abbrev pub Serving : {D : Type 0} → Ghosts D → Type 0 → Type 0 → Type 1
+Serving {D} g S R = ℕ → Storage D g → Storage D g → S → List (List ℕ) → List R → S → Type 0
+
+-- Calls of a server, each made where the one before was over: this is said of each, and the moment at which it was over.
+abbrev pub Made : {S R D : Type 0} {g : Ghosts D} → Serving g S R → Storage D g → S → List (Done R) → Storage D g → S → Type 0
+Made serving old first [] new last = (new ≡ old) × (last ≡ first)
+Made {S} {R} {D} {g} serving old first (one ∷ calls) new last =
+    (mid : Storage D g) × (state : S) × serving one.call.size old mid first one.call.bodies one.call.replies state
+    × (one.moment ≡ g.moment (disk_of mid)) × Made serving mid state calls new last
 
 -- ---- what it comes to
 
@@ -34,29 +36,29 @@ over_by stop moment answered = if nat_le moment stop then answered else 0
 
 -- The replies of each call are those of a run from the state at which the one before has ended, group for group, up to a fault of the
 -- device. So many groups were answered by calls that were over by the stop.
-abbrev pub Plays : ℕ → Bool → State → List Done → List (List (Exchange ReplyValue)) → ℕ → Bool → State → Type 0
-Plays stop was first [] groups count is last = (groups ≡ []) × (count ≡ 0) × (is ≡ was) × (first ≡ last)
-Plays stop was first (one ∷ calls) groups count is last =
-    (mid : State) × (fails : Bool) × (own : List (List (Exchange ReplyValue))) × (later : List (List (Exchange ReplyValue)))
-    × (here : ℕ) × (after : ℕ) × IsCalled requests was first one.call own here fails mid × (groups ≡ own ++ later)
-    × (count ≡ over_by stop one.moment here + after) × Plays stop fails mid calls later after is last
+abbrev pub Plays : {S R : Type 0} → Turns S R → ℕ → Bool → S → List (Done R) → List (List (Exchange R)) → ℕ → Bool → S → Type 0
+Plays t stop was first [] groups count is last = (groups ≡ []) × (count ≡ 0) × (is ≡ was) × (first ≡ last)
+Plays {S} {R} t stop was first (one ∷ calls) groups count is last =
+    (mid : S) × (fails : Bool) × (own : List (List (Exchange R))) × (later : List (List (Exchange R)))
+    × (here : ℕ) × (after : ℕ) × IsCalled t was first one.call own here fails mid × (groups ≡ own ++ later)
+    × (count ≡ over_by stop one.moment here + after) × Plays t stop fails mid calls later after is last
 
 -- Calls from a state, and the state that a stop has left.
-pub record Stops (stop : ℕ) (calls : List Done) (before after : State) : Type 0 where
+pub record Stops {S R : Type 0} (t : Turns S R) (stop : ℕ) (calls : List (Done R)) (before after : S) : Type 0 where
   -- the groups of all calls: those that were answered, and the one in which the device failed, if it did
-  pub groups : List (List (Exchange ReplyValue))
+  pub groups : List (List (Exchange R))
   -- how many were answered by calls that were over by the stop
   pub count : ℕ
   pub fault : Bool
-  pub last : State
-  pub plays : Plays stop false before calls groups count fault last
+  pub last : S
+  pub plays : Plays t stop false before calls groups count fault last
   -- some first groups are kept, whole, and all of those are among them
-  pub done : List (List (Exchange ReplyValue))
-  pub later : List (List (Exchange ReplyValue))
+  pub done : List (List (Exchange R))
+  pub later : List (List (Exchange R))
   pub parts : groups ≡ done ++ later
   pub enough : count ≤ length done
-  -- the state after is that of a run of these, opened again, and of a run of those alone that were answered with S_OK
-  pub state : State
-  pub run : TurnsOver requests before (joined done) state
-  pub alone : TurnsOver requests before (accepted requests (joined done)) state
-  pub left : after ≡ opened state
+  -- the state after is that of a run of these, opened again, and of a run of those alone that were answered as done
+  pub state : S
+  pub run : TurnsOver t before (joined done) state
+  pub alone : TurnsOver t before (accepted t (joined done)) state
+  pub left : after ≡ t.opened state

@@ -5,6 +5,8 @@ ghost use Rattle.oa_decision.specs.States.{State};
 ghost use Rattle.oa_history.specs.Kept.{IsKept, IsFreshDisk, IsWanting};
 ghost use Rattle.oa_history.specs.Lived.{HasAsked, IsHeardUntilStop, calls_of};
 ghost use Rattle.oa_history.specs.Stops.{Done, Made};
+ghost use Rattle.oa_record.specs.Replies.{ReplyValue};
+ghost use Rattle.oa_server.specs.Storages.{Serves};
 ghost use Rattle.oa_history.specs.declared.fault.HistoryFault.TheVariants.{Memory};
 
 use crate::reopening::reopened;
@@ -25,7 +27,7 @@ fn answered(
     calls: &[ServerCall],
 ) -> Result<Vec<Answer>, HistoryFault>
     ensures all { IfOk result (λ answers. length answers.items ≡ length calls.now) }
-    ensures made { IfOk result (λ answers. Made server.old.engine.storage server.old.engine.host (calls_of calls.now answers.items)
+    ensures made { IfOk result (λ answers. Made Serves server.old.engine.storage server.old.engine.host (calls_of calls.now answers.items)
         server.new.engine.storage server.new.engine.host) }
     ensures wanting { IfErr result (λ fault. fault ≡ Memory) }
 {
@@ -44,8 +46,8 @@ fn replied(
     server: &mut Server<MemoryDisk>,
     asked: &Asked,
 ) -> Result<Replies, HistoryFault>
-    ensures asked { IfOk result (λ replies. (done : List Done) × HasAsked asked.now replies server.old server.new done
-        × Made server.old.engine.storage server.old.engine.host done server.new.engine.storage server.new.engine.host) }
+    ensures asked { IfOk result (λ replies. (done : List (Done ReplyValue)) × HasAsked asked.now replies server.old server.new done
+        × Made Serves server.old.engine.storage server.old.engine.host done server.new.engine.storage server.new.engine.host) }
     ensures wanting { IfErr result (λ fault. fault ≡ Memory) }
 {
     match asked {

@@ -1,6 +1,8 @@
 //! What a server answers on a stream in memory.
 ghost use Rattle.std.specs.Prelude.{◌≡◌, List, IfOk, IfErr};
 ghost use Rattle.oa_history.specs.Stops.{Done, Made};
+ghost use Rattle.oa_record.specs.Replies.{ReplyValue};
+ghost use Rattle.oa_server.specs.Storages.{Serves};
 ghost use Rattle.oa_history.specs.Streamed.{HasWritten};
 ghost use Rattle.oa_history.specs.declared.fault.HistoryFault.TheVariants.{Memory};
 
@@ -17,8 +19,8 @@ pub(crate) fn written(
     server: &mut Server<MemoryDisk>,
     input: &Input,
 ) -> Result<Written, HistoryFault>
-    ensures written { IfOk result (λ written. (done : List Done) × HasWritten input.now written server.old server.new done
-        × Made server.old.engine.storage server.old.engine.host done server.new.engine.storage server.new.engine.host) }
+    ensures written { IfOk result (λ written. (done : List (Done ReplyValue)) × HasWritten input.now written server.old server.new done
+        × Made Serves server.old.engine.storage server.old.engine.host done server.new.engine.storage server.new.engine.host) }
     ensures wanting { IfErr result (λ fault. fault ≡ Memory) }
 {
     let mut reader = Ahead::new(alloc, input.bytes.as_slice())?;

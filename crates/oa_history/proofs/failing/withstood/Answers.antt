@@ -6,6 +6,7 @@ use Rattle.oa_disk.specs.Replaying.{counts_now}
 use Rattle.oa_disk.specs.declared.disk.DeviceFault.{DeviceFault}
 use Rattle.oa_disk.specs.declared.memory.MemoryDisk.{MemoryDisk}
 use Rattle.oa_decision.specs.States.{State}
+use Rattle.oa_server.specs.Requests.{requests}
 use Rattle.oa_server.specs.Storages.{disk_of}
 use Rattle.oa_history.specs.Kept.{IsKept}
 use Rattle.oa_history.specs.Survived.{Answered, BeginsOver, HoldsAlone, told_calls}
@@ -27,11 +28,11 @@ returns-in_ok-told-in-Ok-clause-withstood c before kept =
     let answered : Answered first.storage first.host calls told last.storage last.host = c.in_ok-told-in-Ok.ensures.answered in
     let made = subst (λ (s : State). Answered first.storage s calls told last.storage last.host) from.begins.host answered in
     let work = all_answered (ghosts_of last.storage) fuse before c.sessions_go_on.ensures.called c.sessions_go_on.ensures.goes_on c.sessions_go_on.ensures.late
-    first.storage last.storage before last.host [] calls told (at_start (ghosts_of last.storage) fuse before first.storage from.begins.over) made in
-    let session = session_of (ghosts_of last.storage) fuse before last.storage (told_calls calls told) last.host work in
+    first.storage last.storage before last.host [] calls told (at_start requests (ghosts_of last.storage) fuse before first.storage from.begins.over) made in
+    let session = session_of requests (ghosts_of last.storage) fuse before last.storage (told_calls calls told) last.host work in
     let zero : moments_of fuse.disk ≡ 0 = ap moments_of from.within ∙ c.requires.start in
     let later : moments_of fuse.disk ≤ moments_of now.disk = omega (arith, zero) in
-    let images = all_kept (ghosts_of last.storage) fuse before c.a_stop_keeps_what_was_answered.ensures.stopped c.a_stop_keeps_what_was_answered.ensures.all now (told_calls calls told) last.host session later
+    let images = all_kept requests (ghosts_of last.storage) fuse before c.a_stop_keeps_what_was_answered.ensures.stopped c.a_stop_keeps_what_was_answered.ensures.all now (told_calls calls told) last.host session later
     (λ t l below is. counts_now (history_of now.disk) t l below is) in
     let one = c.sessions_go_on.ensures.one fuse now before last.host (told_calls calls told) session in
     let back_is : c.into_inner-back.result ≡ inner_of now = c.into_inner-back.ensures ∙ ap inner_of c.into_disk.ensures in

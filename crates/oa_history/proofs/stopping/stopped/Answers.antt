@@ -3,8 +3,13 @@ use Rattle.std.proofs.lemmas.Result.{err_from_is_err_and}
 use Rattle.oa_disk.specs.Memory.{IsTornAt, contents_of, history_of, moments_of}
 use Rattle.oa_disk.specs.Replaying.{since_falls}
 use Rattle.oa_decision.specs.States.{State}
+use Rattle.oa_server.specs.Storages.{Serves}
 use Rattle.oa_history.specs.Stops.{Made}
+use Rattle.oa_turn.specs.Beginnings.{CanBegin}
+use Rattle.oa_server.specs.Requests.{requests}
+use Rattle.oa_history.proofs.Found.{opened_again}
 use Rattle.oa_history.proofs.Leaving.{leaves, min_at}
+use Rattle.oa_history.proofs.Over.{requests_are_served}
 use Rattle.oa_history.proofs.stopping.stopped.Goals as goal
 
 pub returns-clause-stopped : goal.returns-clause-stopped
@@ -16,11 +21,11 @@ returns-clause-stopped c before kept =
     let last = c.replied.new.server.engine in
     let asked = c.in_ok-replies.ensures.asked in
     let begins = c.in_ok-server.ensures.begins before kept in
-    let made = subst (λ (s : State). Made first.storage s asked.0 last.storage last.host) begins.host asked.2 in
-    let left = leaves c.no_trace_of_groups.ensures c.what_was_served_is_served_again.ensures.groups c.what_was_served_is_served_again.ensures.opened _
+    let made = subst (λ (s : State). Made Serves first.storage s asked.0 last.storage last.host) begins.host asked.2 in
+    let left = leaves requests CanBegin opened_again c.no_trace_of_groups.ensures c.what_was_served_is_served_again.ensures.groups c.what_was_served_is_served_again.ensures.opened _
     c.a_stop_keeps_what_was_answered.ensures.stopped c.a_stop_keeps_what_was_answered.ensures.all
     c.args.disk asked.0 before kept.begins c.min.result session.moment image (omega (arith, c.requires.start))
-    c.sessions_go_on.ensures.late first.storage last.storage last.host disk begins.over made c.into_disk-disk.ensures
+    Serves (requests_are_served _) c.sessions_go_on.ensures.late first.storage last.storage last.host disk begins.over made c.into_disk-disk.ensures
     (min_at c.min.result session.moment (moments_of disk) c.moments.result c.min.ensures c.moments.ensures)
     (λ k le. since_falls (history_of disk) k c.min.result image le c.in_ok-left.ensures.left) in
     let torn = subst (λ (n : ℕ). IsTornAt disk session.tear (min session.moment n) image) c.moments.ensures

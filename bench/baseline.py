@@ -32,7 +32,9 @@ with tempfile.TemporaryDirectory() as room:
         spelled = lambda requests: instructions.spelled(instructions.tagged(requests), "--hex" in flags)
         front = [instructions.oaut.ask_create(instructions.worked.ITEM)]
         given = spelled(front + [instructions.REQUESTS[it](1) for it in ("get", "put", "get")])
-        replies = [subprocess.run([*it, *flags], cwd=room, input=given, stdout=subprocess.PIPE, check=True).stdout for it in ([PROGRAM, "play", "lib.idl"], [server])]
+        replies = [
+            subprocess.run([*it, *flags], cwd=room, input=given, stdout=subprocess.PIPE, check=True).stdout for it in ([PROGRAM, "play", "lib.idl"], [server])
+        ]
         assert replies[0] == replies[1], "the baseline answers other bytes"
         baseline = instructions.of_longs(way, lambda requests: instructions.of_program([server, *flags], spelled(requests), room))
         print(f"{way}: {instructions.of_longs(way):,}, of the baseline {baseline:,}", flush=True)

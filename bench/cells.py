@@ -45,4 +45,7 @@ with tempfile.TemporaryDirectory(dir=FOLDER) as room:
             now, most = resident_of(session.child.pid), peak_of(session.child.pid)
         dumped, _ = full.peak_of_run("dump", f"{room}/it.store")
         nothing = nothing or now
-        print(f"{what}: image {size / 1024:.1f}, resident {now / 1024:.1f}, at most {most / 1024:.1f}; dump at most {dumped / 1024:.1f}; {(now - nothing) / size:.1f} times the image", flush=True)
+        print(
+            f"{what}: image {size / 1024:.1f}, resident {now / 1024:.1f}, at most {most / 1024:.1f}; dump at most {dumped / 1024:.1f}; {(now - nothing) / size:.1f} times the image",
+            flush=True,
+        )

@@ -106,11 +106,29 @@ def redis():
     found = {}
     try:
         for clients, pipeline in ROWS:
-            count = 2_000 * clients ** 0.5 * pipeline
+            count = 2_000 * clients**0.5 * pipeline
             for _ in range(4):
                 begun = time.monotonic()
                 threads = ["--threads", "2"] if clients >= 64 else []
-                asked = ["redis-benchmark", "-s", path, "-t", "set", "-c", str(clients), "-P", str(pipeline), "-n", str(int(count)), "-r", "1024", "-d", "4", "--csv", *threads]
+                asked = [
+                    "redis-benchmark",
+                    "-s",
+                    path,
+                    "-t",
+                    "set",
+                    "-c",
+                    str(clients),
+                    "-P",
+                    str(pipeline),
+                    "-n",
+                    str(int(count)),
+                    "-r",
+                    "1024",
+                    "-d",
+                    "4",
+                    "--csv",
+                    *threads,
+                ]
                 told = subprocess.run(asked, capture_output=True, text=True, check=True).stdout.strip().splitlines()[-1].split(",")
                 took = time.monotonic() - begun
                 if took > 0.6 * SECONDS:
@@ -157,8 +175,24 @@ def postgres():
                 os.chmod(logs, 0o777)
                 shutil.copy("put.sql", f"{logs}/put.sql")
                 os.chmod(f"{logs}/put.sql", 0o644)
-                asked = ["pgbench", *reach, "-n", "-M", "prepared", "-f", f"{logs}/put.sql", "-c", str(clients), "-j", "2" if clients > 1 else "1", "-T", str(max(1, int(SECONDS)))]
-                out = subprocess.run([*under, *asked, "-l", f"--log-prefix={logs}/log", "postgres"], capture_output=True, text=True, cwd=logs, check=True).stdout
+                asked = [
+                    "pgbench",
+                    *reach,
+                    "-n",
+                    "-M",
+                    "prepared",
+                    "-f",
+                    f"{logs}/put.sql",
+                    "-c",
+                    str(clients),
+                    "-j",
+                    "2" if clients > 1 else "1",
+                    "-T",
+                    str(max(1, int(SECONDS))),
+                ]
+                out = subprocess.run(
+                    [*under, *asked, "-l", f"--log-prefix={logs}/log", "postgres"], capture_output=True, text=True, cwd=logs, check=True
+                ).stdout
                 waits = []
                 for it in os.listdir(logs):
                     if it.startswith("log"):
@@ -215,7 +249,12 @@ def main():
         rounds = []
         for _ in range(int(ROUNDS)):
             rounds.append({name: way() for name, way in WAYS.items() if not MISSING.get(name)})
-            print(f"load {os.getloadavg()[0]:.1f}", {name: {row: round(told[0]) for row, told in found.items()} for name, found in rounds[-1].items()}, file=sys.stderr, flush=True)
+            print(
+                f"load {os.getloadavg()[0]:.1f}",
+                {name: {row: round(told[0]) for row, told in found.items()} for name, found in rounds[-1].items()},
+                file=sys.stderr,
+                flush=True,
+            )
         os.chdir("/")
     print("| | " + " | ".join(f"{clients:,}" if pipeline == 1 else f"{clients} x {pipeline}" for clients, pipeline in ROWS) + " |")
     for name in rounds[0]:

@@ -108,7 +108,9 @@ with tempfile.TemporaryDirectory() as room:
                 seconds = best([PROGRAM, "play", f"{ROOT}/examples/arrays.idl", *form.words], room)
                 megabytes = size * count * (1 + len(more)) / 1e6
                 parts.append(moving / seconds)
-                print(f"{what} of {size:,} bytes as {name}: {megabytes / seconds:,.0f} MB of records a second, {parts[-1]:.2f} of the {megabytes / moving:,.0f} that moving them alone does")
+                print(
+                    f"{what} of {size:,} bytes as {name}: {megabytes / seconds:,.0f} MB of records a second, {parts[-1]:.2f} of the {megabytes / moving:,.0f} that moving them alone does"
+                )
             if max(parts) > 1.2 * parts[-1]:
                 slow.append(f"{what} of the longest records as {name} run at {parts[-1]:.2f} of what moving them does, others at {max(parts):.2f}")
 if slow:

@@ -26,9 +26,7 @@ TAIL = "[uuid(11223344-5566-7788-99aa-00000000ffff)]\ncoclass Item {\n[default] 
 def interface(number, name, members):
     """An interface with properties and properties in two forms in turn, as the canonical text has them."""
     properties = "".join(f"[id({it})] long P{it};\n" for it in range(1, members + 1))
-    forms = "".join(
-        f"[id({1_000 + it})] VARIANT M{it}([in] long At, [in, optional, defaultvalue({it})] short By);\n" for it in range(1, members + 1)
-    )
+    forms = "".join(f"[id({1_000 + it})] VARIANT M{it}([in] long At, [in, optional, defaultvalue({it})] short By);\n" for it in range(1, members + 1))
     return f"[uuid(11223344-5566-7788-99aa-00000000{number + 1:04x})]\ndispinterface {name} {{\nproperties:\n{properties}methods:\n{forms}}}\n"
 
 

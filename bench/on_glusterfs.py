@@ -140,8 +140,20 @@ class Site:
         for folder in ("work", "run", "log", "replica"):
             os.makedirs(f"{home}/{folder}")
         self.within("site", *f"ip addr add 10.77.0.{number}/32 dev lo".split())
-        told = {"working-directory": f"{home}/work", "run-directory": f"{home}/run", "transport.socket.bind-address": f"10.77.0.{number}", "glusterd-sockfile": f"{home}/socket", "cluster-test-mode": f"{home}/log"}
-        self.within("site", "glusterd", f"--log-file={home}/log/glusterd.log", f"--pid-file={home}/pid", *(word for name, value in told.items() for word in ("--xlator-option", f"management.{name}={value}")))
+        told = {
+            "working-directory": f"{home}/work",
+            "run-directory": f"{home}/run",
+            "transport.socket.bind-address": f"10.77.0.{number}",
+            "glusterd-sockfile": f"{home}/socket",
+            "cluster-test-mode": f"{home}/log",
+        }
+        self.within(
+            "site",
+            "glusterd",
+            f"--log-file={home}/log/glusterd.log",
+            f"--pid-file={home}/pid",
+            *(word for name, value in told.items() for word in ("--xlator-option", f"management.{name}={value}")),
+        )
 
     def link(self, who):
         self.within(who, *"ip link set wire up".split())
@@ -153,7 +165,16 @@ class Site:
     def mount(self, who):
         """Mounts the volume anew, so that nothing is read from an old cache."""
         did("umount", "-l", self.folder(who))
-        self.within(who, "glusterfs", "--volfile-server=10.77.0.1", "--volfile-id=stores", f"--log-file={self.room}/{who}.log", f"--pid-file={self.room}/{who}.pid", "--fopen-keep-cache=off", self.folder(who))
+        self.within(
+            who,
+            "glusterfs",
+            "--volfile-server=10.77.0.1",
+            "--volfile-id=stores",
+            f"--log-file={self.room}/{who}.log",
+            f"--pid-file={self.room}/{who}.pid",
+            "--fopen-keep-cache=off",
+            self.folder(who),
+        )
 
     def kill(self, what):
         """Kills the server of a replica, by its number, or the mount of a machine."""
@@ -192,7 +213,9 @@ class Puts(threading.Thread):
     def __init__(self, store, library, size, first, limit):
         super().__init__(daemon=True)
         self.size, self.first, self.limit, self.acknowledged, self.over, self.codes = size, first, limit, 0, False, []
-        self.child = subprocess.Popen([PROGRAM, "serve", "--group", str(size), store, library], stdin=subprocess.PIPE, stdout=subprocess.PIPE, stderr=subprocess.PIPE)
+        self.child = subprocess.Popen(
+            [PROGRAM, "serve", "--group", str(size), store, library], stdin=subprocess.PIPE, stdout=subprocess.PIPE, stderr=subprocess.PIPE
+        )
         self.longest = 0.0
 
     def run(self):
@@ -276,7 +299,9 @@ class Trial:
         wanted = {**self.found, **{it % OBJECTS + 1: it for it in range(puts.first, puts.first + there)}}
         self.longest = max(self.longest, puts.longest)
         if there < puts.acknowledged or found != wanted or puts.codes not in ([], [WRITE_FAULT] * puts.size):
-            self.lost.append(f"{where}: {puts.acknowledged} acknowledged, {there} there, {sum(found.get(it) != wanted[it] for it in wanted)} objects are others, codes {[hex(it) for it in puts.codes[:2]]}, {found.get('status')}")
+            self.lost.append(
+                f"{where}: {puts.acknowledged} acknowledged, {there} there, {sum(found.get(it) != wanted[it] for it in wanted)} objects are others, codes {[hex(it) for it in puts.codes[:2]]}, {found.get('status')}"
+            )
         self.acknowledged, self.more, self.found = self.acknowledged + puts.acknowledged, self.more + max(there - puts.acknowledged, 0), found
 
     # the rounds
@@ -401,7 +426,11 @@ class Trial:
                 self.site.mount(who)
             self.site.heal()
             shown = {where: self.held(where) for where in (*MACHINES, 1, 2, 3)}
-            others = {where: found.get("status") or max(found.values(), default=0) - max((it for it in self.found.values() if isinstance(it, int)), default=0) for where, found in shown.items() if found != self.found}
+            others = {
+                where: found.get("status") or max(found.values(), default=0) - max((it for it in self.found.values() if isinstance(it, int)), default=0)
+                for where, found in shown.items()
+                if found != self.found
+            }
             if others:
                 self.lost.append(f"healed, these show so many more puts than before: {others}")
             losses += bool(self.lost)
@@ -412,7 +441,10 @@ class Trial:
                 self.begin(self.store("one"))
         more = f", the lock was free {max(waits):.1f} s behind the kill at most" if waits else ""
         more += f", codes {sorted({*codes})}" if codes else ""
-        print(f"{name}: {times} rounds, {losses} with losses, {self.acknowledged} puts acknowledged, {self.more} more there, {self.longest:.1f} s for a group at most{more}", flush=True)
+        print(
+            f"{name}: {times} rounds, {losses} with losses, {self.acknowledged} puts acknowledged, {self.more} more there, {self.longest:.1f} s for a group at most{more}",
+            flush=True,
+        )
 
     def rates(self, times):
         """Puts a second on the volume, and into a file beside it."""

@@ -56,4 +56,7 @@ with tempfile.TemporaryDirectory(dir=".") as room:
             made = groups(some)
             seconds, peak = opened(room, made, table(some - 1) if what == "puts of a long" else None)
             size = sum(5 + len(it) for it in made)
-            print(f"{some:,} {what}, {size / 1e6:.1f} MB: {seconds - empty:.3f} s more, {(seconds - empty) / some * 1e9:,.0f} ns a group; {peak / 1024:.1f} MiB at most", flush=True)
+            print(
+                f"{some:,} {what}, {size / 1e6:.1f} MB: {seconds - empty:.3f} s more, {(seconds - empty) / some * 1e9:,.0f} ns a group; {peak / 1024:.1f} MiB at most",
+                flush=True,
+            )

@@ -60,7 +60,10 @@ def upgrades(room):
             if made:
                 os.truncate(f"{room}/{STORE}", store.length_of(bank))
             peak, seconds = full.peak_of_run("upgrade", "--bank", str(bank), f"{room}/{STORE}")
-            print(f"upgrade of a table of {size:,} bytes into banks of {bank:,}, {'in a file that is long enough' if made else 'with its zeros'}: {seconds:.2f} s, {mebibytes(peak)} at most", flush=True)
+            print(
+                f"upgrade of a table of {size:,} bytes into banks of {bank:,}, {'in a file that is long enough' if made else 'with its zeros'}: {seconds:.2f} s, {mebibytes(peak)} at most",
+                flush=True,
+            )
 
 
 with tempfile.TemporaryDirectory(dir=FOLDER) as room:

@@ -190,7 +190,9 @@ while True:
 def did(*words, **how):
     """Runs a program, and answers its status and what it wrote."""
     with contextlib.suppress(subprocess.TimeoutExpired):
-        done = subprocess.run([str(it) for it in words], stdout=subprocess.PIPE, stderr=subprocess.STDOUT, stdin=subprocess.DEVNULL, text=True, **{"timeout": SECONDS, **how})
+        done = subprocess.run(
+            [str(it) for it in words], stdout=subprocess.PIPE, stderr=subprocess.STDOUT, stdin=subprocess.DEVNULL, text=True, **{"timeout": SECONDS, **how}
+        )
         return done.returncode, done.stdout
     return -1, "late"
 
@@ -372,7 +374,21 @@ class Host:
         wait_for(f"{self.name} to begin", is_up)
         for n, it in enumerate(NETWORKS):
             did("ip", "link", "del", f"{self.name}-{it}")
-            must("ip", "link", "add", f"{self.name}-{it}", "type", "veth", "peer", "name", it, "address", f"02:00:00:00:{self.number:02x}:{n:02x}", "netns", self.pid)
+            must(
+                "ip",
+                "link",
+                "add",
+                f"{self.name}-{it}",
+                "type",
+                "veth",
+                "peer",
+                "name",
+                it,
+                "address",
+                f"02:00:00:00:{self.number:02x}:{n:02x}",
+                "netns",
+                self.pid,
+            )
             must("ip", "link", "set", f"{self.name}-{it}", "master", it, "up")
             self.ip("addr", "add", f"10.78.{n}.{self.number}/24", "dev", it)
             self.ip("link", "set", it, "up")
@@ -410,7 +426,9 @@ class Host:
 
     def start(self, *words):
         with open(f"{self.home}/console", "ab") as console:
-            subprocess.run(["nsenter", "-t", str(self.pid), "-a", "-r", "-w", "setsid", "-f", *words], stdin=subprocess.DEVNULL, stdout=console, stderr=console, check=True)
+            subprocess.run(
+                ["nsenter", "-t", str(self.pid), "-a", "-r", "-w", "setsid", "-f", *words], stdin=subprocess.DEVNULL, stdout=console, stderr=console, check=True
+            )
 
     def processes(self, name):
         """Its processes of a name, by their numbers here."""
@@ -476,7 +494,9 @@ class Site:
             must("ip", "link", "set", it, "up")
         self.hosts = [Host(self, n) for n in (1, 2, 3)]
         self.in_cluster = self.hosts[: self.members]
-        nodes = "".join(f"    node {{\n        ring0_addr: 10.78.1.{it.number}\n        name: {it.name}\n        nodeid: {it.number}\n    }}\n" for it in self.in_cluster)
+        nodes = "".join(
+            f"    node {{\n        ring0_addr: 10.78.1.{it.number}\n        name: {it.name}\n        nodeid: {it.number}\n    }}\n" for it in self.in_cluster
+        )
         for it in self.hosts:
             it.write("/etc/corosync/corosync.conf", COROSYNC % ("    two_node: 1\n" if given.two else "", nodes))
         self.paused = self.anew = False
@@ -496,7 +516,7 @@ class Site:
             gluster("volume", "set", "stores", name, "off" if self.without_lock and "locks" in name else value)
         gluster("volume", "start", "stores")
         self.make_store(one)
-        wait_for("the cluster", lambda: self.status().count("online=\"true\"") == self.members)
+        wait_for("the cluster", lambda: self.status().count('online="true"') == self.members)
         config = PACEMAKER % ("false" if self.without_fencing else "true")
         if not self.without_fencing:
             config += "".join(FENCE.format(it.name, 2 if self.members == 2 and it is one else 0) for it in self.in_cluster)
@@ -522,7 +542,12 @@ class Site:
         shutil.copy(f"{ROOT}/examples/small.idl", f"{host.home}/small.idl")
         host.must("/usr/bin/oaut", "format", STORE, f"{host.home}/small.idl")
         made = Raw.pack([struct.pack("<I", 1) + ask_create(ITEM)] * (CLIENTS + 3))
-        subprocess.run(["nsenter", "-t", str(host.pid), "-a", "-r", "-w", "/usr/bin/oaut", "serve", STORE, f"{host.home}/small.idl"], input=made, stdout=subprocess.DEVNULL, check=True)
+        subprocess.run(
+            ["nsenter", "-t", str(host.pid), "-a", "-r", "-w", "/usr/bin/oaut", "serve", STORE, f"{host.home}/small.idl"],
+            input=made,
+            stdout=subprocess.DEVNULL,
+            check=True,
+        )
         host.must("chown", "oaut:", STORE)
         host.must("umount", "/srv/stores")
 
@@ -607,7 +632,11 @@ class Site:
             if not it.is_on:
                 it.boot()
                 it.must("touch", "/run/pause")
-        wait_for("the cluster", lambda: self.status().count('online="true" standby="false" standby_onfail="false" maintenance="false" pending="false" unclean="false"') == self.members)
+        wait_for(
+            "the cluster",
+            lambda: self.status().count('online="true" standby="false" standby_onfail="false" maintenance="false" pending="false" unclean="false"')
+            == self.members,
+        )
         self.some().run("crm_resource", "--cleanup")
         self.some().run("gluster", "--mode=script", "volume", "start", "stores", "force")
         wait_for("healing", self.are_equal)
@@ -786,7 +815,9 @@ def inside(given):
     for name, its in found.items():
         good = [it for it in its if "fault" not in it]
         waits = [it["wait"] for it in good] or [0]
-        print(f"| {name} | {len(its)} | {sum(it['acknowledged'] for it in good)} | {sum('fault' in it or bool(it['lost']) for it in its)} | {sum(it['two'] > 0 for it in good)} | {sum(bool(it['fenced']) for it in good)} | {statistics.median(waits):.1f} | {max(waits):.1f} |")
+        print(
+            f"| {name} | {len(its)} | {sum(it['acknowledged'] for it in good)} | {sum('fault' in it or bool(it['lost']) for it in its)} | {sum(it['two'] > 0 for it in good)} | {sum(bool(it['fenced']) for it in good)} | {statistics.median(waits):.1f} | {max(waits):.1f} |"
+        )
 
 
 def main():

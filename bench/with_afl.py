@@ -54,7 +54,19 @@ def blocks():
 
 def seeds():
     if PART == "records":
-        sessions = [worked.CREATED + it for it in (worked.SCALAR_PROPERTIES, worked.PARAMETERS, worked.ARRAYS[:24], worked.ARRAYS[24:], worked.NEVER_PUT, worked.NAMES, worked.REFUSALS, worked.GOES)]
+        sessions = [
+            worked.CREATED + it
+            for it in (
+                worked.SCALAR_PROPERTIES,
+                worked.PARAMETERS,
+                worked.ARRAYS[:24],
+                worked.ARRAYS[24:],
+                worked.NEVER_PUT,
+                worked.NAMES,
+                worked.REFUSALS,
+                worked.GOES,
+            )
+        ]
         sessions += [[worked.EVERY_TYPE[0], *worked.EVERY_TYPE[at : at + 12]] for at in range(1, len(worked.EVERY_TYPE), 12)]
         return [fuzzed.pack(it) for it in sessions]
     if PART == "libraries":
@@ -77,7 +89,14 @@ def main():
         file.write(struct.pack(f"<{len(found)}Q", *found))
     fill(FOLDER, {"lib.idl": LIBRARY, **{f"seeds/{number}": it for number, it in enumerate(seeds())}})
     words = {"records": ["play", f"{FOLDER}/lib.idl"], "libraries": ["check", "-"], "stores": ["dump", f"{FOLDER}/it.store"]}[PART]
-    told = {"AFL_PRELOAD": f"{FOLDER}/coverage.so", "BLOCKS": f"{FOLDER}/blocks", "SEEDS": f"{FOLDER}/seeds", "AFL_SKIP_BIN_CHECK": "1", "AFL_NO_AFFINITY": "1", "AFL_I_DONT_CARE_ABOUT_MISSING_CRASHES": "1"}
+    told = {
+        "AFL_PRELOAD": f"{FOLDER}/coverage.so",
+        "BLOCKS": f"{FOLDER}/blocks",
+        "SEEDS": f"{FOLDER}/seeds",
+        "AFL_SKIP_BIN_CHECK": "1",
+        "AFL_NO_AFFINITY": "1",
+        "AFL_I_DONT_CARE_ABOUT_MISSING_CRASHES": "1",
+    }
     told.update({"AFL_SKIP_CPUFREQ": "1", "AFL_NO_UI": "1", "AFL_AUTORESUME": "1", "AFL_FORKSRV_INIT_TMOUT": "600000", "AFL_QUIET": "1"})
     if PART == "stores":
         told["STORE"] = "1"
@@ -85,13 +104,24 @@ def main():
             file.truncate(75_505_664)
     dictionary = []
     if PART == "libraries":
-        rows = [f'"{it}"' for it in "uuid( version( helpstring( library importlib( dispinterface interface coclass properties: methods: void unsigned SAFEARRAY( long short char hyper int BSTR VARIANT VARIANT_BOOL CURRENCY DECIMAL SCODE readonly propget propput in optional defaultvalue( default id( TRUE FALSE".split()]
+        rows = [
+            f'"{it}"'
+            for it in "uuid( version( helpstring( library importlib( dispinterface interface coclass properties: methods: void unsigned SAFEARRAY( long short char hyper int BSTR VARIANT VARIANT_BOOL CURRENCY DECIMAL SCODE readonly propget propput in optional defaultvalue( default id( TRUE FALSE".split()
+        ]
         fill(FOLDER, {"words": "\n".join(rows).encode()})
         dictionary = ["-x", f"{FOLDER}/words"]
     print(f"{len(found)} blocks", flush=True)
     log = open(f"{FOLDER}/log", "wb")
     # (afl-showmap waits for the program to begin by this time too)
-    afl = lambda most, *more: subprocess.run([*more, "-m", "none", "-t", most, "--", PROGRAM, *words], env={**os.environ, **told}, stdout=log, stderr=log, stdin=subprocess.DEVNULL, cwd=FOLDER, check=False)
+    afl = lambda most, *more: subprocess.run(
+        [*more, "-m", "none", "-t", most, "--", PROGRAM, *words],
+        env={**os.environ, **told},
+        stdout=log,
+        stderr=log,
+        stdin=subprocess.DEVNULL,
+        cwd=FOLDER,
+        check=False,
+    )
     afl("2000", "afl-fuzz", "-i", f"{FOLDER}/seeds", "-o", f"{FOLDER}/out", "-V", SECONDS, *dictionary)
     judge()
     reached = {}
@@ -124,7 +154,10 @@ def choose(reached):
 def judge():
     with open(f"{FOLDER}/out/default/fuzzer_stats") as file:
         stats = dict(re.split(r"\s*: ", line.rstrip("\n"), maxsplit=1) for line in file if ":" in line)
-    kept, wrong = sorted(glob.glob(f"{FOLDER}/out/default/queue/id*") + glob.glob(f"{FOLDER}/out/default/crashes/id*") + glob.glob(f"{FOLDER}/out/default/hangs/id*")), []
+    kept, wrong = (
+        sorted(glob.glob(f"{FOLDER}/out/default/queue/id*") + glob.glob(f"{FOLDER}/out/default/crashes/id*") + glob.glob(f"{FOLDER}/out/default/hangs/id*")),
+        [],
+    )
     with tempfile.TemporaryDirectory() as room:
         for path in kept:
             with open(path, "rb") as file:
@@ -133,7 +166,10 @@ def judge():
                 wrong.append((path, said))
     for path, said in wrong[:20]:
         print(f"DIFFERS {path}: {said[:600]}")
-    print(f"{PART}: {stats['execs_done']} inputs in {stats['run_time']} s, {len(kept)} kept, {stats['bitmap_cvg']} of the map, {stats['saved_crashes']} crashes, {stats['saved_hangs']} hangs, {len(wrong)} differ", flush=True)
+    print(
+        f"{PART}: {stats['execs_done']} inputs in {stats['run_time']} s, {len(kept)} kept, {stats['bitmap_cvg']} of the map, {stats['saved_crashes']} crashes, {stats['saved_hangs']} hangs, {len(wrong)} differ",
+        flush=True,
+    )
 
 
 if __name__ == "__main__":

@@ -106,7 +106,12 @@ def main():
     parser.add_argument("--seed", metavar="S", help="from which seed")
     parser.add_argument("parts", nargs="*", metavar="PART")
     given = parser.parse_args()
-    told = {"OAUT_PROGRAM": given.program and os.path.abspath(given.program), "OAUT_SESSIONS": given.sessions and " ".join(given.sessions), "OAUT_KILLS": given.kills, "OAUT_SEED": given.seed}
+    told = {
+        "OAUT_PROGRAM": given.program and os.path.abspath(given.program),
+        "OAUT_SESSIONS": given.sessions and " ".join(given.sessions),
+        "OAUT_KILLS": given.kills,
+        "OAUT_SEED": given.seed,
+    }
     os.environ.update({name: it for name, it in told.items() if it})
     sys.path[:0] = FOLDERS
     keep_freed_memory()

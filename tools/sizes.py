@@ -54,8 +54,11 @@ def main():
         crates = re.findall(r"^(\w+)[^:#\n]*:", file.read(), re.MULTILINE)
     for crate in crates:
         folder = os.path.join(ROOT, "crates", crate)
-        sizes = (lines_of(os.path.join(folder, "src"), ".rt"), lines_of(os.path.join(folder, "specs"), ".antt"),
-                 lines_of(os.path.join(folder, "proofs"), ".antt"))
+        sizes = (
+            lines_of(os.path.join(folder, "src"), ".rt"),
+            lines_of(os.path.join(folder, "specs"), ".antt"),
+            lines_of(os.path.join(folder, "proofs"), ".antt"),
+        )
         cells = [crate, str(counts.get(crate, "")), *(f"{size:,}" for size in sizes), minutes.get(crate, "")]
         print("| " + " | ".join(cells) + " |")
 

@@ -30,7 +30,11 @@ def said_of(log):
     said = lines[lines.index("== oaut") : lines.index("rt: oaut proved")]
     verdict = next(line for line in reversed(said) if line.startswith("logic=proved") and " axioms=" in line)
     statements = [found[1] for found in (re.match(r"statements (\w+):", line) for line in said) if found and not os.path.isdir(f"{ROOT}/crates/{found[1]}")]
-    axioms = [(found[1], found[2] or "0", found[3]) for found in (re.match(r"axioms (\w+): .*?(?:\((\d+) of|none reached of) the (\d+) declared", line) for line in said) if found]
+    axioms = [
+        (found[1], found[2] or "0", found[3])
+        for found in (re.match(r"axioms (\w+): .*?(?:\((\d+) of|none reached of) the (\d+) declared", line) for line in said)
+        if found
+    ]
     words = dict(word.split("=", 1) for word in verdict.split() if "=" in word)
     return statements, axioms, words
 

@@ -21,7 +21,9 @@ def opened():
         options.add_argument(it)
     options.binary_location = shutil.which("chromium")
     options.set_capability("goog:loggingPrefs", {"browser": "ALL"})
-    return webdriver.Chrome(service=webdriver.ChromeService(shutil.which("chromedriver")) if hasattr(webdriver, "ChromeService") else service(), options=options)
+    return webdriver.Chrome(
+        service=webdriver.ChromeService(shutil.which("chromedriver")) if hasattr(webdriver, "ChromeService") else service(), options=options
+    )
 
 
 def service():

@@ -98,6 +98,8 @@ NO_VALUE = hexed("14000000 00000000 03000000 00000000 0100 0000 0000 0000 010000
 
 def item_of(server):
     return server.object(1, "Item")
+
+
 # of each request an act on a session, what is sent behind the tag, the reply behind the tag, and what the act gives
 ASKED = [
     ("create", lambda it: it.create("item").number, f"0100 0000 {ITEM}", answer("01000000 00000000"), 1),
@@ -135,8 +137,7 @@ ASKED = [
     (
         "put the null text by places",
         lambda it: item_of(it).Cell.__setitem__((5, "k"), None),
-        "0400 0000 01000000 09000000" + "00" * 32 + "00000000 0400 0000 03000000 01000000 fdffffff 00000000"
-        + "18000000 00000000" + NULL_TEXT.hex() + K + FIVE,
+        "0400 0000 01000000 09000000" + "00" * 32 + "00000000 0400 0000 03000000 01000000 fdffffff 00000000" + "18000000 00000000" + NULL_TEXT.hex() + K + FIVE,
         DONE,
         None,
     ),
@@ -196,6 +197,6 @@ def wrapped(words):
     """A program that is the program under other words of a shell."""
     with tempfile.TemporaryDirectory() as room:
         with open(f"{room}/oaut", "w") as file:
-            file.write(f"#!/bin/sh\n{words.format(program=PROGRAM)} \"$@\"\n")
+            file.write(f'#!/bin/sh\n{words.format(program=PROGRAM)} "$@"\n')
         os.chmod(f"{room}/oaut", 0o755)
         yield f"{room}/oaut"

@@ -28,8 +28,18 @@ class Awaited(ClientCases):
                 self.same("an array", [await grid.bounds(), await grid.value()], [[(2, 0), (2, 0)], Array(I2, [(2, 0), (2, 0)], [1, 9, 3, 4])])
                 self.same("locks, DISPIDs", [await grid.lock(), await grid.unlock(), await item.dispids("Cell", "Key")], [1, 0, [9, 1]])
                 for name, asked, kind, says in (
-                    ("a refusal", item.put("Count", "x"), oaut.TypeMismatch, "put Item.Count = 'x': DISP_E_TYPEMISMATCH (0x80020005), argument 0 (the new value)"),
-                    ("what is not sent", item.put("Count", 0.5), TypeError, "put Item.Count = 0.5: there are no floating-point numbers: give oaut.real(0.5), a Currency or a whole number"),
+                    (
+                        "a refusal",
+                        item.put("Count", "x"),
+                        oaut.TypeMismatch,
+                        "put Item.Count = 'x': DISP_E_TYPEMISMATCH (0x80020005), argument 0 (the new value)",
+                    ),
+                    (
+                        "what is not sent",
+                        item.put("Count", 0.5),
+                        TypeError,
+                        "put Item.Count = 0.5: there are no floating-point numbers: give oaut.real(0.5), a Currency or a whole number",
+                    ),
                     ("no such member", item.get("Cuont"), AttributeError, "Item has no member Cuont: did you mean Count?"),
                     ("a method", item.call("Clear"), oaut.NotImplementedHere, "call Item.Clear(): E_NOTIMPL (0x80004001)"),
                 ):
@@ -81,7 +91,9 @@ class Awaited(ClientCases):
                                 await items[0].put("Count", 6)
                         self.tell("what does not fit", False)
                     except ValueError as error:
-                        self.same("what does not fit", (str(error), await items[0].get("Count")), ("a group has at most 1024 requests: nothing was sent", I4(5)))
+                        self.same(
+                            "what does not fit", (str(error), await items[0].get("Count")), ("a group has at most 1024 requests: nothing was sent", I4(5))
+                        )
                 with open(path, "rb") as file:
                     groups = [it.events for it in stores.read(file.read()).groups]
                 self.same("tasks that ask at one moment share a group, a block is one", (groups[:2], groups[-1]), ([10, 10], 10))

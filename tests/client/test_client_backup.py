@@ -44,7 +44,7 @@ SCALARS = [
     (stores.DECIMAL, struct.pack("<BBIQ", 3, 1, 0, 0)),
     (stores.DECIMAL, struct.pack("<BBIQ", 0, 0, 0, 10**18)),
     text(b""),
-    text("Hi \U0001f600 \"".encode("utf-16-le")),
+    text('Hi \U0001f600 "'.encode("utf-16-le")),
     text(b"abc"),
     text(b"\0\xd8"),
     NULL,
@@ -107,7 +107,16 @@ class Backup(ClientCases):
                 self.same(f"format {form}: what is restored holds it all", held(f"{room}/{form}.restored"), held(path))
                 self.same(f"format {form}: its library", dumps.dump(f"{room}/{form}.restored"), told)
             found = [(it["type"], it.get("value")) for one in told["objects"] for it in one["cells"] if "type" in it]
-            for it in (("I4", 1), ("I8", "9223372036854775807"), ("CY", "0.0001"), ("DECIMAL", "-2.50"), ("DECIMAL", "-0.000"), ("BSTR", None), ("NULL", None), ("BOOL", True)):
+            for it in (
+                ("I4", 1),
+                ("I8", "9223372036854775807"),
+                ("CY", "0.0001"),
+                ("DECIMAL", "-2.50"),
+                ("DECIMAL", "-0.000"),
+                ("BSTR", None),
+                ("NULL", None),
+                ("BOOL", True),
+            ):
                 self.tell(f"a value as JSON: {it}", it in found, found)
             self.same("its size", os.path.getsize(f"{room}/2.restored"), 75_505_664)
             dumps.restore(told, f"{room}/large", bank=25_000_000)
@@ -130,9 +139,26 @@ class Backup(ClientCases):
                 ("a next number that is used", {"next": 3}),
                 ("a number twice", {"objects": [{"number": number, "coclass": str(CLASS), "cells": []}] * 2}),
                 ("a coclass that is no GUID", {"objects": [{"number": 1, "coclass": "x", "cells": []}]}),
-                ("a type that is none", {"objects": [{"number": 1, "coclass": str(CLASS), "cells": [{"interface": str(FACE), "dispid": 1, "type": "DATE", "value": 1}]}]}),
-                ("a number too large", {"objects": [{"number": 1, "coclass": str(CLASS), "cells": [{"interface": str(FACE), "dispid": 1, "type": "I2", "value": 70_000}]}]}),
-                ("cells too few", {"objects": [{"number": 1, "coclass": str(CLASS), "cells": [{"interface": str(FACE), "dispid": 1, "array": "I2", "bounds": [[2, 0]], "cells": [1]}]}]}),
+                (
+                    "a type that is none",
+                    {"objects": [{"number": 1, "coclass": str(CLASS), "cells": [{"interface": str(FACE), "dispid": 1, "type": "DATE", "value": 1}]}]},
+                ),
+                (
+                    "a number too large",
+                    {"objects": [{"number": 1, "coclass": str(CLASS), "cells": [{"interface": str(FACE), "dispid": 1, "type": "I2", "value": 70_000}]}]},
+                ),
+                (
+                    "cells too few",
+                    {
+                        "objects": [
+                            {
+                                "number": 1,
+                                "coclass": str(CLASS),
+                                "cells": [{"interface": str(FACE), "dispid": 1, "array": "I2", "bounds": [[2, 0]], "cells": [1]}],
+                            }
+                        ]
+                    },
+                ),
             ):
                 self.raises(name, oaut.Unusable, lambda: dumps.restore({**told, **change}, f"{room}/new"))
             self.raises("no dump", oaut.Unusable, lambda: dumps.restore([], f"{room}/new"))

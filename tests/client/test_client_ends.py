@@ -111,16 +111,27 @@ class Ends(ClientCases):
         with library_of("properties: long Count;") as library:
             end = self.raises("a library that is refused", oaut.faults.LibraryRefused, lambda: play(library), status=2)
             self.tell("its fault line", (end.fault or "").startswith("oaut: syntax at byte "), end.fault)
-        self.raises("a library that is not there", oaut.Stopped, lambda: play("/none.idl"), status=1, fault="oaut: cannot read /none.idl", cause="No such file or directory")
+        self.raises(
+            "a library that is not there",
+            oaut.Stopped,
+            lambda: play("/none.idl"),
+            status=1,
+            fault="oaut: cannot read /none.idl",
+            cause="No such file or directory",
+        )
         self.raises("a folder for a library", oaut.Stopped, lambda: play("/"), status=1, fault="oaut: cannot read /", cause="Is a directory")
         for program in ("/none/oaut", "no-such-oaut", FULL + "/oaut", ["no-such-ssh", "host", "oaut"]):
             name = program if isinstance(program, str) else program[0]
             says = f"there is no program {name}: name it by program=, or have it on the path"
             self.raises(f"the program {program}", oaut.ProgramNotFound, lambda: oaut.play(FULL, program=program), says, status=None, fault=None)
-        self.tell("it is a Stopped and a FileNotFoundError", issubclass(oaut.ProgramNotFound, oaut.Stopped) and issubclass(oaut.ProgramNotFound, FileNotFoundError))
+        self.tell(
+            "it is a Stopped and a FileNotFoundError", issubclass(oaut.ProgramNotFound, oaut.Stopped) and issubclass(oaut.ProgramNotFound, FileNotFoundError)
+        )
         with tempfile.TemporaryDirectory() as room:
             self.raises("a store by no program", oaut.ProgramNotFound, lambda: oaut.make_store(f"{room}/it.store", FULL, program="no-such-oaut"))
-            self.raises("a folder as a program", oaut.Stopped, lambda: oaut.play(FULL, program=room), f"the program {room} cannot be started: Permission denied")
+            self.raises(
+                "a folder as a program", oaut.Stopped, lambda: oaut.play(FULL, program=room), f"the program {room} cannot be started: Permission denied"
+            )
         self.raises("no words", ValueError, lambda: oaut.play(FULL, program=[]))
 
     def test_a_program_of_several_words(self):
@@ -148,16 +159,21 @@ class Ends(ClientCases):
 
     def test_a_server_that_does_not_answer(self):
         long = [oaut.ask_invoke(1, 1, 4, (-3,), (oaut.spell("a" * 131_072),))] * 8
-        over = {
-            "a socket": lambda it: oaut.connect(it, timeout=0.05),
-            "streams": lambda it: oaut.connect(it.makefile("rb"), it.makefile("wb"), timeout=0.05),
-        }
+        over = {"a socket": lambda it: oaut.connect(it, timeout=0.05), "streams": lambda it: oaut.connect(it.makefile("rb"), it.makefile("wb"), timeout=0.05)}
         # (what was written to streams and nobody reads, nobody can take back)
         for name, asks, how in (("a get", [oaut.ask_type_info(0)], "a socket"), ("a get", [oaut.ask_type_info(0)], "streams"), ("too much", long, "a socket")):
             ours, theirs = socket.socketpair()
             with theirs, ours:
                 server, begun = over[how](ours), time.monotonic()
-                self.raises(f"{name} over {how}", oaut.TimedOut, lambda: server.exchange(asks), f"no answer within 0.05 seconds{WHOLLY}", status=None, fault=None, may_stand=True)
+                self.raises(
+                    f"{name} over {how}",
+                    oaut.TimedOut,
+                    lambda: server.exchange(asks),
+                    f"no answer within 0.05 seconds{WHOLLY}",
+                    status=None,
+                    fault=None,
+                    may_stand=True,
+                )
                 self.raises(f"{name} over {how}, and behind it", oaut.TimedOut, lambda: server.create("Item"))
                 self.tell(f"{name} over {how} takes no longer", time.monotonic() - begun < 5, time.monotonic() - begun)
                 server.close()

@@ -19,13 +19,23 @@ TOLD = [
     (lambda it: setattr(it, "Version", 1), NOT_FOUND, None, "put Item.Version = 1: DISP_E_MEMBERNOTFOUND (0x80020003): the property is read-only"),
     (lambda it: it.Count, NOT_FOUND, None, "get Item.Count: DISP_E_MEMBERNOTFOUND (0x80020003)"),
     (lambda it: it.Cell[5], 0x8002_000F, None, "get Item.Cell(5): DISP_E_PARAMNOTOPTIONAL (0x8002000f): its parameters: Row, Key, Page (may be left out)"),
-    (lambda it: it.Cell(1, "k", 1, 4), 0x8002_000E, None, "get Item.Cell(1, 'k', 1, 4): DISP_E_BADPARAMCOUNT (0x8002000e): its parameters: Row, Key, Page (may be left out)"),
+    (
+        lambda it: it.Cell(1, "k", 1, 4),
+        0x8002_000E,
+        None,
+        "get Item.Cell(1, 'k', 1, 4): DISP_E_BADPARAMCOUNT (0x8002000e): its parameters: Row, Key, Page (may be left out)",
+    ),
     (lambda it: it.Cell(5, Key="k"), MISMATCH, 1, f"get Item.Cell(5, Key='k'): {LONG}, argument 1 (Row)"),
     (lambda it: it.Cell.put(True, 5, "k"), MISMATCH, 0, f"put Item.Cell(5, 'k') = true: {LONG}, argument 0 (the new value)"),
     (lambda it: it.Grid[0, 7], 0x8002_000B, None, "get Item.Grid[0, 7]: DISP_E_BADINDEX (0x8002000b)"),
     (lambda it: it.Grid.__setitem__((0, 7), 40_000), OVERFLOW, None, "put Item.Grid[0, 7] = 40000: DISP_E_OVERFLOW (0x8002000a)"),
     (lambda it: it.Grid.redim(3, 10), 0x8002_000D, None, "redim Item.Grid to 3 from 10: DISP_E_ARRAYISLOCKED (0x8002000d)"),
-    (lambda it: it.Grid.lock(), 0x8000_FFFF, None, "lock Item.Grid: E_UNEXPECTED (0x8000ffff): it was never put, or has 65,535 locks, which is the limit: put an array, or unlock it"),
+    (
+        lambda it: it.Grid.lock(),
+        0x8000_FFFF,
+        None,
+        "lock Item.Grid: E_UNEXPECTED (0x8000ffff): it was never put, or has 65,535 locks, which is the limit: put an array, or unlock it",
+    ),
     (lambda it: it.Clear(), 0x8000_4001, None, "call Item.Clear(): E_NOTIMPL (0x80004001)"),
     (lambda it: it.release(), 0x8001_0108, None, "release <Item 1>: RPC_E_DISCONNECTED (0x80010108)"),
     (lambda it: it.dispids("Cell", "none"), 0x8002_0006, None, "look up Cell, none of Item: DISP_E_UNKNOWNNAME (0x80020006)"),
@@ -34,9 +44,17 @@ TOLD = [
 ]
 # of each act that sends nothing, the exception and what it says
 UNSENT = [
-    (lambda it: setattr(it, "Count", 0.5), TypeError, "put Item.Count = 0.5: there are no floating-point numbers: give oaut.real(0.5), a Currency or a whole number"),
+    (
+        lambda it: setattr(it, "Count", 0.5),
+        TypeError,
+        "put Item.Count = 0.5: there are no floating-point numbers: give oaut.real(0.5), a Currency or a whole number",
+    ),
     (lambda it: setattr(it, "Grid", [40_000]), OverflowError, "put Item.Grid = [40000]: a cell is out of the range of I2"),
-    (lambda it: it.Cell(0.5, "k"), TypeError, "get Item.Cell(0.5, 'k'): there are no floating-point numbers: give oaut.real(0.5), a Currency or a whole number"),
+    (
+        lambda it: it.Cell(0.5, "k"),
+        TypeError,
+        "get Item.Cell(0.5, 'k'): there are no floating-point numbers: give oaut.real(0.5), a Currency or a whole number",
+    ),
     (lambda it: it.Cell(Rwo=1), TypeError, "get Item.Cell(Rwo=1): Cell has no parameter Rwo: did you mean Row?"),
     (lambda it: it.Grid["a"], TypeError, "an index is a whole number, not 'a'"),
     (lambda it: it.Grid[2**31], IndexError, "2147483648 is no index: an index has 32 bits"),
@@ -48,7 +66,11 @@ UNSENT = [
 ]
 # the descriptions of an interface with one property, and of its coclass
 SMALL = [
-    struct.pack("<II", 4, 1) + LIBRARY.interfaces[0].guid.bytes_le + oaut.string_field("DItem") + struct.pack("<iHHHHI", 1, 0, 0, 3, 0, 0) + oaut.string_field("Count"),
+    struct.pack("<II", 4, 1)
+    + LIBRARY.interfaces[0].guid.bytes_le
+    + oaut.string_field("DItem")
+    + struct.pack("<iHHHHI", 1, 0, 0, 3, 0, 0)
+    + oaut.string_field("Count"),
     struct.pack("<II", 5, 1) + LIBRARY.coclasses[0].guid.bytes_le + oaut.string_field("Item") + struct.pack("<II", 1, 0),
 ]
 
@@ -57,7 +79,9 @@ class Faults(ClientCases):
     def test_refusals_name_what_was_asked(self):
         for act, code, index, says in TOLD:
             self.raises(says, oaut.CODES[code], lambda: act(item_of(scripted(answer(code=code, index=oaut.NO_INDEX if index is None else index)))), says)
-        refusal = self.raises("a create", oaut.ClassNotRegistered, lambda: scripted(answer(code=0x8004_0154)).create("Item"), "create Item: REGDB_E_CLASSNOTREG (0x80040154)")
+        refusal = self.raises(
+            "a create", oaut.ClassNotRegistered, lambda: scripted(answer(code=0x8004_0154)).create("Item"), "create Item: REGDB_E_CLASSNOTREG (0x80040154)"
+        )
         self.same("its act", (refusal.act, refusal.hint), ("create Item", ""))
 
     def test_in_a_batch(self):
@@ -129,11 +153,7 @@ class Replacing(ClientCases):
     def test_what_is_not_kept(self):
         face, class_ = LIBRARY.interfaces[0].guid, LIBRARY.coclasses[0].guid
         with tempfile.NamedTemporaryFile() as file:
-            for guid, dispid, lost in (
-                (face, 9, "Item.Cell of DItem, DISPID 9"),
-                (face, -1, "the interface DItem"),
-                (class_, -1, "the coclass Item"),
-            ):
+            for guid, dispid, lost in ((face, 9, "Item.Cell of DItem, DISPID 9"), (face, -1, "the interface DItem"), (class_, -1, "the coclass Item")):
                 server = scripted(answer(guid.bytes_le.hex() + struct.pack("<iI", dispid, 0).hex(), code=0x8007_0057))
                 says = f"replace the library by {file.name}: E_INVALIDARG (0x80070057): the new library does not keep {lost}"
                 self.raises(lost, oaut.NotKept, lambda: server.replace_library(file.name), says, guid=guid, dispid=None if dispid == -1 else dispid, lost=lost)

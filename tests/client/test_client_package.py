@@ -65,7 +65,12 @@ class Package(ClientCases):
         self.same("names of __all__ that are none", [it for it in oaut.__all__ if not hasattr(oaut, it)], [])
         self.same("names of the codec stand in the submodules", [it for it in ("ask_create", "Raw", "read_reply", "INVOKE") if it in oaut.__all__], [])
         self.tell("what users need is few", len(oaut.__all__) <= 90, len(oaut.__all__))
-        long = [f"{path}:{at}" for path in glob.glob(f"{PACKAGE}/**/*.py", recursive=True) for at, line in enumerate(open(path, encoding="utf-8"), 1) if len(line) > 101]
+        long = [
+            f"{path}:{at}"
+            for path in glob.glob(f"{PACKAGE}/**/*.py", recursive=True)
+            for at, line in enumerate(open(path, encoding="utf-8"), 1)
+            if len(line) > 101
+        ]
         self.same("lines of more than 100 columns", long, [])
         self.tell("the package has a type of its own for checkers", os.path.exists(f"{os.path.dirname(oaut.__file__)}/py.typed"))
 
@@ -80,7 +85,9 @@ class Package(ClientCases):
             venv.create(f"{room}/venv", with_pip=True)
             python = f"{room}/venv/bin/python"
             shutil.copytree(PACKAGE, f"{room}/source", ignore=shutil.ignore_patterns("__pycache__"))
-            done = subprocess.run([python, "-m", "pip", "install", "--quiet", "--no-index", "--disable-pip-version-check", f"{room}/source"], capture_output=True, text=True)
+            done = subprocess.run(
+                [python, "-m", "pip", "install", "--quiet", "--no-index", "--disable-pip-version-check", f"{room}/source"], capture_output=True, text=True
+            )
             self.same("it is installed", (done.returncode, done.stderr), (0, ""))
             words = ["-c", "import oaut; print(oaut.__version__, oaut.I4(7), oaut.__file__)"]
             done = subprocess.run([python, *words], cwd=room, env={"PATH": ""}, capture_output=True, text=True)
@@ -139,7 +146,9 @@ class Stubs(ClientCases):
         compile(text, "full.pyi", "exec")
         own = oaut.Library(
             [
-                oaut.Interface(LIBRARY.interfaces[0].guid, "DItem", [oaut.Form(it, 0, 0, 3, name, []) for it, name in enumerate(("class", "number", "None", "Release"))]),
+                oaut.Interface(
+                    LIBRARY.interfaces[0].guid, "DItem", [oaut.Form(it, 0, 0, 3, name, []) for it, name in enumerate(("class", "number", "None", "Release"))]
+                ),
                 oaut.Coclass(LIBRARY.coclasses[0].guid, "Item", [(1, 0)]),
             ]
         )

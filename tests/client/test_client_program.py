@@ -25,7 +25,10 @@ TYPES = {
     "SCODE": (Error(0), [Error(0x8000_4005)]),
     "DECIMAL": (Decimal(0), [Decimal("-2.50"), Decimal(2**96 - 1), Decimal("1E-28")]),
     "BSTR": (None, ["Hi", "", "\U0001f600", "a\0b", b"abc", "a" * 131_072, None]),
-    "VARIANT": (EMPTY, [None, "x", b"y", True, I1(-1), UI8(2**64 - 1), INT(5), Currency(1), Decimal("0.10"), Error(5), NULL_BSTR, Array(I2, [(1, 5)], [7]), EMPTY]),
+    "VARIANT": (
+        EMPTY,
+        [None, "x", b"y", True, I1(-1), UI8(2**64 - 1), INT(5), Currency(1), Decimal("0.10"), Error(5), NULL_BSTR, Array(I2, [(1, 5)], [7]), EMPTY],
+    ),
 }
 CELLS = [
     ("Chars", I1, [-128, 127, 0, -1]),
@@ -73,7 +76,9 @@ class Program(ClientCases):
                 setattr(item, name, array)
                 self.same(f"an array of {of.__name__}", getattr(item, name).value, array)
                 setattr(item, name, [cells[:2], cells[2:]])
-                self.same(f"lists as an array of {of.__name__}", [getattr(item, name).bounds, list(getattr(item, name))], [[(2, 0), (2, 0)], [cells[:2], cells[2:]]])
+                self.same(
+                    f"lists as an array of {of.__name__}", [getattr(item, name).bounds, list(getattr(item, name))], [[(2, 0), (2, 0)], [cells[:2], cells[2:]]]
+                )
                 item.Any = array
                 self.same(f"an array of {of.__name__} in a VARIANT", item.Any, array)
             item.Any = [1, "x"]
@@ -81,13 +86,19 @@ class Program(ClientCases):
             item.Longs = item.Longs
             item.Longs = range(65_536)
             self.same("65,536 cells", item.Longs.value.cells, list(range(65_536)))
-            self.raises("an array of another type", oaut.TypeMismatch, lambda: setattr(item, "Grid", Array(I4, [(1, 0)], [1])), index=0, argument="the new value")
+            self.raises(
+                "an array of another type", oaut.TypeMismatch, lambda: setattr(item, "Grid", Array(I4, [(1, 0)], [1])), index=0, argument="the new value"
+            )
             self.raises("no array", oaut.TypeMismatch, lambda: setattr(item, "Grid", 7), index=0)
 
     def test_objects_and_refusals(self):
         with play(FULL) as server:
             item = server.create("Item")
-            self.same("an object", [item.number, item.coclass, repr(item), item == server.object(1, "item"), item == server.create("Item")], [1, "Item", "<Item 1>", True, False])
+            self.same(
+                "an object",
+                [item.number, item.coclass, repr(item), item == server.object(1, "item"), item == server.create("Item")],
+                [1, "Item", "<Item 1>", True, False],
+            )
             item.Count = 7
             self.same("a property in any case", [item.count, item.COUNT], [I4(7), I4(7)])
             self.same("DISPIDs", item.dispids("cELL", "KEY", "page"), [9, 1, 2])
@@ -147,7 +158,11 @@ class Program(ClientCases):
                     bad = server.ask(oaut.ask_invoke(item.number, 99, 2, (), ()), oaut.read_value)
                 self.tell("a batch with refusals", False, "no exception")
             except oaut.TypeMismatch:
-                self.same("a batch with refusals", [(place, type(it)) for place, it in batch.failures], [(1, oaut.TypeMismatch), (3, oaut.TypeMismatch), (4, oaut.TypeMismatch), (5, oaut.MemberNotFound)])
+                self.same(
+                    "a batch with refusals",
+                    [(place, type(it)) for place, it in batch.failures],
+                    [(1, oaut.TypeMismatch), (3, oaut.TypeMismatch), (4, oaut.TypeMismatch), (5, oaut.MemberNotFound)],
+                )
                 self.raises("a refused get of a batch", oaut.MemberNotFound, lambda: bad.value)
             self.same("the others of the batch", [item.Count, item.Name], [I4(1), "y"])
             try:
@@ -219,7 +234,11 @@ class Program(ClientCases):
                 item = server.create("Item")
                 item.Count = 3
                 item.interface("pART40").Count = 40
-                self.same("a property of each interface", [it.Count for it in (item, item.interface("Part3"), item.interface("Part40"), item.interface("Part1"))], [3, 3, 40, 0])
+                self.same(
+                    "a property of each interface",
+                    [it.Count for it in (item, item.interface("Part3"), item.interface("Part40"), item.interface("Part1"))],
+                    [3, 3, 40, 0],
+                )
                 self.raises("no such interface", LookupError, lambda: item.interface("Part41"))
 
     def test_objects_run_out(self):

@@ -33,7 +33,9 @@ class Records(ClientCases):
             self.raises(f"{of.name} by its exception", of, lambda: item_of(scripted(answer(code=code, index=1))).Count, code=code, index=1)
             self.raises(f"{of.name} without an index", of, lambda: item_of(scripted(answer(code=code))).Count, code=code, index=None, argument=None)
         self.raises("a code without a name", oaut.Refused, lambda: item_of(scripted(answer(code=0x8123_4567))).Count, code=0x8123_4567)
-        self.raises("which argument is at fault", oaut.TypeMismatch, lambda: item_of(scripted(answer(code=0x8002_0005, index=1))).Cell(5, Key="k"), argument="Row")
+        self.raises(
+            "which argument is at fault", oaut.TypeMismatch, lambda: item_of(scripted(answer(code=0x8002_0005, index=1))).Cell(5, Key="k"), argument="Row"
+        )
         self.tell("a mismatch is a TypeError", issubclass(oaut.TypeMismatch, TypeError) and issubclass(oaut.BadIndex, IndexError))
 
     def test_streams_that_are_none(self):
@@ -84,7 +86,9 @@ class Records(ClientCases):
             self.same(f"a get behind ended groups of {group}", [later.value, item_of(server).Any], [I4(7), I4(7)])
             server.close()
             tagged = [struct.pack("<I", tag) + body for tag, body in ((1, PUT), (2, PUT), (3, GET), (4, GET))]
-            self.same(f"what is sent in groups of {group}", server._connection.writer.content, oaut.Raw.pack([tagged[0], END, *tagged[1:3], END, tagged[3], END]))
+            self.same(
+                f"what is sent in groups of {group}", server._connection.writer.content, oaut.Raw.pack([tagged[0], END, *tagged[1:3], END, tagged[3], END])
+            )
         alone = scripted(DONE, framing="raw", group=1)
         item_of(alone).Count = 7
         self.same("groups of one are not ended", alone._connection.writer.getvalue(), oaut.Raw.pack([b"\1\0\0\0" + PUT]))
@@ -93,7 +97,11 @@ class Records(ClientCases):
         self.same("names fold A to Z alone", [oaut.fold(it) for it in ("aZ_9", "\u0131\u00df\u00e9a")], ["AZ_9", "\u0131\u00df\u00e9A"])
         members = LIBRARY.members(LIBRARY.interfaces[0])
         self.same("members", list(members), "COUNT NAME PRICE EXACT FLAG VERSION ANY GRID CELL CLEAR".split())
-        self.same("a property of two forms", [(it.name, it.vt, it.default) for it in members["CELL"].parameters], [("Row", 3, None), ("Key", 8, None), ("Page", 2, I2(1))])
+        self.same(
+            "a property of two forms",
+            [(it.name, it.vt, it.default) for it in members["CELL"].parameters],
+            [("Row", 3, None), ("Key", 8, None), ("Page", 2, I2(1))],
+        )
         self.same("what can be put", [name for name, it in members.items() if it.can_put], "COUNT NAME PRICE EXACT FLAG ANY GRID CELL".split())
         self.raises("no such coclass", LookupError, lambda: LIBRARY.coclass("None"))
         self.raises("no such member", AttributeError, lambda: item_of(scripted()).Cuont)

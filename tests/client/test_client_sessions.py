@@ -33,7 +33,7 @@ with oaut.play(sys.argv[1], program=sys.argv[2]) as server:
     time.sleep(0.2)
     print(item.Count)
 """
-NO_LIBRARY = '[uuid(11223344-5566-7788-99AA-BBCCDDEEFF01)]\r\nlibrary Demo {\t/* \u00e9\x01 */ ] }'
+NO_LIBRARY = "[uuid(11223344-5566-7788-99AA-BBCCDDEEFF01)]\r\nlibrary Demo {\t/* \u00e9\x01 */ ] }"
 
 
 class Interrupted(Exception):
@@ -248,7 +248,13 @@ class Dialled(ClientCases):
                 server._connection.drop()
                 os.kill(fourth.pid, signal.SIGSTOP)
                 threading.Timer(0.2, fourth.kill).start()
-                self.raises("nothing is behind a request that was sent and not answered", oaut.Stopped, lambda: setattr(item, "Count", 9), "the server has ended; what was asked is done or not, wholly", may_stand=True)
+                self.raises(
+                    "nothing is behind a request that was sent and not answered",
+                    oaut.Stopped,
+                    lambda: setattr(item, "Count", 9),
+                    "the server has ended; what was asked is done or not, wholly",
+                    may_stand=True,
+                )
                 self.same("no connection is made for it", len(seen), 4)
                 server.close()
 
@@ -420,7 +426,11 @@ class Opening(ClientCases):
             for library, count in ((SMALL, 0), (SMALL, 1), (FULL, 2), (FULL, 3), (None, 4)):
                 with open_(path, library) as server:
                     items = server.objects()
-                    self.same(f"opened for the {count + 1}th time", (len(items), items[-1:] and items[-1].Count), (count, [I4(count)][:count] and I4(count)) if count else (0, []))
+                    self.same(
+                        f"opened for the {count + 1}th time",
+                        (len(items), items[-1:] and items[-1].Count),
+                        (count, [I4(count)][:count] and I4(count)) if count else (0, []),
+                    )
                     server.create("Item").Count = count + 1
             self.same("members of the new library", "Cell" in dir(items[0]), True)
             lost = self.raises("a library that loses something", oaut.NotKept, lambda: open_(path, SMALL), lost="Item.Name of DItem, DISPID 2", dispid=2)
@@ -504,5 +514,7 @@ class Opening(ClientCases):
                 self.same("the session goes on", server.objects(), [])
             self.same("no store is left", os.listdir(room), ["wrong.idl"])
             with open(wrong, "w") as file:
-                file.write("[uuid(11223344-5566-7788-99AA-BBCCDDEEFF01)] library Demo { [uuid(11223344-5566-7788-99AA-BBCCDDEEFF01)] dispinterface D { properties: } }")
+                file.write(
+                    "[uuid(11223344-5566-7788-99AA-BBCCDDEEFF01)] library Demo { [uuid(11223344-5566-7788-99AA-BBCCDDEEFF01)] dispinterface D { properties: } }"
+                )
             self.raises("a fault without a place", oaut.faults.LibraryRefused, lambda: play(wrong), line=None, column=None)

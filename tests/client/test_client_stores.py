@@ -21,7 +21,14 @@ class Stores(ClientCases):
             STORE = f"{room}/it.store"
             serve = lambda **how: oaut.serve(STORE, FULL, program=PROGRAM, **how)
             self.raises("a store that is not there", oaut.Stopped, serve, status=1, fault=f"oaut: cannot read {STORE}", cause="No such file or directory")
-            self.raises("no store for a library that is not there", oaut.Stopped, lambda: oaut.make_store(STORE, "/none.idl", program=PROGRAM), status=1, fault="oaut: cannot read /none.idl", cause="No such file or directory")
+            self.raises(
+                "no store for a library that is not there",
+                oaut.Stopped,
+                lambda: oaut.make_store(STORE, "/none.idl", program=PROGRAM),
+                status=1,
+                fault="oaut: cannot read /none.idl",
+                cause="No such file or directory",
+            )
             oaut.make_store(STORE, FULL, program=PROGRAM)
             with serve() as server:
                 self.same("a new store has no objects", server.objects(), [])
@@ -31,13 +38,19 @@ class Stores(ClientCases):
                 item.Cell[5, "k"] = "x"
                 item.Grid.lock()
                 self.raises("a put that is refused", oaut.Overflow, lambda: setattr(item, "Count", 2**31))
-            taken = [it for it in (1, 3, 64, 1_024) if subprocess.run([PROGRAM, "serve", "none", "none", "--group", str(it)], capture_output=True).returncode != 2]
+            taken = [
+                it for it in (1, 3, 64, 1_024) if subprocess.run([PROGRAM, "serve", "none", "none", "--group", str(it)], capture_output=True).returncode != 2
+            ]
             for group in (None, *taken):
                 for framing in ("raw", "lines"):
                     with serve(group=group, framing=framing) as server:
                         (item,) = server.objects()
                         item.Grid.redim(2, -1)  # no lock outlives its session
-                        self.same(f"what a store keeps, groups of {group}, {framing}", [item.number, item.Count, item.Cell[5, "k"], item.Grid.value], [1, I4(7), "x", Array(I2, [(2, -1), (3, 5)], range(1, 7))])
+                        self.same(
+                            f"what a store keeps, groups of {group}, {framing}",
+                            [item.number, item.Count, item.Cell[5, "k"], item.Grid.value],
+                            [1, I4(7), "x", Array(I2, [(2, -1), (3, 5)], range(1, 7))],
+                        )
                         with server.batch(50) as batch:
                             for number in range(130):
                                 item.Count = number
@@ -72,7 +85,9 @@ class Stores(ClientCases):
                         if draw.random() < 0.5:
                             item.Count = last = turn
                             wrong += item.Count != last
-                    self.raises(f"a put that is refused, groups of {group}", oaut.Overflow, lambda: setattr(item, "Count", 2**31), index=0, argument="the new value")
+                    self.raises(
+                        f"a put that is refused, groups of {group}", oaut.Overflow, lambda: setattr(item, "Count", 2**31), index=0, argument="the new value"
+                    )
                     with server.batch() as batch:
                         item.Count = last = group
                     self.same(f"batches beside groups of {group}", wrong, 0)
@@ -92,7 +107,13 @@ class Stores(ClientCases):
                 self.same("what was put before a kill", server.object(1, "Item").Count, I4(8))
                 server.object(1, "Item").release()
                 self.same("a number is not used again after a stop", server.create("Item").number, 2)
-            self.raises("another library", oaut.LibraryDiffers, lambda: oaut.serve(STORE, f"{ROOT}/examples/small.idl", program=PROGRAM), status=3, fault="oaut: library differs")
+            self.raises(
+                "another library",
+                oaut.LibraryDiffers,
+                lambda: oaut.serve(STORE, f"{ROOT}/examples/small.idl", program=PROGRAM),
+                status=3,
+                fault="oaut: library differs",
+            )
             with open(STORE, "r+b") as file:
                 # the bank in use: the texts above have filled one, and perhaps several
                 file.seek(4_096)
@@ -136,27 +157,31 @@ class Stores(ClientCases):
     @unittest.skipIf(STRACE is None, "strace is not there")
     def test_a_device_that_fails(self):
         with tempfile.TemporaryDirectory() as room:
-                store = f"{room}/it.store"
-                for group in (1, 3):
-                    # an opening syncs once, the groups of a create and of a put twice each: the sixth sync is that of the second put's frame
-                    with wrapped("exec " + STRACE + " -f -qq -o /dev/null -e trace=fdatasync -e inject=fdatasync:error=EIO:when=6 {program}") as program:
-                        oaut.make_store(store, FULL, program=PROGRAM, replace=True)
-                        if subprocess.run([PROGRAM, "serve", "none", "none", "--group", str(group)], capture_output=True).returncode == 2:
-                            continue
-                        with oaut.serve(store, FULL, group=group, program=program) as server:
-                            item = server.create("Item")
-                            item.Count = 7
-                            self.raises(f"a device that fails, groups of {group}", oaut.WriteFault, lambda: setattr(item, "Count", 8))
-                            self.raises(f"a read behind it, groups of {group}", oaut.Failed, lambda: item.Count)
-                            try:
-                                with server.batch() as batch:
-                                    item.Count = 9
-                                    later = item.Count
-                                self.tell("a batch behind a device that fails", False, "no exception")
-                            except oaut.Failed:
-                                self.same(f"a batch behind it, groups of {group}", [(place, type(it)) for place, it in batch.failures], [(0, oaut.Failed), (1, oaut.Failed)])
-                        with oaut.serve(store, FULL, program=PROGRAM) as server:
-                            self.tell(f"what the store holds then, groups of {group}", server.object(1, "Item").Count in (7, 8))
+            store = f"{room}/it.store"
+            for group in (1, 3):
+                # an opening syncs once, the groups of a create and of a put twice each: the sixth sync is that of the second put's frame
+                with wrapped("exec " + STRACE + " -f -qq -o /dev/null -e trace=fdatasync -e inject=fdatasync:error=EIO:when=6 {program}") as program:
+                    oaut.make_store(store, FULL, program=PROGRAM, replace=True)
+                    if subprocess.run([PROGRAM, "serve", "none", "none", "--group", str(group)], capture_output=True).returncode == 2:
+                        continue
+                    with oaut.serve(store, FULL, group=group, program=program) as server:
+                        item = server.create("Item")
+                        item.Count = 7
+                        self.raises(f"a device that fails, groups of {group}", oaut.WriteFault, lambda: setattr(item, "Count", 8))
+                        self.raises(f"a read behind it, groups of {group}", oaut.Failed, lambda: item.Count)
+                        try:
+                            with server.batch() as batch:
+                                item.Count = 9
+                                later = item.Count
+                            self.tell("a batch behind a device that fails", False, "no exception")
+                        except oaut.Failed:
+                            self.same(
+                                f"a batch behind it, groups of {group}",
+                                [(place, type(it)) for place, it in batch.failures],
+                                [(0, oaut.Failed), (1, oaut.Failed)],
+                            )
+                    with oaut.serve(store, FULL, program=PROGRAM) as server:
+                        self.tell(f"what the store holds then, groups of {group}", server.object(1, "Item").Count in (7, 8))
 
 
 def knows(word):

@@ -124,7 +124,7 @@ class Talking(ClientCases):
         self.tell("commands of the prompt", (status, out[: len(SAID)], err) == (0, SAID, ""), (status, out, err))
         self.same("more commands of the prompt", command(["talk", FULL, "--program", PROGRAM], MORE), (0, SAID_MORE, ""))
         with tempfile.NamedTemporaryFile("w") as file:
-            file.write("create Item\nput 1 Count \"x\"\nget 1 Count\n")
+            file.write('create Item\nput 1 Count "x"\nget 1 Count\n')
             file.flush()
             self.same(
                 "a file of commands that fails",
@@ -137,11 +137,19 @@ class Talking(ClientCases):
                 self.same("a prompt over a store", command(["talk", FULL, "--store", f"{room}/it.store", "--program", PROGRAM], given), (0, said, ""))
         for line in ("nothing", "get 5 Count", "get 1 none", "put 1 Count", "put 1 Count )", "get 1 Cell[", "create None", "get x", "get 1"):
             status, out, err = command(["talk", FULL, "--program", PROGRAM], f"create Item\n{line}\n")
-            self.tell(f"a command that is none: {line}", (status, out) == (1, "<Item 1>\n") and err.startswith("line 2: ") and "Traceback" not in err, (status, out, err))
+            self.tell(
+                f"a command that is none: {line}",
+                (status, out) == (1, "<Item 1>\n") and err.startswith("line 2: ") and "Traceback" not in err,
+                (status, out, err),
+            )
 
     def test_a_prompt_on_a_terminal(self):
         status, said = typed_at_a_prompt("cre\t it\t\n", "put 1 Cou\t 7\n", "get 1 cOUN\t\n", "nothing\n", UP + UP + "\n", END)
-        self.tell("a prompt on a terminal completes names, has a history, and goes on behind a fault", status == 0 and said.count("I4(7)") == 2 and "no command nothing" in said and "<Item 1>" in said, (status, said))
+        self.tell(
+            "a prompt on a terminal completes names, has a history, and goes on behind a fault",
+            status == 0 and said.count("I4(7)") == 2 and "no command nothing" in said and "<Item 1>" in said,
+            (status, said),
+        )
 
     def test_records_in_words(self):
         status, out, err = command(["talk", FULL, "--program", PROGRAM, "-v"], "create Item\nget 1 Count\n")
@@ -157,7 +165,9 @@ class Talking(ClientCases):
         for name, _, sent, reply, _ in ASKED:
             told = list(oaut.decode([b"\1\0\0\0" + hexed(sent), b"\1\0\0\0" + reply]))
             self.tell(f"{name} in words", len(told) == 2 and not any("no record" in it for it in told), told)
-        self.same("an element in words", list(oaut.decode([b"\1\0\0\0" + hexed(ASKED[11][2])])), ["request 1: PUTELEM object 1 dispid 8, element [-1, 5] = I4(40000)"])
+        self.same(
+            "an element in words", list(oaut.decode([b"\1\0\0\0" + hexed(ASKED[11][2])])), ["request 1: PUTELEM object 1 dispid 8, element [-1, 5] = I4(40000)"]
+        )
 
 
 class Examples(ClientCases):
@@ -173,6 +183,20 @@ class Examples(ClientCases):
             for received, sent, totals in ((5, 7, (5, 7)), (9, 8, (9, 8)), (2, 1, (11, 9))):
                 with open(f"{room}/counters", "w") as file:
                     file.write(f"two\nlines\n  eth0: {received} 0 0 0 0 0 0 0 {sent} 0 0 0 0 0 0 0\n")
-                example = [sys.executable, f"{ROOT}/examples/counters.py", "--program", PROGRAM, "--store", f"{room}/it.store", "--rounds", "1", f"{room}/counters"]
+                example = [
+                    sys.executable,
+                    f"{ROOT}/examples/counters.py",
+                    "--program",
+                    PROGRAM,
+                    "--store",
+                    f"{room}/it.store",
+                    "--rounds",
+                    "1",
+                    f"{room}/counters",
+                ]
                 done = subprocess.run(example, env=ENVIRONMENT, capture_output=True, text=True, timeout=300)
-                self.same(f"the example over a store, {received} and {sent} counted", (done.returncode, done.stdout, done.stderr), (0, "eth0 received: %d\neth0 sent: %d\n" % totals, ""))
+                self.same(
+                    f"the example over a store, {received} and {sent} counted",
+                    (done.returncode, done.stdout, done.stderr),
+                    (0, "eth0 received: %d\neth0 sent: %d\n" % totals, ""),
+                )

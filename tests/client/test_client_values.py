@@ -65,7 +65,21 @@ SPOILED = [
 ]
 READ_ANYHOW = [(GRID, 16, "I", 0x2002), (GRID, 34, "H", 7), (GRID, 36, "I", 7), (GRID, 40, "I", 7), (GRID, 52, "I", 0), (HI, 0, "I", 0), (HI, 20, "I", 1)]
 SHEET = Array(I2, [(2, -1), (3, 5)], range(1, 7))
-WORDS = [I4(7), True, False, None, EMPTY, NULL_BSTR, "Hi \"there\"\n", b"abc", Currency("2.5"), Decimal("-2.50"), Error(0x8002_0004), SHEET, Array(object, [(2, 0)], [None, "x"])]
+WORDS = [
+    I4(7),
+    True,
+    False,
+    None,
+    EMPTY,
+    NULL_BSTR,
+    'Hi "there"\n',
+    b"abc",
+    Currency("2.5"),
+    Decimal("-2.50"),
+    Error(0x8002_0004),
+    SHEET,
+    Array(object, [(2, 0)], [None, "x"]),
+]
 
 
 class Values(ClientCases):
@@ -86,7 +100,12 @@ class Values(ClientCases):
             self.same(f"{given!r} for a {declared.name}", oaut.read_field(oaut.spell(given, declared)), kept)
 
     def test_numbers_in_texts(self):
-        for value, told, said in ((I4(-7), "I4(-7)", "-7"), (UI8(5), "UI8(5)", "5"), (Error(0x8000_4005), "Error(0x80004005)", "2147500037"), (Currency("2.5"), "Currency('2.5000')", "2.5000")):
+        for value, told, said in (
+            (I4(-7), "I4(-7)", "-7"),
+            (UI8(5), "UI8(5)", "5"),
+            (Error(0x8000_4005), "Error(0x80004005)", "2147500037"),
+            (Currency("2.5"), "Currency('2.5000')", "2.5000"),
+        ):
             self.same(f"{told} in texts", (repr(value), str(value), f"{value}"), (told, said, said))
 
     def test_floating_point_numbers(self):
@@ -96,7 +115,13 @@ class Values(ClientCases):
         numbers += [draw.choice((-1, 1)) * (1 + draw.random()) * 10.0 ** draw.randrange(-12, 28) for _ in range(2_000)]
         wrong = [it for it in numbers if bits(float(oaut.read_field(oaut.spell(oaut.real(it))))) != bits(it)]
         self.same("numbers that come back as others", wrong, [])
-        for name, number, kind in (("NaN", float("nan"), ValueError), ("an infinity", float("inf"), ValueError), ("too large", 2.0**96, OverflowError), ("too small", 1.5e-28, ValueError), ("no float", 5, TypeError)):
+        for name, number, kind in (
+            ("NaN", float("nan"), ValueError),
+            ("an infinity", float("inf"), ValueError),
+            ("too large", 2.0**96, OverflowError),
+            ("too small", 1.5e-28, ValueError),
+            ("no float", 5, TypeError),
+        ):
             self.raises(name, kind, lambda: oaut.real(number))
 
     def test_what_a_notebook_shows(self):

@@ -38,7 +38,7 @@ SOURCES = {
             "I",
             2,
             "[id(1), propget] HRESULT Count([out, retval] long *value); [id(1), propput] HRESULT Count([in] long value);"
-            "[id(2), propget, helpstring(\"a name\")] HRESULT Name([out, retval] BSTR *value);"
+            '[id(2), propget, helpstring("a name")] HRESULT Name([out, retval] BSTR *value);'
             "[id(3), propput] HRESULT Secret([in] BSTR value);"
             "[id(0x10), propget] HRESULT Cell([in] long Row, [in] BSTR value, [in, defaultvalue(1)] short Page, [out, retval] VARIANT *result);"
             "[id(0x10), propput] HRESULT Cell([in] long Row, [in] BSTR value, [in, defaultvalue(1)] short Page, [in] VARIANT result);"
@@ -96,10 +96,7 @@ SOURCES = {
             "[id(1610743812)] SCODE Result();",
             "[id(1610743814)] void Small([in] char a, [in] unsigned char b, [in] unsigned short c, [in] hyper d, [in] unsigned hyper e, [in] unsigned int f);",
         ],
-        [
-            "I.Move, DISPID 1610743811, method: record, parameter to",
-            "I.Text, DISPID 1610743813, method: text that is no BSTR, parameter it",
-        ],
+        ["I.Move, DISPID 1610743811, method: record, parameter to", "I.Text, DISPID 1610743813, method: text that is no BSTR, parameter it"],
     ),
     "one above another": (
         interface("B", 3, "[id(1), propget] HRESULT Base([out, retval] long *value);")
@@ -121,7 +118,7 @@ SOURCES = {
         interface(
             "I",
             2,
-            "[id(1)] HRESULT Texts([in, defaultvalue(\"a \\\" b\")] BSTR a, [in, defaultvalue(\"\")] BSTR b);"
+            '[id(1)] HRESULT Texts([in, defaultvalue("a \\" b")] BSTR a, [in, defaultvalue("")] BSTR b);'
             "[id(2)] HRESULT Numbers([in, defaultvalue(-1)] long a, [in, defaultvalue(0x7fff)] short b, [in, defaultvalue(1 << 4 | 3)] int c);"
             "[id(3)] HRESULT Truths([in, defaultvalue(-1)] VARIANT_BOOL a, [in, optional, defaultvalue(0)] VARIANT_BOOL b, [in, optional] VARIANT c);"
             "[id(4)] HRESULT Real([in] double a); [id(5), propput] HRESULT Put([in, defaultvalue(5)] long a);"
@@ -132,11 +129,7 @@ SOURCES = {
             "[id(2)] void Numbers([in, optional, defaultvalue(-1)] long a, [in, optional, defaultvalue(32767)] short b, [in, optional, defaultvalue(19)] int c);",
             "[id(3)] void Truths([in, optional, defaultvalue(TRUE)] VARIANT_BOOL a, [in, optional, defaultvalue(FALSE)] VARIANT_BOOL b, [in, optional] VARIANT c);",
         ],
-        [
-            "I.Real, DISPID 4, method: double, parameter a",
-            "I.Put, DISPID 5, put: default, the new value",
-            "I.Row, DISPID 6, get: array, parameter a",
-        ],
+        ["I.Real, DISPID 4, method: double, parameter a", "I.Put, DISPID 5, put: default, the new value", "I.Row, DISPID 6, get: array, parameter a"],
     ),
     "names": (
         interface(
@@ -210,15 +203,21 @@ class Text(ClientCases):
         self.same("what no array has", made.lines, ["I.Scale, DISPID 2, method: float, parameter x"])
 
     def test_words_before_the_text(self):
-        source = "#define ONE 1\n#define TWO (ONE + 1)\n#ifdef ONE\n#include \"ids.h\"\n#else\n#error none\n#endif\n#if defined(ONE) && !NONE\n#define MEMBER [id(TWO)] HRESULT A();\n#endif\n"
+        source = '#define ONE 1\n#define TWO (ONE + 1)\n#ifdef ONE\n#include "ids.h"\n#else\n#error none\n#endif\n#if defined(ONE) && !NONE\n#define MEMBER [id(TWO)] HRESULT A();\n#endif\n'
         write(f"{self.room}/ids.h", "int of_a_header(void);\n#define THREE 0x3\n")
-        made = read(self.room, library(interface("I", 2, "MEMBER [id(THREE)] HRESULT B(); [id(NONE)] HRESULT C(); typedef long X; HRESULT operator*(); cpp_quote(\"x\")"), source))
+        made = read(
+            self.room,
+            library(interface("I", 2, 'MEMBER [id(THREE)] HRESULT B(); [id(NONE)] HRESULT C(); typedef long X; HRESULT operator*(); cpp_quote("x")'), source),
+        )
         self.same("members", members_of(made.text), ["[id(2)] void A();", "[id(3)] void B();"])
         self.same("no number", made.lines, ["I.C, DISPID none, method: no DISPID"])
         self.tell("what is not read", len(made._reader.notes) == 1 and made._reader.notes[0].endswith("not read: `*` where `(` should be"), made._reader.notes)
 
     def test_limits(self):
-        many = "".join(f"[id({it}), propget] HRESULT a{it}([in] long i, [out, retval] long *x); [id({it}), propput] HRESULT a{it}([in] long i, [in] long x);" for it in range(300))
+        many = "".join(
+            f"[id({it}), propget] HRESULT a{it}([in] long i, [out, retval] long *x); [id({it}), propput] HRESULT a{it}([in] long i, [in] long x);"
+            for it in range(300)
+        )
         made = read(self.room, library(interface("I", 2, "[id(1)] HRESULT a(); [id(1)] HRESULT b();")))
         self.same("a DISPID twice", made.lines, ["I.b, DISPID 1, method: a second member of its DISPID"])
         made = read(self.room, library(interface("I", 2, "[id(1)] HRESULT a(); [id(2)] HRESULT A();") + interface("i", 3, "") + interface("J", 2, "")))
@@ -228,12 +227,25 @@ class Text(ClientCases):
         self.same("512 members of an interface", (len(members_of(made.text)), made.lines[0]), (512, "I.a256, DISPID 256, get: limit: 512 members"))
         pairs = "".join(f"[id({it}), propget] HRESULT a{it}([out, retval] long *x); [id({it}), propput] HRESULT a{it}([in] long x);" for it in range(600))
         self.same("512 properties", len(members_of(read(self.room, library(interface("I", 2, pairs))).text)), 512)
-        items = "".join(f"[dual, uuid({GUID[:-2]}{it:04x})] interface I{it:03} : IDispatch {{ [id(1)] HRESULT {'n' * 60}{it:03}(); }};" for it in range(16, 300))
+        items = "".join(
+            f"[dual, uuid({GUID[:-2]}{it:04x})] interface I{it:03} : IDispatch {{ [id(1)] HRESULT {'n' * 60}{it:03}(); }};" for it in range(16, 300)
+        )
         made = read(self.room, library(items + f"[uuid({GUID}ff)] coclass Last {{ interface I299; }};"))
         self.same("256 interfaces, of coclasses first", (len(made.interfaces), made.interfaces[-1].name), (256, "I299"))
         wide = "".join(f"[id({it})] HRESULT {'n' * 60}{it:03}({', '.join(f'[in] long a{n}' for n in range(16))});" for it in range(500))
         made = read(self.room, library("".join(interface(f"I{it}", 10 + it, wide) for it in range(4))))
-        self.same("a text of 262,144 bytes", (len(made.text) <= 262_144, made.lines), (True, ["interface I1: limit: a text of 262,144 bytes", "interface I2: limit: a text of 262,144 bytes", "interface I3: limit: a text of 262,144 bytes"][-len(made.lines) :]))
+        self.same(
+            "a text of 262,144 bytes",
+            (len(made.text) <= 262_144, made.lines),
+            (
+                True,
+                [
+                    "interface I1: limit: a text of 262,144 bytes",
+                    "interface I2: limit: a text of 262,144 bytes",
+                    "interface I3: limit: a text of 262,144 bytes",
+                ][-len(made.lines) :],
+            ),
+        )
 
     @unittest.skipUnless(os.path.exists(PROGRAM), "the program is not there")
     def test_the_program_takes_it_as_it_stands(self):
@@ -249,7 +261,11 @@ class Text(ClientCases):
         return subprocess.run([sys.executable, "-m", "oaut", "import", *words], cwd=self.room, env=ENVIRONMENT, capture_output=True, text=True, timeout=SECONDS)
 
     def test_the_command(self):
-        write(f"{self.room}/a.idl", 'import "oaidl.idl";\n' + library(SOURCES["defaults"][0].replace("[in] double", "[in, defaultvalue(0)] double") + f"[uuid({GUID}09)] coclass X {{ interface I; }};"))
+        write(
+            f"{self.room}/a.idl",
+            'import "oaidl.idl";\n'
+            + library(SOURCES["defaults"][0].replace("[in] double", "[in, defaultvalue(0)] double") + f"[uuid({GUID}09)] coclass X {{ interface I; }};"),
+        )
         done = self.run_it("a.idl", "-o", "out.idl", "--double", "DECIMAL", "--only", "x")
         self.same("its status and output", (done.returncode, done.stdout, done.stderr.splitlines()[0]), (0, "", 'import "oaidl.idl": skipped'))
         self.same("its last line", done.stderr.splitlines()[-1], "1 interfaces, 1 coclasses, 4 members kept; 2 lines of what is left out")
@@ -282,7 +298,9 @@ class Hostile(Text):
             made = list(whole)
             for _ in range(chance.choice((1, 4, 20))):
                 at = chance.randrange(len(made))
-                made[at : at + chance.randrange(3)] = chance.choice(["", "{", "}", "(", ")", "[", "]", ";", '"', "/*", "\n#if ", " 0x ", "<<", "\0", "\xff", "interface ", "typedef "])
+                made[at : at + chance.randrange(3)] = chance.choice(
+                    ["", "{", "}", "(", ")", "[", "]", ";", '"', "/*", "\n#if ", " 0x ", "<<", "\0", "\xff", "interface ", "typedef "]
+                )
             self.ends(f"spoiled, {place}", "".join(made))
 
     @unittest.mock.patch.object(midl, "TOKENS_LIMIT", 200_000)
@@ -314,7 +332,10 @@ class Hostile(Text):
         count = 20_000
         for name, items in (
             ("members", interface("I", 2, "".join(f"HRESULT a{it}();" for it in range(count)))),
-            ("interfaces", "".join(f"[uuid(11223344-5566-7788-99aa-{it + 999:012x})] interface I{it} : IDispatch {{ HRESULT f(); }};" for it in range(count // 4))),
+            (
+                "interfaces",
+                "".join(f"[uuid(11223344-5566-7788-99aa-{it + 999:012x})] interface I{it} : IDispatch {{ HRESULT f(); }};" for it in range(count // 4)),
+            ),
             ("entries", interface("I", 2, "HRESULT f();") + f"[uuid({GUID}03)] coclass C {{ {'interface I;' * count} }};"),
             ("constants", f"enum {{ {','.join(f'a{it}' for it in range(count))} }};" + interface("I", 2, f"[id(a{count - 1})] HRESULT f();")),
         ):
@@ -346,7 +367,9 @@ class Libraries(ClientCases):
         if os.path.exists(out):
             os.remove(out)
         words = ["wine", f"{self.room}/tlb2idl.exe", windows(path), "-o", windows(out), *words]
-        done = subprocess.run(words, env=self.wine.env, cwd=self.room, stdin=subprocess.DEVNULL, stdout=subprocess.DEVNULL, stderr=subprocess.PIPE, timeout=TIMEOUT)
+        done = subprocess.run(
+            words, env=self.wine.env, cwd=self.room, stdin=subprocess.DEVNULL, stdout=subprocess.DEVNULL, stderr=subprocess.PIPE, timeout=TIMEOUT
+        )
         return done.returncode, text(out) if os.path.exists(out) else "", plain(done.stderr)
 
     def compiled(self, source, *words):
@@ -403,7 +426,9 @@ class Libraries(ClientCases):
             with open(f"{self.room}/spoiled.tlb", "wb") as file:
                 file.write(content)
             status, got, report = self.run_it(f"{self.room}/spoiled.tlb")
-            well = (status == 0 and got and imported.counted(report)) or (status == 1 and not got and len(report.splitlines()) == 1 and report.startswith("tlb2idl: "))
+            well = (status == 0 and got and imported.counted(report)) or (
+                status == 1 and not got and len(report.splitlines()) == 1 and report.startswith("tlb2idl: ")
+            )
             self.tell(f"file {place}", well, (status, report[-500:]))
         status, got, report = self.run_it(f"{self.room}/none.tlb")
         self.same("no file", (status, got), (1, ""))
@@ -420,13 +445,17 @@ class UnderLinux(ClientCases):
             said = built([f"{TESTS}/build.sh", "libraries", room])
             self.tell("the build", said == (0, ""), said)
             seed = str(random.SystemRandom().randrange(1 << 31))
-            done = subprocess.run([f"{room}/libraries", room, "100", seed], env={**os.environ, "ASAN_OPTIONS": "detect_leaks=0"}, capture_output=True, text=True, timeout=TIMEOUT)
+            done = subprocess.run(
+                [f"{room}/libraries", room, "100", seed], env={**os.environ, "ASAN_OPTIONS": "detect_leaks=0"}, capture_output=True, text=True, timeout=TIMEOUT
+            )
             lines = {line.split(": ", 2)[-1] for line in done.stderr.splitlines()}
             self.tell(f"each ends, seed {seed}", done.returncode == 0 and len(lines) < 9, (done.returncode, done.stdout, done.stderr[-2000:]))
             made = glob.glob(f"{room}/*.idl") if os.path.exists(PROGRAM) else []
             for path in made:
                 told = subprocess.run([PROGRAM, "check", path], capture_output=True, text=True)
-                self.same(f"a text as it stands, seed {seed}, {os.path.basename(path)}", (told.returncode, told.stdout), (0, re.sub(r" /\* \w+ \*/", "", text(path))))
+                self.same(
+                    f"a text as it stands, seed {seed}, {os.path.basename(path)}", (told.returncode, told.stdout), (0, re.sub(r" /\* \w+ \*/", "", text(path)))
+                )
 
 
 class Source(ClientCases):
@@ -442,8 +471,21 @@ class Source(ClientCases):
     def test_limits_are_those_of_the_server(self):
         told = text(f"{ROOT}/crates/oa_model/src/limits.rt")
         limits = dict(re.findall(r"^pub const (\w+): \w+ = ([\d_]+);", told, re.MULTILINE))
-        for name, of in (("LIBRARY_BYTES", importing.TEXT), ("NAME_CHARACTERS", importing.NAME), ("INTERFACES", importing.ITEMS), ("COCLASSES", importing.ITEMS), ("MEMBERS", importing.MEMBERS), ("PARAMETERS", importing.PARAMETERS)):
+        for name, of in (
+            ("LIBRARY_BYTES", importing.TEXT),
+            ("NAME_CHARACTERS", importing.NAME),
+            ("INTERFACES", importing.ITEMS),
+            ("COCLASSES", importing.ITEMS),
+            ("MEMBERS", importing.MEMBERS),
+            ("PARAMETERS", importing.PARAMETERS),
+        ):
             self.same(f"MAX_{name}", of, int(limits[f"MAX_{name}"]))
         source = text(f"{COM}/tlb2idl.c")
-        for word, of in (("TEXT_LIMIT", importing.TEXT), ("NAME_LIMIT", importing.NAME), ("ITEM_LIMIT", importing.ITEMS), ("MEMBER_LIMIT", importing.MEMBERS), ("PARAMETER_LIMIT", importing.PARAMETERS)):
+        for word, of in (
+            ("TEXT_LIMIT", importing.TEXT),
+            ("NAME_LIMIT", importing.NAME),
+            ("ITEM_LIMIT", importing.ITEMS),
+            ("MEMBER_LIMIT", importing.MEMBERS),
+            ("PARAMETER_LIMIT", importing.PARAMETERS),
+        ):
             self.tell(f"{word} of tlb2idl.c", re.search(rf"^#define {word} {of}$", source, re.MULTILINE))

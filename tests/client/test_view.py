@@ -178,7 +178,11 @@ class Served(ClientCases):
         face, item = "ccddeeff02", "ccddeeff03"
         with tempfile.TemporaryDirectory() as room, Page(store_with(f"{room}/it.store", OBJECTS), "--write") as page:
             for name, other, lost in (
-                ("the default of a parameter", text.replace("defaultvalue(1)", "defaultvalue(2)"), ["Cell of DItem, DISPID 9 (its get)", "Cell of DItem, DISPID 9 (its put)"]),
+                (
+                    "the default of a parameter",
+                    text.replace("defaultvalue(1)", "defaultvalue(2)"),
+                    ["Cell of DItem, DISPID 9 (its get)", "Cell of DItem, DISPID 9 (its put)"],
+                ),
                 ("two members", without, ["Name of DItem, DISPID 2", "Clear of DItem, DISPID 10"]),
                 ("an interface", text.replace(face, "ccddeeff05"), ["the interface DItem", "the interfaces of the coclass Item"]),
                 ("a coclass", text.replace(item, "ccddeeff04"), ["the coclass Item"]),
@@ -225,7 +229,9 @@ class Served(ClientCases):
             ("no address", ["it.store", "--listen", "x"], "no address"),
             ("neither store nor socket", [], "name a STORE"),
         ):
-            done = subprocess.run([python_with("aiohttp"), "-m", "oaut", "view", "--program", PROGRAM, *words], env=ENVIRONMENT, capture_output=True, text=True, timeout=60)
+            done = subprocess.run(
+                [python_with("aiohttp"), "-m", "oaut", "view", "--program", PROGRAM, *words], env=ENVIRONMENT, capture_output=True, text=True, timeout=60
+            )
             self.tell(name, done.returncode == 1 and (says in done.stderr or "No such file" in done.stderr) and done.stderr.count("\n") == 1, done.stderr)
 
 
@@ -363,7 +369,9 @@ class Seen(ClientCases):
                 self.opened(page)
                 self.same("the first eight", self.look(shown), names[:8])
                 for name, wanted in ((names[-1], [*names[:8], names[-1]]), (names[0], [*names[1:8], names[-1]])):
-                    self.do("script", "const it = document.querySelector('.tools select'); it.value = arguments[0]; it.dispatchEvent(new Event('change'))", name)
+                    self.do(
+                        "script", "const it = document.querySelector('.tools select'); it.value = arguments[0]; it.dispatchEvent(new Event('change'))", name
+                    )
                     self.seen(f"{name} is shown, or is not", shown, wanted)
                 self.clean()
 
@@ -414,7 +422,10 @@ class Seen(ClientCases):
                     self.seen("charts of the gateway", "document.querySelectorAll('figure svg path').length > 3")
                     with contextlib.suppress(oaut.TypeMismatch):
                         item.Count = "x"
-                    self.seen("a chart of a refusal", "[...document.querySelectorAll('figcaption')].some(it => it.textContent.startsWith('refused DISP_E_TYPEMISMATCH'))")
+                    self.seen(
+                        "a chart of a refusal",
+                        "[...document.querySelectorAll('figcaption')].some(it => it.textContent.startsWith('refused DISP_E_TYPEMISMATCH'))",
+                    )
                     most = "it.ariaLabel.startsWith('requests a second') && Number(it.ariaLabel.split('at most ')[1]) > 0.01"
                     self.seen("a chart of requests", f"[...document.querySelectorAll('figure svg')].some(it => {most})")
                     self.press("#tab-objects")

@@ -12,7 +12,26 @@ import time
 import unittest
 
 from running import PROGRAM, ROOT, Cases, rows_of, short
-from under_wine import COM, HUB, ITEM, TESTS, TIMEOUT, TYPES, UnderWine, all_planted, built, hub_of, is_placed, left_out, needs_wine, oaut, plain, text, windows, write
+from under_wine import (
+    COM,
+    HUB,
+    ITEM,
+    TESTS,
+    TIMEOUT,
+    TYPES,
+    UnderWine,
+    all_planted,
+    built,
+    hub_of,
+    is_placed,
+    left_out,
+    needs_wine,
+    oaut,
+    plain,
+    text,
+    windows,
+    write,
+)
 
 SPOILED_SECONDS = 5
 
@@ -118,7 +137,9 @@ OF_VALUES = ("DISP_E_TYPEMISMATCH", "DISP_E_OVERFLOW", "DISP_E_BADVARTYPE")
 def refusals():
     """The rows of the table of docs/com.md: what Err.Number is, the code's name, the code, what Err.Description says of it."""
     made = []
-    for number, name, code, words in re.findall(r"^\| (&H[0-9A-F]{8}|\d+) \| ([A-Z_]+) \| ([0-9A-F]{8}) \| (.*) \|$", text(f"{ROOT}/docs/com.md"), re.MULTILINE):
+    for number, name, code, words in re.findall(
+        r"^\| (&H[0-9A-F]{8}|\d+) \| ([A-Z_]+) \| ([0-9A-F]{8}) \| (.*) \|$", text(f"{ROOT}/docs/com.md"), re.MULTILINE
+    ):
         shown = int(number[2:], 16) - (1 << 32) if number.startswith("&H") else int(number)
         made.append((shown, name, int(code, 16), words.replace("**", "")))
     return made
@@ -341,7 +362,18 @@ class Registration(UnderWine):
         self.are_there("nothing stays", keys, False)
 
     def test_words(self):
-        for words in ("Demo", "Demo@127.0.0.1", "Demo@:8765", "@127.0.0.1:8765", "De mo@127.0.0.1:8765", "..\\x@127.0.0.1:8765", "1Demo@127.0.0.1:8765", f"{'a' * 40}@127.0.0.1:8765", "Demo@127.0.0.1:", f"Demo@{'h' * 300}:8765"):
+        for words in (
+            "Demo",
+            "Demo@127.0.0.1",
+            "Demo@:8765",
+            "@127.0.0.1:8765",
+            "De mo@127.0.0.1:8765",
+            "..\\x@127.0.0.1:8765",
+            "1Demo@127.0.0.1:8765",
+            f"{'a' * 40}@127.0.0.1:8765",
+            "Demo@127.0.0.1:",
+            f"Demo@{'h' * 300}:8765",
+        ):
             self.tell(f"/i:{short(words)}", self.wine.run("regsvr32", "/s", "/n", f"/i:{words}", self.bridge.dll)[0] != 0)
 
     def test_the_example(self):
@@ -361,10 +393,16 @@ class Registration(UnderWine):
         for marks, wanted in (("4", "Sheet 1: 9 marks, 2.25\n"), ("3", f"{refused}Sheet 1: 9 marks, 2.9997\n")):
             output = self.wine.run("cscript", "//nologo", "prices.vbs", "tea", marks, "1")[1]
             self.tell(f"prices.vbs, {marks} marks cost 1", output == wanted, output)
-        entered = [self.wine.run("reg", "query", f"HKCR\\CLSID\\{{{it}}}", "/s")[1] for it in ("8d1e5f60-3c42-4b77-9a51-6272a3d0c103", hub_of("8d1e5f60-3c42-4b77-9a51-6272a3d0c102"))]
+        entered = [
+            self.wine.run("reg", "query", f"HKCR\\CLSID\\{{{it}}}", "/s")[1]
+            for it in ("8d1e5f60-3c42-4b77-9a51-6272a3d0c103", hub_of("8d1e5f60-3c42-4b77-9a51-6272a3d0c102"))
+        ]
         self.bridge.register("Desk", "/u")
         self.bridge.register("Desk")
-        by_regsvr32 = [self.wine.run("reg", "query", f"HKCR\\CLSID\\{{{it}}}", "/s")[1] for it in ("8d1e5f60-3c42-4b77-9a51-6272a3d0c103", hub_of("8d1e5f60-3c42-4b77-9a51-6272a3d0c102"))]
+        by_regsvr32 = [
+            self.wine.run("reg", "query", f"HKCR\\CLSID\\{{{it}}}", "/s")[1]
+            for it in ("8d1e5f60-3c42-4b77-9a51-6272a3d0c103", hub_of("8d1e5f60-3c42-4b77-9a51-6272a3d0c102"))
+        ]
         self.tell("the file enters what regsvr32 does", all(entered) and entered == by_regsvr32, (entered, by_regsvr32))
         self.bridge.register("Desk", "/u")
 
@@ -372,10 +410,21 @@ class Registration(UnderWine):
 # --- faults that are planted, and what finds them
 
 FAULTS = {
-    "scale and sign of a DECIMAL are exchanged": ("wire.c", [("&number->scale, 1);\n    write_bytes(to, &number->sign, 1);", "&number->sign, 1);\n    write_bytes(to, &number->scale, 1);"), ("&number->scale, 1);\n    read_bytes(from, &number->sign, 1);", "&number->sign, 1);\n    read_bytes(from, &number->scale, 1);")], "client"),
+    "scale and sign of a DECIMAL are exchanged": (
+        "wire.c",
+        [
+            ("&number->scale, 1);\n    write_bytes(to, &number->sign, 1);", "&number->sign, 1);\n    write_bytes(to, &number->scale, 1);"),
+            ("&number->scale, 1);\n    read_bytes(from, &number->sign, 1);", "&number->sign, 1);\n    read_bytes(from, &number->scale, 1);"),
+        ],
+        "client",
+    ),
     "the bounds of an array that was read are not turned": ("wire.c", [("bounds[dimensions - 1 - i]", "bounds[i]")], "client"),
     "VT_BYREF is not followed": ("values.c", [("if (!(V_VT(value) & VT_BYREF))", "if (1)")], "client"),
-    "the argument at fault is not told": ("objects.c", [("    if (FAILED(code) && argument && call.argument < call.given->cArgs)\n", "    if (0)\n")], "client"),
+    "the argument at fault is not told": (
+        "objects.c",
+        [("    if (FAILED(code) && argument && call.argument < call.given->cArgs)\n", "    if (0)\n")],
+        "client",
+    ),
     "a put that was lost is sent again": ("connection.c", [("result == OAUT_E_LOST && way == AGAIN &&", "result == OAUT_E_LOST &&")], "lost"),
     "half of the types is another server's": ("library.c", [("index ? HERE : AGAIN", "AGAIN")], "types"),
     "the second interface's calls are the first one's": ("objects.c", [("    face->target.iid = *iid;\n", "    face->target.iid = GUID_NULL;\n")], "plain"),

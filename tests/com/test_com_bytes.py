@@ -44,7 +44,9 @@ class UnderLinux(Cases):
         self.tell("the build", said == (0, ""), said)
         rows = [row.split() for row in rows_of("variants.txt")]
         rows += [[row.split(" | ")[1].replace(" ", "")] * 2 for row in rows_of("values.txt")]
-        done = subprocess.run([f"{room}/fields"], input="".join(f"{field}\n" for field, _ in rows).encode(), stdout=subprocess.PIPE, stderr=subprocess.PIPE, timeout=TIMEOUT)
+        done = subprocess.run(
+            [f"{room}/fields"], input="".join(f"{field}\n" for field, _ in rows).encode(), stdout=subprocess.PIPE, stderr=subprocess.PIPE, timeout=TIMEOUT
+        )
         got = done.stdout.decode().split()
         self.tell("fields and values", (done.returncode, got) == (0, [wanted for _, wanted in rows]), plain(done.stderr)[:2000])
 
@@ -78,10 +80,42 @@ def bits_of(vt, number):
 def floating_numbers():
     """Ends of ranges, ties, powers of two, which have a nearer neighbour below, and numbers drawn at several sizes."""
     dice = random.Random(20261128)
-    told = [0.0, -0.0, 0.1, 2.5, 1 / 3, 0.1 + 0.2, 1e16, 1e22, 1e28, 8e28, 5e-28, 4.9e-28, 1e-29, 5e-324, 1e300, math.inf, math.nan, 922337203685477.4, 922337203685478.5, 866242666060511.75]
-    told += [sign * (2.0**power + more) for power in (31, 63, 64, 96) for more in (-1, 0, 1) for sign in (1, -1)] + [2.0**-power for power in range(1, 96, 5)] + [2.0**96 - 2.0**43, 4503599627370495.5]
-    told += [dice.randrange(-(10**9), 10**9) / 10 ** dice.randrange(9) for _ in range(150)] + [dice.uniform(-1, 1) * 10.0 ** dice.randrange(-30, 30) for _ in range(150)]
-    return [(DOUBLE, bits_of(DOUBLE, it)) for it in told] + [(DOUBLE, dice.getrandbits(64)) for _ in range(60)] + [(SINGLE, bits_of(SINGLE, dice.randrange(-(10**6), 10**6) / 10 ** dice.randrange(6))) for _ in range(100)] + [(SINGLE, dice.getrandbits(32)) for _ in range(60)]
+    told = [
+        0.0,
+        -0.0,
+        0.1,
+        2.5,
+        1 / 3,
+        0.1 + 0.2,
+        1e16,
+        1e22,
+        1e28,
+        8e28,
+        5e-28,
+        4.9e-28,
+        1e-29,
+        5e-324,
+        1e300,
+        math.inf,
+        math.nan,
+        922337203685477.4,
+        922337203685478.5,
+        866242666060511.75,
+    ]
+    told += (
+        [sign * (2.0**power + more) for power in (31, 63, 64, 96) for more in (-1, 0, 1) for sign in (1, -1)]
+        + [2.0**-power for power in range(1, 96, 5)]
+        + [2.0**96 - 2.0**43, 4503599627370495.5]
+    )
+    told += [dice.randrange(-(10**9), 10**9) / 10 ** dice.randrange(9) for _ in range(150)] + [
+        dice.uniform(-1, 1) * 10.0 ** dice.randrange(-30, 30) for _ in range(150)
+    ]
+    return (
+        [(DOUBLE, bits_of(DOUBLE, it)) for it in told]
+        + [(DOUBLE, dice.getrandbits(64)) for _ in range(60)]
+        + [(SINGLE, bits_of(SINGLE, dice.randrange(-(10**6), 10**6) / 10 ** dice.randrange(6))) for _ in range(100)]
+        + [(SINGLE, dice.getrandbits(32)) for _ in range(60)]
+    )
 
 
 def shortest(vt, number):
@@ -124,7 +158,11 @@ class Source(Cases):
         if " 14." not in said:
             self.skipTest("clang-format 14 not there")
         files = [it for folder in (COM, TESTS, f"{TESTS}/linux") for it in glob.glob(f"{folder}/*.[ch]")]
-        self.tell("clang-format", len(files) > 20 and built(["clang-format", "--dry-run", "-Werror", *files]) == (0, ""), built(["clang-format", "--dry-run", "-Werror", *files])[1][:2000])
+        self.tell(
+            "clang-format",
+            len(files) > 20 and built(["clang-format", "--dry-run", "-Werror", *files]) == (0, ""),
+            built(["clang-format", "--dry-run", "-Werror", *files])[1][:2000],
+        )
 
     def test_the_limit_of_a_request_is_the_servers(self):
         own = re.search(r"^#define MAX_BODY (\w+)u ", text(f"{COM}/wire.h"), re.MULTILINE)[1]
@@ -133,7 +171,9 @@ class Source(Cases):
 
 
 def fuzzed(room, seed):
-    done = subprocess.run([f"{room}/fuzz", str(FUZZ_SECONDS), str(seed)], input=corpus().encode(), stdout=subprocess.PIPE, stderr=subprocess.STDOUT, timeout=TIMEOUT)
+    done = subprocess.run(
+        [f"{room}/fuzz", str(FUZZ_SECONDS), str(seed)], input=corpus().encode(), stdout=subprocess.PIPE, stderr=subprocess.STDOUT, timeout=TIMEOUT
+    )
     return done.returncode, f"fuzz {FUZZ_SECONDS} {seed}: {plain(done.stdout)[:2000]}"
 
 

@@ -200,7 +200,14 @@ class Wine:
 
     def __init__(self, room):
         self.room = room
-        self.env = {**os.environ, "WINEPREFIX": f"{room}/wine", "WINEDEBUG": "-all", "WINEARCH": "win64", "WINEDLLOVERRIDES": "mscoree,mshtml=", "LC_ALL": "C.UTF-8"}
+        self.env = {
+            **os.environ,
+            "WINEPREFIX": f"{room}/wine",
+            "WINEDEBUG": "-all",
+            "WINEARCH": "win64",
+            "WINEDLLOVERRIDES": "mscoree,mshtml=",
+            "LC_ALL": "C.UTF-8",
+        }
         self.env.pop("DISPLAY", None)
         os.mkdir(f"{room}/wine")
         quiet = {"env": self.env, "stdin": subprocess.DEVNULL, "stdout": subprocess.DEVNULL, "stderr": subprocess.DEVNULL}
@@ -215,7 +222,9 @@ class Wine:
     def run(self, *words, given=None):
         """The status and the output; where it takes too long, None and what came."""
         try:
-            done = subprocess.run(["wine", *words], env=self.env, cwd=self.room, input=given or b"", stdout=subprocess.PIPE, stderr=subprocess.DEVNULL, timeout=TIMEOUT)
+            done = subprocess.run(
+                ["wine", *words], env=self.env, cwd=self.room, input=given or b"", stdout=subprocess.PIPE, stderr=subprocess.DEVNULL, timeout=TIMEOUT
+            )
         except subprocess.TimeoutExpired as late:
             return None, plain(late.stdout or b"")
         return done.returncode, plain(done.stdout)

@@ -105,7 +105,17 @@ class Gateway:
 
     OPTIONS = ("listen", "listen-hex", "alone", "control", "metrics")
 
-    def __init__(self, *words, sockets=("listen", "alone", "listen-hex", "control", "metrics"), room=None, under=(), starts=True, library=FULL, program=SERVED, **variables):
+    def __init__(
+        self,
+        *words,
+        sockets=("listen", "alone", "listen-hex", "control", "metrics"),
+        room=None,
+        under=(),
+        starts=True,
+        library=FULL,
+        program=SERVED,
+        **variables,
+    ):
         self.own = tempfile.TemporaryDirectory(dir=fast_folder()) if room is None else None
         self.room = room or self.own.name
         self.store = f"{self.room}/it.store"
@@ -120,7 +130,9 @@ class Gateway:
 
     def start(self, waits=True):
         self.error = open(f"{self.room}/said", "a+b")
-        self.process = subprocess.Popen(self.words, stderr=self.error, env={**os.environ, "OAUT_PROGRAM": PROGRAM, **{name: str(it) for name, it in self.variables.items()}})
+        self.process = subprocess.Popen(
+            self.words, stderr=self.error, env={**os.environ, "OAUT_PROGRAM": PROGRAM, **{name: str(it) for name, it in self.variables.items()}}
+        )
         if waits:
             self.wait_for(lambda: self.process.poll() is not None or self.answers(), "the gateway does not listen")
         return self

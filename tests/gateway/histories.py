@@ -45,7 +45,7 @@ E_FAIL = 0x8000_4005
 KILLS = ("nothing", "server", "gateway", "both", "device", "end")
 LIBRARIES = {}
 
-RECORDER = r'''#!%s -SE
+RECORDER = r"""#!%s -SE
 import os, signal, subprocess, sys, threading, time
 if sys.argv[1] != "serve":
     os.execv(%r, [%r, *sys.argv[1:]])
@@ -73,7 +73,7 @@ threading.Thread(target=goes, args=(0, child.stdin.fileno(), b"C"), daemon=True)
 goes(child.stdout.fileno(), 1, b"S")
 status = child.wait()
 os.kill(os.getpid(), signal.SIGKILL) if status < 0 else os._exit(status)
-'''
+"""
 
 
 class Wrong(Exception):

@@ -25,7 +25,18 @@ AGENT = f"{ROOT}/dist/ocf/gateway"
 OCF_ROOT = os.environ.get("OCF_ROOT") or "/usr/lib/ocf"
 # the statuses of OCF's resource agents
 OK, GENERIC, ARGUMENTS, UNIMPLEMENTED, INSTALLED, CONFIGURED, NOT_RUNNING = 0, 1, 2, 3, 5, 6, 7
-why_not = next((told for told, there in (("ocf-tester", shutil.which("ocf-tester")), ("ocf-shellfuncs", os.path.exists(f"{OCF_ROOT}/lib/heartbeat/ocf-shellfuncs")), ("cc", COMPILER)) if not there), None)
+why_not = next(
+    (
+        told
+        for told, there in (
+            ("ocf-tester", shutil.which("ocf-tester")),
+            ("ocf-shellfuncs", os.path.exists(f"{OCF_ROOT}/lib/heartbeat/ocf-shellfuncs")),
+            ("cc", COMPILER),
+        )
+        if not there
+    ),
+    None,
+)
 
 
 def has_ended(number):
@@ -46,7 +57,15 @@ class Agent:
         os.chmod(self.room, 0o755)
         self.store, self.run = f"{self.room}/it.store", f"{self.room}/run"
         copy_store(store_of(FULL)[0], self.store)
-        self.given = {"store": self.store, "gateway": built()[0], "program": PROGRAM, "user": pwd.getpwuid(os.getuid()).pw_name, "rundir": self.run, "logdir": self.room, **given}
+        self.given = {
+            "store": self.store,
+            "gateway": built()[0],
+            "program": PROGRAM,
+            "user": pwd.getpwuid(os.getuid()).pw_name,
+            "rundir": self.run,
+            "logdir": self.room,
+            **given,
+        }
 
     def __enter__(self):
         return self
@@ -58,7 +77,12 @@ class Agent:
     def act(self, action, timeout=20, **given):
         """The status of an action, and why it is so, as it tells the cluster."""
         given = {name: it for name, it in {**self.given, **given}.items() if it is not None}
-        told = {"OCF_ROOT": OCF_ROOT, "OCF_RESOURCE_INSTANCE": "it", "OCF_RESKEY_CRM_meta_timeout": f"{timeout}000", **{f"OCF_RESKEY_{name}": it for name, it in given.items()}}
+        told = {
+            "OCF_ROOT": OCF_ROOT,
+            "OCF_RESOURCE_INSTANCE": "it",
+            "OCF_RESKEY_CRM_meta_timeout": f"{timeout}000",
+            **{f"OCF_RESKEY_{name}": it for name, it in given.items()},
+        }
         # (a file, since what it starts keeps the streams that it was given)
         with tempfile.TemporaryFile() as said:
             status = subprocess.run([AGENT, action], env={**os.environ, **told}, stdin=subprocess.DEVNULL, stdout=said, stderr=said, timeout=SECONDS).returncode
@@ -105,7 +129,14 @@ class AgentCases(Cases):
     def test_ocf_tester(self):
         with Agent() as agent:
             words = [word for name, it in agent.given.items() for word in ("-o", f"{name}={it}")]
-            done = subprocess.run(["ocf-tester", "-n", "it", *words, AGENT], stdin=subprocess.DEVNULL, stdout=subprocess.PIPE, stderr=subprocess.STDOUT, text=True, timeout=SECONDS)
+            done = subprocess.run(
+                ["ocf-tester", "-n", "it", *words, AGENT],
+                stdin=subprocess.DEVNULL,
+                stdout=subprocess.PIPE,
+                stderr=subprocess.STDOUT,
+                text=True,
+                timeout=SECONDS,
+            )
             self.tell("ocf-tester has nothing to say", done.returncode == 0 and "passed all tests" in done.stdout, done.stdout)
 
     def test_from_start_to_stop(self):
@@ -228,12 +259,18 @@ class AgentCases(Cases):
 
                 thread = threading.Thread(target=serve)
                 thread.start()
-                status = subprocess.run([built()[0], "probe", f"{room}/it.sock", "0.5"], stdout=subprocess.PIPE, stderr=subprocess.PIPE, timeout=SECONDS).returncode
+                status = subprocess.run(
+                    [built()[0], "probe", f"{room}/it.sock", "0.5"], stdout=subprocess.PIPE, stderr=subprocess.PIPE, timeout=SECONDS
+                ).returncode
                 thread.join()
                 self.tell(name, status == wanted, status)
                 self.tell(f"{name}: a TYPEINFO of no interface was asked", held[0][1] == struct.pack("<IIHHII", 16, 1, 10, 0, 0xFFFF_FFFF, 0), held[0][1])
                 held[0][0].close()
-            for name, words, wanted in (("no such socket", [f"{room}/no.sock", "1"], 1), ("no seconds", [f"{room}/it.sock", "x"], 2), ("none at all", [f"{room}/it.sock", "0"], 2)):
+            for name, words, wanted in (
+                ("no such socket", [f"{room}/no.sock", "1"], 1),
+                ("no seconds", [f"{room}/it.sock", "x"], 2),
+                ("none at all", [f"{room}/it.sock", "0"], 2),
+            ):
                 self.tell(name, subprocess.run([built()[0], "probe", *words], stderr=subprocess.PIPE, timeout=SECONDS).returncode == wanted)
 
     def test_what_the_package_has(self):

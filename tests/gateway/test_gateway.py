@@ -96,7 +96,9 @@ class Building(Cases):
             names = re.findall(r"`(.*?)`", names)
             counted += len(names)
             self.tell(f"the lines of {', '.join(names)}", int(count.replace(",", "")) == sum(lines[it] for it in names), sum(lines[it] for it in names))
-        self.tell("all files but one", counted == len(lines) - 1 and re.search(rf"a lock: {lines['frames.c']} lines", re.sub(r"\s+", " ", text)), (counted, lines))
+        self.tell(
+            "all files but one", counted == len(lines) - 1 and re.search(rf"a lock: {lines['frames.c']} lines", re.sub(r"\s+", " ", text)), (counted, lines)
+        )
 
     @left_out("clang-format")
     def test_the_sources_are_formatted(self):
@@ -111,7 +113,9 @@ class Building(Cases):
                 sources = [it for it in glob.glob(f"{GATEWAY}/*.c") if not it.endswith(("/main.c", f"/{other}.c"))]
                 done = compiled(["cc", *flags, "-Dmain=gateway_main", "-c", f"{GATEWAY}/main.c", "-o", f"{room}/main.o"], "")
                 self.tell(f"the gateway is compiled, {side}", done == (0, ""), done)
-                done = compiled(["cc", *flags, f"-DFRAMES={side == 'frames':d}", f"{GATEWAY}/tests/fuzz.c", *sources, f"{room}/main.o", "-o", f"{room}/fuzz"], "")
+                done = compiled(
+                    ["cc", *flags, f"-DFRAMES={side == 'frames':d}", f"{GATEWAY}/tests/fuzz.c", *sources, f"{room}/main.o", "-o", f"{room}/fuzz"], ""
+                )
                 self.tell(f"the driver is compiled, {side}", done == (0, ""), done)
                 done = subprocess.run([f"{room}/fuzz", "1000", os.environ.get("OAUT_SEED") or "1"], capture_output=True, text=True)
                 self.tell(f"a thousand inputs, {side}", done.returncode == 0 and " locks given back" in done.stdout, done.stderr[-2000:])
@@ -168,7 +172,10 @@ class Framing(GatewayCases):
             self.tell(what, got == wanted, f"wanted {wanted[-200:]}, got {got[-200:]}")
 
     def test_a_byte_at_a_time(self):
-        for name, given, wanted in (("listen", record(NONE) * 2, records([NO_REQUEST] * 2)), ("listen-hex", NONE.hex().encode() + b"\n", NO_REQUEST.hex().encode() + b"\n")):
+        for name, given, wanted in (
+            ("listen", record(NONE) * 2, records([NO_REQUEST] * 2)),
+            ("listen-hex", NONE.hex().encode() + b"\n", NO_REQUEST.hex().encode() + b"\n"),
+        ):
             with self.gateway.dial(name) as sock:
                 for byte in given:
                     sock.sendall(bytes([byte]))
@@ -225,7 +232,14 @@ class Sharing(GatewayCases):
                     if turn % 3 == 0:
                         sock.setsockopt(socket.SOL_SOCKET, socket.SO_LINGER, struct.pack("ii", 1, 0))
             self.eventually("so are those that were with the server as it went", lambda: setattr(same, "Grid", [5]), oaut.ArrayIsLocked)
-            asked = [locking(1, oaut.LOCK, number), locking(2, oaut.UNLOCK, number), locking(3, oaut.UNLOCK, number), NONE, locking(4, oaut.LOCK, number), locking(5, oaut.UNLOCK, number)]
+            asked = [
+                locking(1, oaut.LOCK, number),
+                locking(2, oaut.UNLOCK, number),
+                locking(3, oaut.UNLOCK, number),
+                NONE,
+                locking(4, oaut.LOCK, number),
+                locking(5, oaut.UNLOCK, number),
+            ]
             got = codes(self.gateway.ask(records(asked)))
             self.tell("LOCK, UNLOCK, UNLOCK, another, LOCK, UNLOCK at once", got == [(1, 0), (2, 0), (3, E_UNEXPECTED), (77, BAD_STUB), (4, 0), (5, 0)], got)
             self.eventually("and none of these is left", lambda: setattr(same, "Grid", [6]), oaut.ArrayIsLocked)
@@ -425,7 +439,11 @@ class Bounds(GatewayCases):
                     longest = max(longest, time.monotonic() - since)
                 found = gateway.counters()
                 self.tell("who takes no replies keeps nobody waiting", longest < 3, longest)
-                self.tell("it gets no turn, and so no more replies", found["oaut_gateway_buffer_bytes"] < 12_000_000 and not found["oaut_gateway_stalled_total"], found["oaut_gateway_buffer_bytes"])
+                self.tell(
+                    "it gets no turn, and so no more replies",
+                    found["oaut_gateway_buffer_bytes"] < 12_000_000 and not found["oaut_gateway_stalled_total"],
+                    found["oaut_gateway_buffer_bytes"],
+                )
                 Gateway.wait_for(lambda: gateway.counters()["oaut_gateway_stalled_total"] == 1, "it is not let go")
             self.tell("its end", gateway.end()[0] == 0)
 
@@ -472,7 +490,7 @@ class Bounds(GatewayCases):
 
 
 # a server whose group takes 12 ms, and that answers its end 4 ms behind its requests, when their clients have long asked again; it tells how long behind that the next batch came
-LATE = r'''#!/usr/bin/env python3
+LATE = r"""#!/usr/bin/env python3
 import os, struct, sys, time
 if sys.argv[1] == "dump":
     sys.exit(0)
@@ -493,7 +511,7 @@ while some := os.read(0, 65536):
         time.sleep(0.004 if due else 0)
         ended, due = time.monotonic() if due else None, []
         os.write(1, struct.pack("<IIIII", 16, tag, 0x800706F7, 0xFFFFFFFF, 0))
-'''
+"""
 
 
 @needs_cc
@@ -536,7 +554,11 @@ class Waiting(Cases):
 class Stops(Cases):
     def ended(self, name, gateway, status, says=None, with_=signal.SIGTERM):
         found, said = gateway.end(with_)
-        self.tell(name, found == status and (says is None or re.search(says, said)) and "Sanitizer" not in said and "runtime error" not in said, f"wanted {status}, got {found}: {said}")
+        self.tell(
+            name,
+            found == status and (says is None or re.search(says, said)) and "Sanitizer" not in said and "runtime error" not in said,
+            f"wanted {status}, got {found}: {said}",
+        )
 
     def test_sigterm_answers_what_has_come(self):
         with Gateway() as gateway, contextlib.ExitStack() as stack:
@@ -606,7 +628,13 @@ class Stops(Cases):
                 file.write("#!/usr/bin/env python3\nimport sys\nsys.exit(0 if sys.argv[1] == 'dump' else 5)\n")
             os.chmod(f"{gateway.room}/stub.py", 0o755)
             with Gateway(program=f"{gateway.room}/stub.py") as other:
-                self.ended("a server that ends with status 5 is not started again", other, 3, r"\Aoaut-gateway: the server has ended, by status 5\n.*not started again: look at .*\n\Z", with_=None)
+                self.ended(
+                    "a server that ends with status 5 is not started again",
+                    other,
+                    3,
+                    r"\Aoaut-gateway: the server has ended, by status 5\n.*not started again: look at .*\n\Z",
+                    with_=None,
+                )
         with Gateway(starts=False) as gateway:
             with open(gateway.store, "r+b") as file:
                 file.truncate(1000)
@@ -683,11 +711,15 @@ class Watching(Cases):
             try:
                 for turn in range(3):
                     before = dict(acknowledged)
-                    done = subprocess.run([built()[0], "backup", f"{gateway.room}/control", f"{gateway.room}/copy"], capture_output=True, text=True, timeout=SECONDS)
+                    done = subprocess.run(
+                        [built()[0], "backup", f"{gateway.room}/control", f"{gateway.room}/copy"], capture_output=True, text=True, timeout=SECONDS
+                    )
                     after = dict(sent)
                     self.tell(f"a backup under load, {turn}", done.returncode == 0 and "held for 0." in done.stdout, done)
                     status, out, err = run_in(gateway.room, ["dump", "copy"])
-                    found = {number: int.from_bytes(bytes.fromhex(it.decode())[2:], "little") for number, it in zip(numbers, re.findall(rb" 1 - (0300\w{8})\n", out))}
+                    found = {
+                        number: int.from_bytes(bytes.fromhex(it.decode())[2:], "little") for number, it in zip(numbers, re.findall(rb" 1 - (0300\w{8})\n", out))
+                    }
                     well = status == 0 and set(found) == set(numbers) and all(before[it] <= found[it] <= after[it] for it in numbers)
                     self.tell(f"it opens to what was acknowledged before, {turn}", well, (err, before, found, after))
             finally:
@@ -730,7 +762,9 @@ class Watching(Cases):
             for name, value in {"clients": 1, "connections_total": 2, "server_starts_total": 1, 'refused_total{code="0x80020005"}': 1, "faulted": 0}.items():
                 self.tell(name, found.get(f"oaut_gateway_{name}") == value, found.get(f"oaut_gateway_{name}"))
             told = [line.split()[2] for line in text.splitlines() if line.startswith("# TYPE")]
-            self.tell("each is told once, and each has a type", len(set(told)) == len(told) and all(any(it.startswith(name) for name in told) for it in found), told)
+            self.tell(
+                "each is told once, and each has a type", len(set(told)) == len(told) and all(any(it.startswith(name) for name in told) for it in found), told
+            )
             buckets = [value for name, value in found.items() if name.startswith("oaut_gateway_commit_seconds_bucket")]
             self.tell("the buckets rise to the count", buckets == sorted(buckets) and buckets[-1] == found["oaut_gateway_commit_seconds_count"] > 0, buckets)
             self.tell("another path", gateway.ask(b"GET / HTTP/1.1\r\n\r\n", "metrics", ends=False).startswith(b"HTTP/1.0 404"))
@@ -765,7 +799,11 @@ class Watching(Cases):
                 Gateway.wait_for(lambda: notified.recv(500).startswith(b"READY=1\nSTATUS=serving "), "it does not say that it is ready")
                 self.tell("it says that it is ready", True)
                 gateway.room, own = room, gateway.room
-                for name, given, wanted in (("it", record(NONE), record(NO_REQUEST)), ("alone", record(NONE), record(NO_REQUEST)), ("hex", NONE.hex().encode() + b"\n", NO_REQUEST.hex().encode() + b"\n")):
+                for name, given, wanted in (
+                    ("it", record(NONE), record(NO_REQUEST)),
+                    ("alone", record(NONE), record(NO_REQUEST)),
+                    ("hex", NONE.hex().encode() + b"\n", NO_REQUEST.hex().encode() + b"\n"),
+                ):
                     self.tell(f"the socket {name}", gateway.ask(given, name) == wanted)
                 self.tell("the socket control", "oaut_gateway_clients" in gateway.counters())
                 Gateway.wait_for(lambda: notified.recv(500) == b"WATCHDOG=1", "it does not say that it lives")
@@ -794,7 +832,13 @@ class Noise(Cases):
             while time.monotonic() < begun + seconds:
                 name = dice.choice(["listen", "listen", "listen-hex", "alone", "control", "metrics"])
                 some = dice.choices(bodies, k=dice.randrange(1, 9))
-                data = b"".join(dice.choices(texts, k=2)) if name in ("control", "metrics") else b"".join(it.hex().encode() + b"\n" for it in some) if name == "listen-hex" else records(some)
+                data = (
+                    b"".join(dice.choices(texts, k=2))
+                    if name in ("control", "metrics")
+                    else b"".join(it.hex().encode() + b"\n" for it in some)
+                    if name == "listen-hex"
+                    else records(some)
+                )
                 data = bytearray(data)
                 for _ in range(dice.choice([0, 0, 1, 3])):
                     data[dice.randrange(len(data))] = dice.choice([0, 10, 13, 0x30, 255, dice.randrange(256)])
@@ -867,7 +911,9 @@ class CommandLine(Cases):
         with open(f"{ROOT}/docs/gateway.md") as file:
             page = file.read()
         options = re.findall(r"--[a-z-]+", out)
-        self.tell("help", (status, err) == (0, "") and len(options) > 14 and all(f"`{it}" in page for it in options), [it for it in options if f"`{it}" not in page])
+        self.tell(
+            "help", (status, err) == (0, "") and len(options) > 14 and all(f"`{it}" in page for it in options), [it for it in options if f"`{it}" not in page]
+        )
         self.tell("version", told_of("--version")[0::2] == (0, ""))
         self.tell("no such store", told_of("--listen", "./s", "/nowhere/a.store")[:2] == (1, ""))
 
@@ -900,7 +946,13 @@ class CommandLine(Cases):
             ([], [("0", "0"), "20"], [("1234", "1234"), "rights"]),
             (["--mode", "0666"], [("1234", "1234"), "20"]),
             (["--mode", "0666", "--allow-user", "1234"], [("1234", "1"), "20"], [("1235", "1234"), "0"], [("0", "0"), "0"]),
-            (["--mode", "0666", "--allow-group", "4321", "--allow-user", "daemon"], [("1", "5"), "20"], [("7", "4321"), "20"], [("7", "5", "6", "4321"), "20"], [("7", "5", "6"), "0"]),
+            (
+                ["--mode", "0666", "--allow-group", "4321", "--allow-user", "daemon"],
+                [("1", "5"), "20"],
+                [("7", "4321"), "20"],
+                [("7", "5", "6", "4321"), "20"],
+                [("7", "5", "6"), "0"],
+            ),
         ]
         for words, *tries in rows:
             with Gateway(*words) as gateway:
@@ -931,7 +983,12 @@ class Behind(Cases):
                 port = free.getsockname()[1]
             with open(f"{ROOT}/docs/gateway.md") as file:
                 told = re.search(r"```ini\n(.*?)```", file.read(), re.S)[1]
-            for old, new in (("/etc/oaut/", f"{room}/"), ("clients.pem", "client.pem"), ("0.0.0.0:8766", f"127.0.0.1:{port}"), ("/run/oaut/gateway.sock", f"{room}/listen")):
+            for old, new in (
+                ("/etc/oaut/", f"{room}/"),
+                ("clients.pem", "client.pem"),
+                ("0.0.0.0:8766", f"127.0.0.1:{port}"),
+                ("/run/oaut/gateway.sock", f"{room}/listen"),
+            ):
                 if old not in told:
                     self.tell("the page has what is tried", False, old)
                 told = told.replace(old, new)

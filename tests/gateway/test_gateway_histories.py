@@ -67,7 +67,10 @@ class Rules(Cases):
             self.tell(what, said is None if says is None else said is not None and says in said, said)
         one, two = (Visit.__new__(Visit) for _ in range(2))
         one.sent_at, one.heard_at, two.sent_at, two.heard_at = [0], [1], [2], [3]
-        for what, order, wrong in (("in the order of time", [1 << 12, 2 << 12], False), ("one that was sent behind another's reply is done before it", [2 << 12, 1 << 12], True)):
+        for what, order, wrong in (
+            ("in the order of time", [1 << 12, 2 << 12], False),
+            ("one that was sent behind another's reply is done before it", [2 << 12, 1 << 12], True),
+        ):
             try:
                 Round.judge_time(Round.__new__(Round), {1: one, 2: two}, order)
                 said = False

@@ -68,7 +68,9 @@ def run(script, files, seconds=240):
                 file.write(content)
         words = ["systemd-nspawn", "-D", root, "-M", f"oaut-{os.getpid()}", "--register=no", "--keep-unit", "--private-network", "--link-journal=no"]
         try:
-            boot = subprocess.run([*words, "-b", "systemd.unit=tried.service"], stdin=subprocess.DEVNULL, stdout=subprocess.PIPE, stderr=subprocess.STDOUT, timeout=seconds)
+            boot = subprocess.run(
+                [*words, "-b", "systemd.unit=tried.service"], stdin=subprocess.DEVNULL, stdout=subprocess.PIPE, stderr=subprocess.STDOUT, timeout=seconds
+            )
             said = boot.stdout
         except subprocess.TimeoutExpired as late:
             said = late.stdout or b""

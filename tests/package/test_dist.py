@@ -160,7 +160,16 @@ class Packed(Cases):
         self.tell("the first requests in a clean root", (done.returncode, said[3:]) == (0, wanted), (done.returncode, said, done.stderr))
         if done.returncode == 0:
             told = subprocess.run(["dpkg-deb", "--contents", said[1]], capture_output=True, text=True).stdout
-            for path in ("usr/bin/oaut", "usr/bin/oaut-gateway", "usr/share/man/man1/oaut.1.gz", "usr/share/man/man1/oaut-gateway.1.gz", "usr/lib/python3/dist-packages/oaut/py.typed", "lib/systemd/system/oaut@.socket", "usr/lib/ocf/resource.d/oaut/gateway", "etc/oaut/items.idl"):
+            for path in (
+                "usr/bin/oaut",
+                "usr/bin/oaut-gateway",
+                "usr/share/man/man1/oaut.1.gz",
+                "usr/share/man/man1/oaut-gateway.1.gz",
+                "usr/lib/python3/dist-packages/oaut/py.typed",
+                "lib/systemd/system/oaut@.socket",
+                "usr/lib/ocf/resource.d/oaut/gateway",
+                "etc/oaut/items.idl",
+            ):
                 self.tell(f"the package has {path}", f" ./{path}\n" in told, told)
             depends = subprocess.run(["dpkg-deb", "--field", said[1], "Depends"], capture_output=True, text=True).stdout
             self.tell("it depends on the C library that has what the program calls", re.match(r"libc6 \(>= 2\.\d+\)", depends), depends)
@@ -186,7 +195,10 @@ class Beside(Cases):
 
     @unittest.skipIf(shutil.which("groff") is None, "groff is not there")
     def test_the_manual_page(self):
-        for name, sections in (("oaut", ("not a store", "--where", "EXIT STATUS", "EXAMPLES", "FILES", "SEE ALSO", "A store that was there is erased")), ("oaut-gateway", ("--alone", "STATUSES"))):
+        for name, sections in (
+            ("oaut", ("not a store", "--where", "EXIT STATUS", "EXAMPLES", "FILES", "SEE ALSO", "A store that was there is erased")),
+            ("oaut-gateway", ("--alone", "STATUSES")),
+        ):
             page = subprocess.run([sys.executable, f"{ROOT}/dist/manual.py", "1", name], capture_output=True, text=True)
             self.tell(f"{name}: it is made", (page.returncode, page.stderr) == (0, ""), page.stderr)
             told = subprocess.run(["groff", "-man", "-ww", "-Tutf8"], input=page.stdout, capture_output=True, text=True)
@@ -205,7 +217,11 @@ class Beside(Cases):
             environment = {"PATH": os.environ["PATH"], "MANPATH": room, "LANG": "C.UTF-8"}
             subprocess.run(["mandb", "--create", "--user-db", "--quiet", room], env=environment)
             found = subprocess.run(["apropos", "automation"], env=environment, capture_output=True, text=True)
-            self.tell("apropos finds them by their subject", [line.split()[0] for line in found.stdout.splitlines()] == ["oaut", "oaut-gateway"], (found.stdout, found.stderr))
+            self.tell(
+                "apropos finds them by their subject",
+                [line.split()[0] for line in found.stdout.splitlines()] == ["oaut", "oaut-gateway"],
+                (found.stdout, found.stderr),
+            )
 
     @unittest.skipIf(shutil.which("bash") is None, "bash is not there")
     def test_completions(self):
@@ -240,5 +256,7 @@ class Beside(Cases):
                 told = [line for line in done.stderr.splitlines() if "oaut" in line]
                 self.tell(f"systemd reads {name}", told == [], done.stderr)
                 if name.endswith(".service"):
-                    done = subprocess.run(["systemd-analyze", "security", "--no-pager", "--offline=yes", "--threshold=20", path], capture_output=True, text=True)
+                    done = subprocess.run(
+                        ["systemd-analyze", "security", "--no-pager", "--offline=yes", "--threshold=20", path], capture_output=True, text=True
+                    )
                     self.tell(f"{name} may do little: 2.0 of 10 at most", done.returncode == 0, done.stdout[-200:] + done.stderr)

@@ -47,7 +47,27 @@ def says(cell, err):
 
 def fails(call, error, words, count=1, **how):
     """Such a call on the store's file fails."""
-    return lambda room: run_in(room, words, under=[STRACE, "-f", "-o", "/dev/null", "-e", "quiet=path-resolution", "-P", "it.store", "-P", f"{room}/it.store", "-e", f"trace={call}", "-e", f"inject={call}:error={error}:when={count}"], **how)
+    return lambda room: run_in(
+        room,
+        words,
+        under=[
+            STRACE,
+            "-f",
+            "-o",
+            "/dev/null",
+            "-e",
+            "quiet=path-resolution",
+            "-P",
+            "it.store",
+            "-P",
+            f"{room}/it.store",
+            "-e",
+            f"trace={call}",
+            "-e",
+            f"inject={call}:error={error}:when={count}",
+        ],
+        **how,
+    )
 
 
 def on_a_full_device(room):
@@ -146,7 +166,12 @@ TRIED = {
         (GOOD, ["serve", "it.store"], 2, [SERVE]),
         (GOOD, of_a_name_that_is_not_utf_8, 2, [CHECK]),
         (GOOD, ["serve", "it.store", "-"], 2, [SERVE]),
-        ({"lib.idl": b"\xff\xfe" + SMALL.decode().encode("utf-16-le")}, CHECK, 2, [["sh", "-c", "iconv -f UTF-16 -t UTF-8 lib.idl > good.idl"], ["check", "good.idl"]]),
+        (
+            {"lib.idl": b"\xff\xfe" + SMALL.decode().encode("utf-16-le")},
+            CHECK,
+            2,
+            [["sh", "-c", "iconv -f UTF-16 -t UTF-8 lib.idl > good.idl"], ["check", "good.idl"]],
+        ),
         library(b"long", b"double"),
         library(b"Count", b"C" * 65),
         library(COUNT, COUNT + b"[id(2)] long COUNT;"),
@@ -164,7 +189,12 @@ TRIED = {
         (GOOD, UPGRADE, 3, [SERVE]),
         ({"it.store": TWO, "lib.idl": SMALL.replace(COUNT, COUNT + b"[id(2)] long More;")}, SERVE, 3, [ITS_OWN]),
         (store_of(changed(TWO, 8192, 0), ("copy", TWO)), SERVE, 3, [["cp", "copy", "it.store"], SERVE]),
-        (store_of(store.add(store.formatted(SMALL_TEXT), b"\1" + (1).to_bytes(4, "little") + bytes(16)), ("copy", TWO)), SERVE, 3, [["cp", "copy", "it.store"], SERVE]),
+        (
+            store_of(store.add(store.formatted(SMALL_TEXT), b"\1" + (1).to_bytes(4, "little") + bytes(16)), ("copy", TWO)),
+            SERVE,
+            3,
+            [["cp", "copy", "it.store"], SERVE],
+        ),
     ),
     "A session that ends": (
         (GOOD, from_a_folder, 1, [SERVE]),

@@ -2,13 +2,18 @@
 import glob
 import os
 import re
+import shutil
 import subprocess
 import sys
+import unittest
 
 from running import ROOT, Cases
 
 COLUMNS = 100
-PAGES = sorted(os.path.relpath(it, ROOT) for it in [*glob.glob(f"{ROOT}/*.md"), *glob.glob(f"{ROOT}/docs/*.md"), *glob.glob(f"{ROOT}/clients/**/*.md", recursive=True)])
+LAID_OUT = ("bench", "bin/wrong-bodies", "dist", "dist/pack", "examples", "tests", "tools")
+PAGES = sorted(
+    os.path.relpath(it, ROOT) for it in [*glob.glob(f"{ROOT}/*.md"), *glob.glob(f"{ROOT}/docs/*.md"), *glob.glob(f"{ROOT}/clients/**/*.md", recursive=True)]
+)
 
 
 def read(path):
@@ -52,3 +57,12 @@ class Docs(Cases):
     def test_how_much_there_is_to_read(self):
         done = subprocess.run([sys.executable, f"{ROOT}/tools/spec.py", "--check"], capture_output=True, text=True)
         self.tell("the definitions below each promise", done.returncode == 0, done.stdout + done.stderr)
+
+    @unittest.skipUnless(shutil.which("black"), "black is not there")
+    def test_how_python_is_laid_out(self):
+        """As Debian's black has it: another version of it may have another mind."""
+        said = subprocess.run(["black", "--version"], capture_output=True, text=True).stdout
+        if "23.1." not in said:
+            self.skipTest("black 23.1 is not there")
+        done = subprocess.run(["black", "--check", "--quiet", *(f"{ROOT}/{it}" for it in LAID_OUT)], capture_output=True, text=True)
+        self.tell("black has nothing to change", done.returncode == 0, done.stderr[-500:])

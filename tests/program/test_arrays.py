@@ -2,7 +2,20 @@
 import struct
 
 import wire
-from codes import ARRAY_IS_LOCKED, BAD_INDEX, BAD_PARAM_COUNT, BAD_STUB, BAD_VAR_TYPE, DISCONNECTED, E_INVALIDARG, E_OUTOFMEMORY, E_UNEXPECTED, MEMBER_NOT_FOUND, OVERFLOW, TYPE_MISMATCH
+from codes import (
+    ARRAY_IS_LOCKED,
+    BAD_INDEX,
+    BAD_PARAM_COUNT,
+    BAD_STUB,
+    BAD_VAR_TYPE,
+    DISCONNECTED,
+    E_INVALIDARG,
+    E_OUTOFMEMORY,
+    E_UNEXPECTED,
+    MEMBER_NOT_FOUND,
+    OVERFLOW,
+    TYPE_MISMATCH,
+)
 from playing import Played
 from running import ARRAYS, CREATE, FULL, run, within
 from turns import FOUR, HALF, HI, NO_INDEX, creates, gets, i2, lists, of, puts, releases
@@ -144,7 +157,11 @@ class Arrays(Played):
         kept = [answer == wire.reply(number) for number, answer in enumerate(put, 1)]
         codes = all(answer == wire.reply(number, 0 if it else E_OUTOFMEMORY) for (number, answer), it in zip(enumerate(put, 1), kept))
         got = [wire.reply(1)] + [wire.reply(number, fields=wire.field(full_array if it else no_array)) for number, it in enumerate(kept[1:], 2)]
-        self.tell("memory is refused in a session", (status, err, len(kept), True in kept, False in kept, codes, answers[2 * HOLDERS :] == got) == (0, b"", HOLDERS, True, True, True, True), (status, err, kept, codes))
+        self.tell(
+            "memory is refused in a session",
+            (status, err, len(kept), True in kept, False in kept, codes, answers[2 * HOLDERS :] == got) == (0, b"", HOLDERS, True, True, True, True),
+            (status, err, kept, codes),
+        )
 
 
 class Elements(Played):
@@ -249,4 +266,10 @@ class Elements(Played):
         )
 
     def test_locks_at_their_limit(self):
-        self.talk("locks at their limit", FULL, [puts(GRID, SIX)] + [locks(GRID, count) for count in range(1, 65_536)] + [locks(GRID, 0, E_UNEXPECTED), unlocks(GRID, 65_534), locks(GRID, 65_535), locks(GRID, 0, E_UNEXPECTED)])
+        self.talk(
+            "locks at their limit",
+            FULL,
+            [puts(GRID, SIX)]
+            + [locks(GRID, count) for count in range(1, 65_536)]
+            + [locks(GRID, 0, E_UNEXPECTED), unlocks(GRID, 65_534), locks(GRID, 65_535), locks(GRID, 0, E_UNEXPECTED)],
+        )

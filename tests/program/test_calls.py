@@ -1,6 +1,20 @@
 """Calls: how arguments are bound, through which interface, and which form of a member the flags name."""
 import wire
-from codes import BAD_PARAM_COUNT, BAD_STUB, BAD_VAR_TYPE, DISCONNECTED, E_INVALIDARG, E_NOINTERFACE, E_NOTIMPL, MEMBER_NOT_FOUND, OVERFLOW, PARAM_NOT_FOUND, PARAM_NOT_OPTIONAL, TYPE_MISMATCH, UNKNOWN_INTERFACE
+from codes import (
+    BAD_PARAM_COUNT,
+    BAD_STUB,
+    BAD_VAR_TYPE,
+    DISCONNECTED,
+    E_INVALIDARG,
+    E_NOINTERFACE,
+    E_NOTIMPL,
+    MEMBER_NOT_FOUND,
+    OVERFLOW,
+    PARAM_NOT_FOUND,
+    PARAM_NOT_OPTIONAL,
+    TYPE_MISMATCH,
+    UNKNOWN_INTERFACE,
+)
 from codes import WORDS as CODES
 from playing import Played
 from running import FULL, rows_of
@@ -45,7 +59,6 @@ def at_key(dispid, key, value=None):
     given = arguments_of(key)[::-1]
     flags, named = (2, []) if value is None else (4, [-3])
     return lambda tag: wire.invoke(tag, 1, dispid, flags, named, given if value is None else [value] + given)
-
 
 
 def bound():
@@ -95,12 +108,7 @@ FORMS = """1 2 get
 10 0 none
 99 1 none
 99 2 none"""
-FOUND = {
-    "get": ([], [], 0, wire.field(i4(0))),
-    "put": ([-3], [i4(0)], 0, b""),
-    "none": ([], [], MEMBER_NOT_FOUND, b""),
-    "method": ([], [], E_NOTIMPL, b""),
-}
+FOUND = {"get": ([], [], 0, wire.field(i4(0))), "put": ([-3], [i4(0)], 0, b""), "none": ([], [], MEMBER_NOT_FOUND, b""), "method": ([], [], E_NOTIMPL, b"")}
 
 
 def form(dispid, flags, found):
@@ -184,7 +192,10 @@ class Arguments(Played):
         self.talk(
             "parameters that may be left out",
             library_with(
-                interface(b"2", body=b"methods: [id(1), propget] long Any([in, optional] VARIANT V, [in, optional] long N); [id(1), propput] void Any([in, optional] VARIANT V, [in, optional] long N, [in] long New);")
+                interface(
+                    b"2",
+                    body=b"methods: [id(1), propget] long Any([in, optional] VARIANT V, [in, optional] long N); [id(1), propput] void Any([in, optional] VARIANT V, [in, optional] long N, [in] long New);",
+                )
                 + coclass(b"3")
             ),
             [

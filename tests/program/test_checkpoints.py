@@ -21,23 +21,40 @@ later = text_put(b"ab")[0]
 
 class Checkpoints(Served):
     def test_when_a_checkpoint_is_due(self):
-        self.tell("serve: a room of 4,718,597 bytes, and a smaller one", (store.room(store.read(at_limit)), store.room(store.read(due))) == (4_718_597, 4_718_597 - 33), (store.room(store.read(at_limit)), store.room(store.read(due))))
+        self.tell(
+            "serve: a room of 4,718,597 bytes, and a smaller one",
+            (store.room(store.read(at_limit)), store.room(store.read(due))) == (4_718_597, 4_718_597 - 33),
+            (store.room(store.read(at_limit)), store.room(store.read(due))),
+        )
         for name, disk, chosen in (("is not due at a room of 4,718,597 bytes", at_limit, 0), ("is due below", due, 1)):
             with tempfile.TemporaryDirectory() as room:
                 fill(room, {"lib.idl": FULL, "it.store": bytes(disk)})
                 answer = run_in(room, words("--hex"), given=text_put(b"ab")[1])
                 found = store.read(held(room))
-                self.tell(f"serve: a checkpoint {name}", (answer, found.chosen, len(found.groups) > 1) == ((0, wire.reply(1), b""), chosen, chosen == 0), (answer, found.chosen))
-                self.tell(f"serve: a checkpoint {name}: each byte", has_bytes(f"{room}/it.store", store.add(store.settled(disk) if chosen else bytearray(disk), later)))
+                self.tell(
+                    f"serve: a checkpoint {name}",
+                    (answer, found.chosen, len(found.groups) > 1) == ((0, wire.reply(1), b""), chosen, chosen == 0),
+                    (answer, found.chosen),
+                )
+                self.tell(
+                    f"serve: a checkpoint {name}: each byte",
+                    has_bytes(f"{room}/it.store", store.add(store.settled(disk) if chosen else bytearray(disk), later)),
+                )
 
     def test_banks_of_another_size(self):
         # where it is due depends on the room alone, and where the other bank stands on the size
-        disk = store.add(store.formatted(FULL_TEXT, 20_975_616), CREATED_1, *[text_put(LONGEST)[0]] * 15, text_put(bytes(525_892))[0], text_put(bytes(2_000))[0])
+        disk = store.add(
+            store.formatted(FULL_TEXT, 20_975_616), CREATED_1, *[text_put(LONGEST)[0]] * 15, text_put(bytes(525_892))[0], text_put(bytes(2_000))[0]
+        )
         self.tell("serve: a checkpoint is due in banks of another size", store.room(store.read(disk)) < 4_718_597, store.room(store.read(disk)))
         with tempfile.TemporaryDirectory() as room:
             fill(room, {"lib.idl": FULL, "it.store": bytes(disk)})
             answer = run_in(room, words("--hex"), given=text_put(b"ab")[1])
-            self.tell("serve: a checkpoint in banks of another size: each byte", (answer, has_bytes(f"{room}/it.store", store.add(store.settled(disk), later))) == ((0, wire.reply(1), b""), True), answer)
+            self.tell(
+                "serve: a checkpoint in banks of another size: each byte",
+                (answer, has_bytes(f"{room}/it.store", store.add(store.settled(disk), later))) == ((0, wire.reply(1), b""), True),
+                answer,
+            )
 
 
 @unittest.skipIf(STRACE is None, "strace is not there: the calls of the system are not looked at, and no call is made to fail")
@@ -67,11 +84,19 @@ class CheckpointCalls(Served):
             alone = place < opening + settles
             wanted = wire.reply(2, WRITE_FAULT) + wire.reply(1, WRITE_FAULT) + wire.reply(3, E_FAIL if alone else WRITE_FAULT)
             now = text_held(room)
-            self.tell(f"serve: failed is call {place - opening} of a checkpoint and a group, {what}", answer == (0, wanted, b"") and now in ([before] if place < opening + settles + 2 else [before, after]), answer)
+            self.tell(
+                f"serve: failed is call {place - opening} of a checkpoint and a group, {what}",
+                answer == (0, wanted, b"") and now in ([before] if place < opening + settles + 2 else [before, after]),
+                answer,
+            )
 
         def checkpoint_killed(place, what, answer, room):
             if place >= opening:
-                self.tell(f"serve: killed at call {place - opening} of a checkpoint and a group, {what}", answer[1] in (b"", got(2, 0)) and text_held(room) == (after if place == opening + settles + 3 else before), answer)
+                self.tell(
+                    f"serve: killed at call {place - opening} of a checkpoint and a group, {what}",
+                    answer[1] in (b"", got(2, 0)) and text_held(room) == (after if place == opening + settles + 3 else before),
+                    answer,
+                )
 
         each_fails(self, words("--hex", "--group", "3"), files, checkpoint_fails, given=asked)
         each_fails(self, words("--hex", "--group", "3"), files, checkpoint_killed, "signal=KILL", given=asked)
@@ -82,7 +107,10 @@ class CheckpointCalls(Served):
         texts.append(15_728_640 - 8 - 24 - 28 * 15 - sum(texts))
         cells = {(FACE, dispid, ()): (wire.BSTR, struct.pack("<I", length) + bytes(length)) for dispid, length in enumerate(texts, 1)}
         properties = "".join(f"[id({dispid})] BSTR T{dispid}; " for dispid in range(1, 16))
-        library = b"[uuid(11223344-5566-7788-99aa-bbccddeeff01)] library D { [uuid(11223344-5566-7788-99aa-bbccddeeff02)] dispinterface F { properties: %s methods: } [uuid(11223344-5566-7788-99aa-bbccddeeff03)] coclass C { [default] dispinterface F; } }" % properties.encode()
+        library = (
+            b"[uuid(11223344-5566-7788-99aa-bbccddeeff01)] library D { [uuid(11223344-5566-7788-99aa-bbccddeeff02)] dispinterface F { properties: %s methods: } [uuid(11223344-5566-7788-99aa-bbccddeeff03)] coclass C { [default] dispinterface F; } }"
+            % properties.encode()
+        )
         with tempfile.TemporaryDirectory() as room:
             fill(room, {"lib.idl": library})
             text = run_in(room, ["check", "lib.idl"])[1]
@@ -101,4 +129,8 @@ class CheckpointCalls(Served):
             length = len(text) + 15_728_640 + 1
             pieces = [("write", BODY_1 + at, min(65_536, length - at)) for at in range(0, length, 65_536)]
             switch = [("write", 16_785_408, 32), *pieces, ("sync",), ("write", 4096, 1), ("sync",)]
-            self.tell("serve: the largest checkpoint is one head and 241 pieces", (calls.answer, len(pieces), made[opening : opening + len(switch)] == switch) == ((0, wire.reply(1), b""), 241, True), (calls.answer, len(pieces), made[opening : opening + 5]))
+            self.tell(
+                "serve: the largest checkpoint is one head and 241 pieces",
+                (calls.answer, len(pieces), made[opening : opening + len(switch)] == switch) == ((0, wire.reply(1), b""), 241, True),
+                (calls.answer, len(pieces), made[opening : opening + 5]),
+            )

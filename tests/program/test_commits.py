@@ -19,25 +19,48 @@ class Commits(Served):
             with tempfile.TemporaryDirectory() as room:
                 fill(room, files)
                 calls = Calls(room, words("--hex", "--group", str(size)), given=LINES)
-                self.tell(f"serve: the session of every kind of event, groups of {size}", (calls.answer, text_held(room)) == ((0, ANSWERS, b""), table_after(len(SESSION))), calls.answer)
+                self.tell(
+                    f"serve: the session of every kind of event, groups of {size}",
+                    (calls.answer, text_held(room)) == ((0, ANSWERS, b""), table_after(len(SESSION))),
+                    calls.answer,
+                )
             made = calls.does()
             opening = next(place for place, it in enumerate(made) if it[0] == "write")
             self.tell(f"serve: an opening writes nothing, groups of {size}", opens(made[:opening]), made[:opening])
             rest = [it for it in made[opening:] if it != OUT]
-            self.tell(f"serve: two writes and two syncs a group with an event, and none for gets, groups of {size}", [it[0] for it in rest] == COMMIT * len(groups_with_events(size)), rest)
+            self.tell(
+                f"serve: two writes and two syncs a group with an event, and none for gets, groups of {size}",
+                [it[0] for it in rest] == COMMIT * len(groups_with_events(size)),
+                rest,
+            )
             last = len(made) - 1 - made[::-1].index(("sync",))
             self.tell(f"serve: the last reply follows the last sync, groups of {size}", OUT in made[last:], made[last:])
             if size == 1:
                 gate = store.LEAST + len(FULL_TEXT) + 8
-                self.tell("serve: a frame behind the gate, and then the gate", [it[1:] for it in rest if it[0] == "write"][:2] == [(gate + 1, 4 + 21 + 1), (gate, 1)], rest)
+                self.tell(
+                    "serve: a frame behind the gate, and then the gate",
+                    [it[1:] for it in rest if it[0] == "write"][:2] == [(gate + 1, 4 + 21 + 1), (gate, 1)],
+                    rest,
+                )
             for killed in (False, True):
-                each_fails(self, words("--hex", "--group", str(size)), files, judged(self, size, opening, killed), "signal=KILL" if killed else None, given=LINES)
+                each_fails(
+                    self, words("--hex", "--group", str(size)), files, judged(self, size, opening, killed), "signal=KILL" if killed else None, given=LINES
+                )
 
     def test_the_calls_of_a_create_and_a_put(self):
         with tempfile.TemporaryDirectory() as room:
             fill(room, {"lib.idl": SMALL, "it.store": NEW})
             made = Calls(room, words("--hex"), given=REQUESTS).does()
-        written = [("write", 33_562_912, 26), ("sync",), ("write", 33_562_911, 1), ("sync",), ("write", 33_562_938, 38), ("sync",), ("write", 33_562_937, 1), ("sync",)]
+        written = [
+            ("write", 33_562_912, 26),
+            ("sync",),
+            ("write", 33_562_911, 1),
+            ("sync",),
+            ("write", 33_562_938, 38),
+            ("sync",),
+            ("write", 33_562_937, 1),
+            ("sync",),
+        ]
         self.tell("serve: the calls of a create and a put, place by place", [it for it in made if it[0] in ("write", "sync")][2:] == written, made)
 
     def test_the_calls_of_groups(self):
@@ -70,7 +93,11 @@ class Commits(Served):
                 fill(room, {"lib.idl": FULL, "it.store": START})
                 calls = Calls(room, words("--group", "1024", *framing.words), given=framing.pack([bytes.fromhex(CREATE.decode())] * 1_025))
             frames = [it[2] for it in calls.does() if it[0] == "write"][::2]
-            self.tell(f"serve: 1,025 creates in groups of 1,024, {name}", (calls.answer[0], frames) == (0, [4 + 1_024 * 21 + 1, 4 + 21 + 1]), (calls.answer[0], frames))
+            self.tell(
+                f"serve: 1,025 creates in groups of 1,024, {name}",
+                (calls.answer[0], frames) == (0, [4 + 1_024 * 21 + 1, 4 + 21 + 1]),
+                (calls.answer[0], frames),
+            )
 
     def test_the_gate_of_a_group_of_three(self):
         # a put, a get and a put, stopped before the gate's write and where it fails
@@ -80,11 +107,19 @@ class Commits(Served):
         def gate_fails(place, what, answer, room):
             if place == opening_of_three + gate:
                 told = b"".join(wire.reply(tag, WRITE_FAULT) for tag in (1, 2, 3))
-                self.tell("serve: the gate's write of a group of three fails", (answer, what[2]) == ((0, told, b""), 1) and text_held(room) in (table(), table(8)), (answer, text_held(room)))
+                self.tell(
+                    "serve: the gate's write of a group of three fails",
+                    (answer, what[2]) == ((0, told, b""), 1) and text_held(room) in (table(), table(8)),
+                    (answer, text_held(room)),
+                )
 
         def gate_stops(place, what, answer, room):
             if place == opening_of_three + gate:
-                self.tell("serve: a group of three is stopped before its gate's write", (answer[1], text_held(room), what[2]) == (b"", table(), 1), (answer, text_held(room)))
+                self.tell(
+                    "serve: a group of three is stopped before its gate's write",
+                    (answer[1], text_held(room), what[2]) == (b"", table(), 1),
+                    (answer, text_held(room)),
+                )
 
         with tempfile.TemporaryDirectory() as room:
             fill(room, files)

@@ -51,7 +51,13 @@ def serve(size):
     return ["serve", "--group", str(size), "it.store", "lib.idl"]
 
 
-PUTS = [oaut.ask_create(worked.ITEM), worked.put(worked.COUNT, worked.i4(7)), worked.get(worked.COUNT), worked.put(worked.NAME, worked.text(worked.HI)), worked.put(worked.COUNT, worked.i4(8))]
+PUTS = [
+    oaut.ask_create(worked.ITEM),
+    worked.put(worked.COUNT, worked.i4(7)),
+    worked.get(worked.COUNT),
+    worked.put(worked.NAME, worked.text(worked.HI)),
+    worked.put(worked.COUNT, worked.i4(8)),
+]
 
 
 @unittest.skipIf(STRACE is None, "strace is not there: what a crash may leave is not explored")
@@ -118,14 +124,23 @@ class Sessions(Explored):
         session = Session(begins, turns, 1)
         calls, _ = self.traced("puts", serve(1), NEW, TEXT, session.parts(), session.out())
         frame = [place for place, it in enumerate(calls) if it[0] == "write"][4]
-        for behind, tear, count in [(frame, it, 3) for it in ("dropped", "kept", "filled with 1", "filled with 255", "cut behind 5 bytes")] + [(frame + 2, f"filled with {it}", 3) for it in (0, 7)] + [(frame + 2, "kept", 4)]:
+        for behind, tear, count in (
+            [(frame, it, 3) for it in ("dropped", "kept", "filled with 1", "filled with 255", "cut behind 5 bytes")]
+            + [(frame + 2, f"filled with {it}", 3) for it in (0, 7)]
+            + [(frame + 2, "kept", 4)]
+        ):
             with tempfile.TemporaryDirectory(dir=fast_folder()) as room:
                 images = Images(room, NEW)
                 images.leave(calls[: behind + 1], tear)
                 images.close()
                 with open(f"{room}/it.store", "rb") as file:
                     disk = file.read()
-            self.session(f"on a write {behind - frame} that is {tear}", disk, *answered([worked.put(worked.COUNT, worked.i4(9)), worked.put(worked.NAME, worked.text(b"")), oaut.ask_create(worked.ITEM)], PUTS[:count]), 1)
+            self.session(
+                f"on a write {behind - frame} that is {tear}",
+                disk,
+                *answered([worked.put(worked.COUNT, worked.i4(9)), worked.put(worked.NAME, worked.text(b"")), oaut.ask_create(worked.ITEM)], PUTS[:count]),
+                1,
+            )
 
 
 class Commands(Explored):
@@ -189,16 +204,22 @@ class Planted(Explored):
     def test_commits(self):
         kinds = lambda calls: [it[0] for it in calls]
         frame = lambda calls: kinds(calls).index("write")
-        self.spoilt("a commit", NEW, *answered(PUTS), 1, {
-            "no sync before the gate": lambda calls: without(calls, frame(calls) + 1),
-            "no sync behind the gate": lambda calls: without(calls, frame(calls) + 3),
-            "the gate before the frame": lambda calls: moved(calls, frame(calls) + 2, frame(calls)),
-            "the reply before the last sync": lambda calls: moved(calls, kinds(calls).index("told"), frame(calls) + 3),
-            "the reply before all": lambda calls: moved(calls, kinds(calls).index("told"), frame(calls)),
-            "the gate not written": lambda calls: without(calls, frame(calls) + 2),
-            "the frame not written": lambda calls: without(calls, frame(calls)),
-            "a frame of a byte less": lambda calls: [(*it[:2], it[2][:-2]) if place == frame(calls) else it for place, it in enumerate(calls)],
-        })
+        self.spoilt(
+            "a commit",
+            NEW,
+            *answered(PUTS),
+            1,
+            {
+                "no sync before the gate": lambda calls: without(calls, frame(calls) + 1),
+                "no sync behind the gate": lambda calls: without(calls, frame(calls) + 3),
+                "the gate before the frame": lambda calls: moved(calls, frame(calls) + 2, frame(calls)),
+                "the reply before the last sync": lambda calls: moved(calls, kinds(calls).index("told"), frame(calls) + 3),
+                "the reply before all": lambda calls: moved(calls, kinds(calls).index("told"), frame(calls)),
+                "the gate not written": lambda calls: without(calls, frame(calls) + 2),
+                "the frame not written": lambda calls: without(calls, frame(calls)),
+                "a frame of a byte less": lambda calls: [(*it[:2], it[2][:-2]) if place == frame(calls) else it for place, it in enumerate(calls)],
+            },
+        )
 
     def test_checkpoints(self):
         head = lambda calls: next(place for place, it in enumerate(calls) if it[:2] == ("write", store.HEADS[1]))
@@ -207,18 +228,30 @@ class Planted(Explored):
             "no sync of the new body": lambda calls: without(calls, selector(calls) - 1),
             "the selector before that sync": lambda calls: moved(calls, selector(calls), selector(calls) - 1),
         }
-        self.spoilt("a checkpoint", nearly_full(), *answered(DUE_ASKED, DUE_BEFORE), 1, {**no_sync, "the last piece not written": lambda calls: without(calls, selector(calls) - 2)})
+        self.spoilt(
+            "a checkpoint",
+            nearly_full(),
+            *answered(DUE_ASKED, DUE_BEFORE),
+            1,
+            {**no_sync, "the last piece not written": lambda calls: without(calls, selector(calls) - 2)},
+        )
         told = lambda calls: next(place for place, it in enumerate(calls) if it[0] == "told" and place > selector(calls))
-        self.spoilt("a library that is replaced", NEW, *answered(worked.REPLACED), 3, {
-            **no_sync,
-            "the selector before all": lambda calls: moved(calls, selector(calls), head(calls)),
-            "no head": lambda calls: without(calls, head(calls)),
-            "no body": lambda calls: without(calls, head(calls) + 1),
-            "no selector": lambda calls: without(calls, selector(calls)),
-            "no sync behind the selector": lambda calls: without(calls, selector(calls) + 1),
-            "the reply before the last sync": lambda calls: moved(calls, told(calls), selector(calls) + 1),
-            "the reply before the selector": lambda calls: moved(calls, told(calls), selector(calls)),
-        })
+        self.spoilt(
+            "a library that is replaced",
+            NEW,
+            *answered(worked.REPLACED),
+            3,
+            {
+                **no_sync,
+                "the selector before all": lambda calls: moved(calls, selector(calls), head(calls)),
+                "no head": lambda calls: without(calls, head(calls)),
+                "no body": lambda calls: without(calls, head(calls) + 1),
+                "no selector": lambda calls: without(calls, selector(calls)),
+                "no sync behind the selector": lambda calls: without(calls, selector(calls) + 1),
+                "the reply before the last sync": lambda calls: moved(calls, told(calls), selector(calls) + 1),
+                "the reply before the selector": lambda calls: moved(calls, told(calls), selector(calls)),
+            },
+        )
 
     def test_commands(self):
         old, new = State(2, SMALL_TEXT, ONE), State(2, SMALL_TEXT, "next 1\n")

@@ -97,7 +97,9 @@ class Dump(Dumped):
             self.dumps(f"format {form}: both events in one group", store.add(made(SMALL_TEXT), CREATED_1 + PUT_7), 0, ONE)
             self.dumps(f"format {form}: a longer file", disk + b"\xab" * 1_000, 0, ONE)
             self.dumps(f"format {form}: what stands behind the closed gate counts for nothing", changed(disk, body + CLOSED, 0, 21, 0, 0, 0, 9), 0, ONE)
-            self.dumps(f"format {form}: a gate of 255 is closed", changed(disk, body + GATE_2, 255), 0, "next 2\nobject 1 11223344-5566-7788-99aa-bbccddeeff03\n")
+            self.dumps(
+                f"format {form}: a gate of 255 is closed", changed(disk, body + GATE_2, 255), 0, "next 2\nobject 1 11223344-5566-7788-99aa-bbccddeeff03\n"
+            )
             self.dumps(f"format {form}: a gate of 7 is closed", changed(disk, body + GATE, 7), 0, "next 1\n")
             self.dumps(f"format {form}: a library of another first letter", changed(disk, body, 109), 0, ONE)
             settled = store.settled(disk)
@@ -115,9 +117,19 @@ class Dump(Dumped):
         ):
             for words in (["dump", "it.store", "--library"], ["dump", "--library", "it.store"]):
                 self.leaves(f"dump: the library alone, {name}", words, 0, text, b"", {"it.store": disk}, {"it.store": disk})
-        self.leaves("dump: the library of a store that is damaged", ["dump", "--library", "it.store"], 3, b"", fault(f"damaged at {BODIES[2] + GATE}"), {"it.store": changed(TWO, BODIES[2] + GATE + 5, 9)}, {})
+        self.leaves(
+            "dump: the library of a store that is damaged",
+            ["dump", "--library", "it.store"],
+            3,
+            b"",
+            fault(f"damaged at {BODIES[2] + GATE}"),
+            {"it.store": changed(TWO, BODIES[2] + GATE + 5, 9)},
+            {},
+        )
         with open("/dev/full", "wb") as full:
-            self.case("dump: standard output takes no library", ["dump", "--library", "it.store"], 1, None, fault("write fault"), files={"it.store": TWO}, stdout=full)
+            self.case(
+                "dump: standard output takes no library", ["dump", "--library", "it.store"], 1, None, fault("write fault"), files={"it.store": TWO}, stdout=full
+            )
 
     def test_cells_by_their_places(self):
         shuffled = sorted(SORTED, key=lambda it: (it[3], it[1]))
@@ -126,21 +138,39 @@ class Dump(Dumped):
         CREATED_2 = b"\1" + struct.pack("<I", 2) + CLASS
         many = store.add(store.formatted(FULL_TEXT), CREATED_1 + CREATED_2, *events)
         self.dumps("cells by their places", many, 0, "next 3\nobject 1 %s\nobject 2 %s\n%s" % (store.guid_text(CLASS), store.guid_text(CLASS), lines))
-        self.tell("the reader gives the same dump", store.dump(many) == "next 3\nobject 1 %s\nobject 2 %s\n%s" % (store.guid_text(CLASS), store.guid_text(CLASS), lines))
+        self.tell(
+            "the reader gives the same dump",
+            store.dump(many) == "next 3\nobject 1 %s\nobject 2 %s\n%s" % (store.guid_text(CLASS), store.guid_text(CLASS), lines),
+        )
         GRID, GRID_LATER = SORTED[10][3].hex(), struct.pack("<HHIiIi9h", 0x2002, 2, 3, 10, 3, 5, 1, 2, 3, 4, 5, -9, 0, 0, 0).hex()
         grid = name_of(2, 2, [])
         element, redim, release = b"\4" + grid + struct.pack("<HiiHh", 2, 0, 7, 2, -9), b"\5" + grid + struct.pack("<Ii", 3, 10), b"\2" + struct.pack("<I", 1)
-        self.dumps("an element and bounds that change, and an object that goes", store.add(many, element, redim + release), 0, "next 3\nobject 2 %s\n%s" % (store.guid_text(CLASS), lines.replace(GRID, GRID_LATER)))
+        self.dumps(
+            "an element and bounds that change, and an object that goes",
+            store.add(many, element, redim + release),
+            0,
+            "next 3\nobject 2 %s\n%s" % (store.guid_text(CLASS), lines.replace(GRID, GRID_LATER)),
+        )
 
     def test_a_bank_that_is_full(self):
         # a front of 287 bytes, a group of 26, 19 of 1,048,614 and one of 1,047,540: the closed gate is the body's last byte
         full_bank = store.add(store.formatted(SMALL_TEXT), CREATED_1, *[put_text(1_048_576)] * 19, put_text(1_047_502))
         self.tell("a bank that is full has a room of 1", store.room(store.read(full_bank)) == 1)
-        self.dumps("a bank that is full up to its last byte", full_bank, 0, "next 2\nobject 1 %s\ncell %s 2 - %s\n" % (store.guid_text(CLASS), store.guid_text(FACE), text_image(b"A" * 1_047_502).hex()))
+        self.dumps(
+            "a bank that is full up to its last byte",
+            full_bank,
+            0,
+            "next 2\nobject 1 %s\ncell %s 2 - %s\n" % (store.guid_text(CLASS), store.guid_text(FACE), text_image(b"A" * 1_047_502).hex()),
+        )
         # the same in format 1, whose front is as long and whose body has 16,777,184 bytes
         full_bank = store.add(store.formatted_before(SMALL_TEXT), CREATED_1, *[put_text(1_048_576)] * 15, put_text(1_047_622))
         self.tell("a bank of format 1 that is full has a room of 1", store.room(store.read(full_bank)) == 1)
-        self.dumps("a bank of format 1 that is full up to its last byte", full_bank, 0, "next 2\nobject 1 %s\ncell %s 2 - %s\n" % (store.guid_text(CLASS), store.guid_text(FACE), text_image(b"A" * 1_047_622).hex()))
+        self.dumps(
+            "a bank of format 1 that is full up to its last byte",
+            full_bank,
+            0,
+            "next 2\nobject 1 %s\ncell %s 2 - %s\n" % (store.guid_text(CLASS), store.guid_text(FACE), text_image(b"A" * 1_047_622).hex()),
+        )
 
     def is_refused(self, name, disk, text):
         self.dumps(f"{name} is {text}", disk, 3, "", fault(text))
@@ -221,7 +251,15 @@ class Dump(Dumped):
     def test_standard_output_takes_nothing(self):
         with open("/dev/full", "wb") as full:
             self.case("dump: standard output takes nothing", DUMP, 1, None, fault("write fault"), files={"it.store": TWO}, stdout=full)
-            self.case("dump: standard output takes nothing of many lines", DUMP, 1, None, fault("write fault"), files={"it.store": store.add(store.formatted(SMALL_TEXT), b"".join(b"\1" + struct.pack("<I", it) + CLASS for it in range(1, 5_000)))}, stdout=full)
+            self.case(
+                "dump: standard output takes nothing of many lines",
+                DUMP,
+                1,
+                None,
+                fault("write fault"),
+                files={"it.store": store.add(store.formatted(SMALL_TEXT), b"".join(b"\1" + struct.pack("<I", it) + CLASS for it in range(1, 5_000)))},
+                stdout=full,
+            )
 
     def test_little_memory(self):
         big = store.add(store.formatted(FULL_TEXT), CREATED_1, *(b"\3" + name_of(1, 8, [long_image(it)]) + text_image(bytes(100_000)) for it in range(150)))
@@ -260,7 +298,11 @@ class DumpCalls(Cases):
             self.tell("dump: of a bank that holds little, little is read", read < 70_000, read)
             fill(room, {"it.store": bytes(len(TWO))})
             calls = Calls(room, DUMP)
-            self.tell("dump: of what was never formatted the first byte alone is read", (calls.answer, calls.does()) == ((3, b"", fault("not a store")), OPENING[:4]), calls.made)
+            self.tell(
+                "dump: of what was never formatted the first byte alone is read",
+                (calls.answer, calls.does()) == ((3, b"", fault("not a store")), OPENING[:4]),
+                calls.made,
+            )
 
     def test_each_call_fails(self):
         def dump_fails(place, what, got, room):

@@ -32,9 +32,19 @@ class Format(Cases):
         full = bytes(store.formatted(FULL_TEXT))
         self.leaves("format: a store begins anew", FORMAT, 0, FORMATTED, b"", {"lib.idl": SMALL, "it.store": full}, {"it.store": laid_over(full)})
         longer = b"\xab" * (SIZE + 1_000)
-        self.leaves("format: a longer file keeps its length, and what no bank has", FORMAT, 0, FORMATTED, b"", {"lib.idl": SMALL, "it.store": longer}, {"it.store": laid_over(longer)})
+        self.leaves(
+            "format: a longer file keeps its length, and what no bank has",
+            FORMAT,
+            0,
+            FORMATTED,
+            b"",
+            {"lib.idl": SMALL, "it.store": longer},
+            {"it.store": laid_over(longer)},
+        )
         old = OLD + bytes(SIZE - len(OLD))
-        self.leaves("format: a store of format 1 that is long enough", FORMAT, 0, FORMATTED, b"", {"lib.idl": SMALL, "it.store": old}, {"it.store": laid_over(old)})
+        self.leaves(
+            "format: a store of format 1 that is long enough", FORMAT, 0, FORMATTED, b"", {"lib.idl": SMALL, "it.store": old}, {"it.store": laid_over(old)}
+        )
         self.leaves("format: a store of format 1", FORMAT, 3, b"", fault("disk too small"), {"lib.idl": SMALL, "it.store": OLD}, {"it.store": OLD})
         for size in (0, 100, store.LEAST, SIZE - 1):
             disk = bytes(size)
@@ -44,7 +54,15 @@ class Format(Cases):
         for bank in ("20971520", "20971521", "41943040"):
             left = bytes(store.formatted(SMALL_TEXT, int(bank)))
             self.leaves(f"format: banks of {bank} bytes", [*FORMAT, "--bank", bank], 0, FORMATTED, b"", {"lib.idl": SMALL}, {"it.store": left})
-        self.leaves("format: a byte too few for banks of 20,971,521", ["format", "--bank", "20971521", "it.store", "lib.idl"], 3, b"", fault("disk too small"), {"lib.idl": SMALL, "it.store": TWO + b"\0"}, {"it.store": TWO + b"\0"})
+        self.leaves(
+            "format: a byte too few for banks of 20,971,521",
+            ["format", "--bank", "20971521", "it.store", "lib.idl"],
+            3,
+            b"",
+            fault("disk too small"),
+            {"lib.idl": SMALL, "it.store": TWO + b"\0"},
+            {"it.store": TWO + b"\0"},
+        )
         for bank in ("20971519", "1073741825", "4294967296", "0", "-1", "x", "", "20971520.0", "0x1400000"):
             status, out, err = run([*FORMAT, f"--bank={bank}"], files={"lib.idl": SMALL})
             self.tell(f"format: banks of {bank!r} bytes are refused", (status, out, err.startswith(b"error: ")) == (2, b"", True), (status, out, err))
@@ -62,7 +80,11 @@ class Format(Cases):
                     file.seek(place)
                     shown.append(file.read(count))
             head = store.head_of(2, SMALL_TEXT, store.NO_OBJECTS, 1_073_741_824)
-            self.tell("format: the bytes of the largest banks", (shown, os.stat(f"{room}/it.store").st_size) == ([b"\1", b"\0", head, SMALL_TEXT + store.NO_OBJECTS + b"\0"], size), shown)
+            self.tell(
+                "format: the bytes of the largest banks",
+                (shown, os.stat(f"{room}/it.store").st_size) == ([b"\1", b"\0", head, SMALL_TEXT + store.NO_OBJECTS + b"\0"], size),
+                shown,
+            )
             got = run_in(room, ["dump", "it.store"])
             self.tell("dump: the largest banks", got == (0, b"next 1\n", b""), got)
 
@@ -76,28 +98,75 @@ class Format(Cases):
         ):
             files = {} if library is None else {"lib.idl": library}
             self.leaves(f"format: a library {what} makes no file", FORMAT, status, b"", fault(text), files, {"it.store": None})
-            self.leaves(f"format: a library {what} changes no store", FORMAT, status, b"", fault(text), {"it.store": b"\xab" * 100, **files}, {"it.store": b"\xab" * 100})
+            self.leaves(
+                f"format: a library {what} changes no store",
+                FORMAT,
+                status,
+                b"",
+                fault(text),
+                {"it.store": b"\xab" * 100, **files},
+                {"it.store": b"\xab" * 100},
+            )
 
     def test_files_that_cannot_be_written(self):
         self.case("format: a folder for a store", ["format", ".", "lib.idl"], 1, b"", cannot("read", ".", "EISDIR"), files={"lib.idl": SMALL})
-        self.case("format: a device for a store", ["format", "/dev/null", "lib.idl"], 1, b"", cannot("read", "/dev/null", "not a regular file"), files={"lib.idl": SMALL})
-        self.case("format: a folder that is not there", ["format", "none/it.store", "lib.idl"], 1, b"", cannot("write", "none/it.store", "ENOENT"), files={"lib.idl": SMALL})
-        self.case("format: a file's name with a control character", ["format", "none/it\n", "lib.idl"], 1, b"", cannot("write", "none/it\\u{a}", "ENOENT"), files={"lib.idl": SMALL})
+        self.case(
+            "format: a device for a store",
+            ["format", "/dev/null", "lib.idl"],
+            1,
+            b"",
+            cannot("read", "/dev/null", "not a regular file"),
+            files={"lib.idl": SMALL},
+        )
+        self.case(
+            "format: a folder that is not there",
+            ["format", "none/it.store", "lib.idl"],
+            1,
+            b"",
+            cannot("write", "none/it.store", "ENOENT"),
+            files={"lib.idl": SMALL},
+        )
+        self.case(
+            "format: a file's name with a control character",
+            ["format", "none/it\n", "lib.idl"],
+            1,
+            b"",
+            cannot("write", "none/it\\u{a}", "ENOENT"),
+            files={"lib.idl": SMALL},
+        )
 
     def test_limits_of_files(self):
         """A process that may not write files so long is told so, and no signal ends it. What it may write to the last byte is written."""
         for what, files, left in (("no file", {}, None), ("a store", {"it.store": TWO}, TWO)):
             for length in (0, 1_000_000, SIZE - 1):
-                self.leaves(f"format: {what}, and files of {length} bytes at most", FORMAT, 1, b"", cannot("write", "it.store", "EFBIG"), {"lib.idl": SMALL, **files}, {"it.store": left}, before=files_of(length))
+                self.leaves(
+                    f"format: {what}, and files of {length} bytes at most",
+                    FORMAT,
+                    1,
+                    b"",
+                    cannot("write", "it.store", "EFBIG"),
+                    {"lib.idl": SMALL, **files},
+                    {"it.store": left},
+                    before=files_of(length),
+                )
         self.leaves("format: files of the store's length at most", FORMAT, 0, b"formatted\n", b"", {"lib.idl": SMALL}, {"it.store": NEW}, before=files_of(SIZE))
         for length, wanted in ((SIZE - 1, (1, b"", cannot("write", "it.store", "EFBIG"))), (SIZE, (0, b"", b""))):
-            self.leaves(f"serve: files of {length} bytes at most", ["serve", "it.store", "lib.idl"], *wanted, {"lib.idl": SMALL, "it.store": NEW}, {"it.store": NEW}, before=files_of(length))
+            self.leaves(
+                f"serve: files of {length} bytes at most",
+                ["serve", "it.store", "lib.idl"],
+                *wanted,
+                {"lib.idl": SMALL, "it.store": NEW},
+                {"it.store": NEW},
+                before=files_of(length),
+            )
         self.leaves("dump: files of no byte at most", ["dump", "it.store"], 0, b"next 1\n", b"", {"it.store": NEW}, {"it.store": NEW}, before=files_of(0))
 
     def test_standard_output_takes_nothing(self):
         with open("/dev/full", "wb") as full:
             self.leaves("format: standard output takes nothing", FORMAT, 1, None, fault("write fault"), {"lib.idl": SMALL}, {"it.store": NEW}, stdout=full)
-        self.leaves("format: standard output is closed", FORMAT, 1, b"", fault("write fault"), {"lib.idl": SMALL}, {"it.store": NEW}, before=lambda: os.close(1))
+        self.leaves(
+            "format: standard output is closed", FORMAT, 1, b"", fault("write fault"), {"lib.idl": SMALL}, {"it.store": NEW}, before=lambda: os.close(1)
+        )
 
     def test_a_new_file_takes_all_its_blocks(self):
         with tempfile.TemporaryDirectory() as room:
@@ -120,11 +189,22 @@ class FormatCalls(Cases):
             self.tell("format: a new file is locked before it is written", made[:2] == [("lock",), ("length", SIZE)], made[:3])
 
     def test_a_new_file_that_cannot_be_made(self):
-        for inject in ("pwrite64:error=ENOSPC:when=100", "pwrite64:error=EDQUOT:when=1", "ftruncate:error=EFBIG:when=1", "flock:error=EOPNOTSUPP:when=1", "fsync:error=ENOSPC:when=1", "fsync:error=EIO:when=2"):
+        for inject in (
+            "pwrite64:error=ENOSPC:when=100",
+            "pwrite64:error=EDQUOT:when=1",
+            "ftruncate:error=EFBIG:when=1",
+            "flock:error=EOPNOTSUPP:when=1",
+            "fsync:error=ENOSPC:when=1",
+            "fsync:error=EIO:when=2",
+        ):
             with tempfile.TemporaryDirectory() as room:
                 fill(room, {"lib.idl": SMALL})
                 got = Calls(room, FORMAT, inject).answer
-                self.tell(f"format: a file that cannot be made is removed, {inject}", (got, os.path.exists(f"{room}/it.store")) == ((1, b"", cannot("write", "it.store", inject.split("=")[1].split(":")[0])), False), got)
+                self.tell(
+                    f"format: a file that cannot be made is removed, {inject}",
+                    (got, os.path.exists(f"{room}/it.store")) == ((1, b"", cannot("write", "it.store", inject.split("=")[1].split(":")[0])), False),
+                    got,
+                )
 
     def test_a_file_that_is_there(self):
         with tempfile.TemporaryDirectory() as room:
@@ -145,6 +225,10 @@ class FormatCalls(Cases):
     def test_killed_at_each_call(self):
         def format_killed(place, what, got, room):
             now = text_held(room)
-            self.tell(f"format: killed at {what}, call {place}", got[1] == b"" and now == (ONE if place < 3 else "not a store" if place < 9 else "next 1\n"), (got, now))
+            self.tell(
+                f"format: killed at {what}, call {place}",
+                got[1] == b"" and now == (ONE if place < 3 else "not a store" if place < 9 else "next 1\n"),
+                (got, now),
+            )
 
         each_fails(self, FORMAT, {"lib.idl": SMALL, "it.store": TWO}, format_killed, "signal=KILL")

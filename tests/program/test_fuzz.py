@@ -32,8 +32,18 @@ def away_from_zero(count, scale, places):
 # rules that are wrong, one at a time: of the model, and of the reader of stores
 WRONG_RULES = [
     ("a half goes away from zero", fuzz.records, "model.nearest", away_from_zero),
-    ("a text's units are not compared with its bytes", fuzz.records, "asked.text", lambda at: (lambda most, count, units: None if count == store.NO_TEXT else at.take(2 * units)[:count])(*(at.number("I") for _ in range(3)))),
-    ("a DECIMAL has any scale", fuzz.records, "asked.decimal", lambda at: (at.align(8), (lambda it: (it[1], it[2], it[3] << 64 | it[4]))(at.numbers("HBBIQ")))[1]),
+    (
+        "a text's units are not compared with its bytes",
+        fuzz.records,
+        "asked.text",
+        lambda at: (lambda most, count, units: None if count == store.NO_TEXT else at.take(2 * units)[:count])(*(at.number("I") for _ in range(3))),
+    ),
+    (
+        "a DECIMAL has any scale",
+        fuzz.records,
+        "asked.decimal",
+        lambda at: (at.align(8), (lambda it: (it[1], it[2], it[3] << 64 | it[4]))(at.numbers("HBBIQ")))[1],
+    ),
     ("bytes may be left over", fuzz.records, "asked.Bytes.ends", lambda at: None),
     ("DISPIDs are looked up with their cases", fuzz.records, "model.fold", lambda name: name),
     ("a key is in any order", fuzz.stores, "store.place_order", lambda it: (it[0], it[1], [rank for rank in map(store.scalar_image, it[2])])),

@@ -39,7 +39,9 @@ class Groups(Served):
                     replies = b"".join(wire.reply(tag) for tag in range(len(both)))
                     found = store.read(held(room))
                     wanted = groups if group == 4 else [1] * len(both)
-                    well = (answer, events_of(found)) == ((0, replies, b""), [1, *wanted]) and store.dump(held(room)) == store.dump(store.add(bytearray(WITH_ITEM), both[-1][0]))
+                    well = (answer, events_of(found)) == ((0, replies, b""), [1, *wanted]) and store.dump(held(room)) == store.dump(
+                        store.add(bytearray(WITH_ITEM), both[-1][0])
+                    )
                     self.tell(f"serve: texts of {lengths} bytes, groups of {group}: {wanted}", well, (short(answer[1]), events_of(found)))
 
     def test_replies_come_where_a_group_ends_by_its_bytes(self):
@@ -52,7 +54,10 @@ class Groups(Served):
                     told = bool(select.select([session.process.stdout], [], [], 20 if ended else 0.5)[0])
                     self.tell(f"serve: replies to texts of {lengths} bytes before more is sent, groups of 4: {ended}", told == ended)
                     session.process.stdin.close()
-                    self.tell(f"serve: and all of them at the end, {lengths}", (session.line() + session.line(), session.status()) == (wire.reply(0) + wire.reply(1), 0))
+                    self.tell(
+                        f"serve: and all of them at the end, {lengths}",
+                        (session.line() + session.line(), session.status()) == (wire.reply(0) + wire.reply(1), 0),
+                    )
 
     def test_requests_that_wait_for_one_more(self):
         # as many requests as wait for one more, by their number alone: gets, and puts of texts whose events have 524,287 bytes
@@ -87,7 +92,9 @@ class Groups(Served):
                 waits = session.process.poll() is None and not select.select([session.process.stderr], [], [], 0.3)[0] and text_held(room) == table(7)
                 session.send(get(3))
                 told = waits, session.line(session.process.stderr), session.status(), text_held(room)
-                self.tell("serve: a writer that fails is found where a group ends, and the group stands", told == (True, fault("write fault"), 1, table(9)), told)
+                self.tell(
+                    "serve: a writer that fails is found where a group ends, and the group stands", told == (True, fault("write fault"), 1, table(9)), told
+                )
 
     def test_memory_is_refused_within_a_group(self):
         array = wire.array(wire.UI1, [(65_536, 0)], [7] * 65_536)
@@ -105,4 +112,8 @@ class Groups(Served):
                         continue
                     with_cells = {number for number, (_, cells) in store.read(held(room)).objects.items() if cells}
                     break
-            self.tell(f"serve: who is refused for memory is alone refused, groups of {group}", bool(refused) and len(kept) + len(refused) == HOLDERS and with_cells == kept and (status, err) == (0, b""), (mega, status, err, len(kept), len(refused)))
+            self.tell(
+                f"serve: who is refused for memory is alone refused, groups of {group}",
+                bool(refused) and len(kept) + len(refused) == HOLDERS and with_cells == kept and (status, err) == (0, b""),
+                (mega, status, err, len(kept), len(refused)),
+            )

@@ -118,7 +118,11 @@ class Records(Cases):
             due += [*map(stub, cuts), answering.reply(body)]
         for framing in oaut.FRAMINGS.values():
             status, out, err = run(["play", "lib.idl", *framing.words], framing.pack(asked), {"lib.idl": LIBRARY})
-            self.tell(f"{len(asked)} records, of which all but {len(worked.ALL + worked.EVERY_TYPE)} are cut", (status, out == framing.pack(due), err) == (0, True, b""), (status, err))
+            self.tell(
+                f"{len(asked)} records, of which all but {len(worked.ALL + worked.EVERY_TYPE)} are cut",
+                (status, out == framing.pack(due), err) == (0, True, b""),
+                (status, err),
+            )
 
     def test_fields_that_are_broken(self):
         turns = []
@@ -134,15 +138,29 @@ class Records(Cases):
 
     def test_an_array_without_cells_has_any_bounds(self):
         turns = []
-        for bounds, length in (([(65_536, 0), (65_536, 0), (0, 0)], 84), ([(0, 0)], 68), ([(MOST, 0), (0, 0)], 76), ([(0, 0), (MOST, -1)], 76), ([(MOST, 0)] * 15 + [(0, 0)], 188)):
+        for bounds, length in (
+            ([(65_536, 0), (65_536, 0), (0, 0)], 84),
+            ([(0, 0)], 68),
+            ([(MOST, 0), (0, 0)], 76),
+            ([(0, 0), (MOST, -1)], 76),
+            ([(MOST, 0)] * 15 + [(0, 0)], 188),
+        ):
             field = array(I4, bounds, [])
             self.tell(f"an array of the bounds {bounds[:3]} has {length} bytes", (len(field), field[:4]) == (length, struct.pack("<I", (length + 7) // 8)))
             turns.append((f"an array of the bounds {bounds[:3]}", worked.put(worked.ANY, field), done))
-            turns.append((f"an array of the bounds {bounds[:3]} comes back", worked.get(worked.ANY), lambda body, field=field: done(body) + oaut.variant_field(field)))
+            turns.append(
+                (f"an array of the bounds {bounds[:3]} comes back", worked.get(worked.ANY), lambda body, field=field: done(body) + oaut.variant_field(field))
+            )
         self.answered(turns)
 
     def test_counts_of_what_is_not_there(self):
-        self.answered([(f"{it} {name}", changed(request, place, "I", it), stub) for name, request, place in COUNTED for it in (MOST, MOST - 1, 2**31, 2**31 - 1, 65_536, 33)])
+        self.answered(
+            [
+                (f"{it} {name}", changed(request, place, "I", it), stub)
+                for name, request, place in COUNTED
+                for it in (MOST, MOST - 1, 2**31, 2**31 - 1, 65_536, 33)
+            ]
+        )
 
     def test_claims_take_no_memory(self):
         claims = [worked.put(worked.ANY, field) for _, field in BROKEN if len(field) < 400]
@@ -160,7 +178,11 @@ class Records(Cases):
                 session.send(asked)
                 well = well and session.bytes(len(due)) == due
             more = session.peak() - begins[1]
-            self.tell(f"{times * len(bodies)} claims take no more memory than {len(bodies)}", (begins[0], well, more <= 64) == (True, True, True), (begins, well, more))
+            self.tell(
+                f"{times * len(bodies)} claims take no more memory than {len(bodies)}",
+                (begins[0], well, more <= 64) == (True, True, True),
+                (begins, well, more),
+            )
 
 
 # --- stores
@@ -171,7 +193,11 @@ class Stores(Cases):
         """Each byte of what a store has is another one, in turn: `dump` and `serve` say what the reader says that shares no code with the program, and change nothing."""
         put = lambda value: b"\3" + struct.pack("<I", 1) + FACE + struct.pack("<iH", worked.ANY, 0) + value
         front = store.add(store.formatted(TEXT), CREATED, put(struct.pack("<HBBIQ", DECIMAL, 4, 1, 7, 9)))
-        disk = store.add(store.settled(front), put(struct.pack("<HHIi", 0x200C, 1, 2, -1) + struct.pack("<Hi", I4, 7) + struct.pack("<HI", BSTR, 4) + HI), put(struct.pack("<HB", 11, 1)) + CREATED[:1] + struct.pack("<I", 2) + CREATED[5:])
+        disk = store.add(
+            store.settled(front),
+            put(struct.pack("<HHIi", 0x200C, 1, 2, -1) + struct.pack("<Hi", I4, 7) + struct.pack("<HI", BSTR, 4) + HI),
+            put(struct.pack("<HB", 11, 1)) + CREATED[:1] + struct.pack("<I", 2) + CREATED[5:],
+        )
         with tempfile.TemporaryDirectory(dir=fast_folder()) as room:
             file, layout = StoreFile(f"{room}/it.store", disk), layout_of(disk)
             fill(room, {"lib.idl": LIBRARY})
@@ -222,7 +248,12 @@ class Stores(Cases):
                 file.lay()
                 file.change(snapshot + 8, b"\1" + struct.pack("<I", len(event)) + event + b"\0")
                 self.refused(room, f"{MOST} or as many {what} in an event", file, f"damaged at {snapshot + 8}")
-            for what, place, at in (("bytes of a library", head + 12, head), ("bytes of a snapshot", head + 16, head), ("bytes of a bank", head + 20, head), ("bytes of a group", snapshot + 9, snapshot + 8)):
+            for what, place, at in (
+                ("bytes of a library", head + 12, head),
+                ("bytes of a snapshot", head + 16, head),
+                ("bytes of a bank", head + 20, head),
+                ("bytes of a group", snapshot + 9, snapshot + 8),
+            ):
                 for count in (MOST, 2**31, bank):
                     file.lay()
                     file.change(snapshot + 8, b"\1")
@@ -274,7 +305,12 @@ class Sizes(Cases):
         count = 65_536
         numbers = range(1, count + 1)
         listed = wire.objects(CLASS, numbers)
-        self.told("a list of 65,536 objects", LIBRARY, [oaut.ask_create(worked.ITEM)] * count + [oaut.ask_list()], [struct.pack("<II", it, 0) for it in numbers] + [listed])
+        self.told(
+            "a list of 65,536 objects",
+            LIBRARY,
+            [oaut.ask_create(worked.ITEM)] * count + [oaut.ask_list()],
+            [struct.pack("<II", it, 0) for it in numbers] + [listed],
+        )
         with tempfile.TemporaryDirectory(dir=fast_folder()) as room:
             disk = store.add(store.formatted(TEXT), b"".join(b"\1" + struct.pack("<I", it) + CLASS for it in numbers))
             fill(room, {"lib.idl": LIBRARY, "it.store": disk})
@@ -287,7 +323,9 @@ class Sizes(Cases):
     def test_descriptions_of_many_members(self):
         long = lambda at: "M" * 60 + "%03d" % at
         properties = "".join(f"[id({at})] long {long(at)};" for at in range(512))
-        library = HEAD + f"[uuid({guid_of(2)})] dispinterface D {{ properties: {properties} }} [uuid({guid_of(3)})] coclass C {{ dispinterface D; }} }}".encode()
+        library = (
+            HEAD + f"[uuid({guid_of(2)})] dispinterface D {{ properties: {properties} }} [uuid({guid_of(3)})] coclass C {{ dispinterface D; }} }}".encode()
+        )
         described = wire.interface(wire_of(2), "D", [wire.member(at, 0, 0, I4, long(at)) for at in range(512)])
         self.tell("the description of 512 members has above 1,000 bytes", len(described) > 70_000, len(described))
         self.told("an interface of 512 members", library, [oaut.ask_type_info(0)], [described])
@@ -296,16 +334,26 @@ class Sizes(Cases):
         members = [it for at in range(256) for it in (wire.member(at, 2, 0, I4, f"N{at}"), wire.member(at, 4, 0, 24, f"N{at}", [wire.parameter(I4, 1, "V")]))]
         self.told("an interface of 256 gets and 256 puts", library, [oaut.ask_type_info(0)], [wire.interface(wire_of(2), "D", members)])
         parameters = ", ".join(f'[in, optional, defaultvalue("{"x" * 2_000}")] BSTR {"P" * 60}{at}' for at in range(16))
-        library = HEAD + f"[uuid({guid_of(2)})] dispinterface D {{ methods: [id(1)] void M({parameters}); }} [uuid({guid_of(3)})] coclass C {{ dispinterface D; }} }}".encode()
+        library = (
+            HEAD
+            + f"[uuid({guid_of(2)})] dispinterface D {{ methods: [id(1)] void M({parameters}); }} [uuid({guid_of(3)})] coclass C {{ dispinterface D; }} }}".encode()
+        )
         given = [wire.parameter(BSTR, 0x31, f"{'P' * 60}{at}", text("x\0".encode() * 2_000)) for at in range(16)]
-        self.told("a member of 16 parameters with long defaults", library, [oaut.ask_type_info(0)], [wire.interface(wire_of(2), "D", [wire.member(1, 1, 0, 24, "M", given)])])
+        self.told(
+            "a member of 16 parameters with long defaults",
+            library,
+            [oaut.ask_type_info(0)],
+            [wire.interface(wire_of(2), "D", [wire.member(1, 1, 0, 24, "M", given)])],
+        )
 
     def test_descriptions_of_many_entries(self):
         faces = "".join(f"[uuid({guid_of(at + 2)})] dispinterface D{at} {{ properties: }}" for at in range(256))
         entries = " ".join(f"{'[default] ' if at == 7 else ''}dispinterface D{at};" for at in range(256))
         library = HEAD + f"{faces} [uuid({guid_of(1_000)})] coclass C {{ {entries} }} }}".encode()
         coclass = struct.pack("<II", 5, 256) + wire_of(1_000) + wire.string("C") + b"".join(struct.pack("<II", at == 7, at) for at in range(256))
-        self.told("a coclass of 256 interfaces", library, [oaut.ask_type_info(256), oaut.ask_type_info(255)], [coclass, wire.interface(wire_of(257), "D255", [])])
+        self.told(
+            "a coclass of 256 interfaces", library, [oaut.ask_type_info(256), oaut.ask_type_info(255)], [coclass, wire.interface(wire_of(257), "D255", [])]
+        )
 
     def test_stores_with_arrays_of_65_536_cells(self):
         count = 65_536

@@ -49,7 +49,9 @@ class Bytewise(Cases):
             preloaded.fill("given", given)
             got = preloaded.run(["play", "--hex", preloaded.path("lib.idl")], "given", short=1)
             wanted = stub(bytes(LINE_LIMIT // 2)).hex().encode() + b"\n" + CREATED + b"\n"
-            self.tell("the longest line, a byte a read", (got[:3], got.reads >= len(given)) == ((0, wanted, b""), True), (got[0], got[1][:80], got[2], got.reads))
+            self.tell(
+                "the longest line, a byte a read", (got[:3], got.reads >= len(given)) == ((0, wanted, b""), True), (got[0], got[1][:80], got[2], got.reads)
+            )
 
     def test_a_record_as_long_as_it_may_be(self):
         with Preloaded() as preloaded:
@@ -57,7 +59,11 @@ class Bytewise(Cases):
             body = struct.pack("<I", 7) + bytes(LINE_LIMIT // 2 - 4)
             preloaded.fill("given", oaut.Raw.pack([body, bytes.fromhex(CREATE.decode())]))
             got = preloaded.run(["play", preloaded.path("lib.idl")], "given", short=1)
-            self.tell("the longest record, a byte a read", got[:3] == (0, oaut.Raw.pack([stub(body), bytes.fromhex(CREATED.decode())]), b""), (got[0], got[1][:80], got[2], got.reads))
+            self.tell(
+                "the longest record, a byte a read",
+                got[:3] == (0, oaut.Raw.pack([stub(body), bytes.fromhex(CREATED.decode())]), b""),
+                (got[0], got[1][:80], got[2], got.reads),
+            )
 
     def test_cuts_and_interruptions_change_nothing(self):
         """However few bytes a call brings, and however often it is interrupted before that, as long as that is not for ever."""
@@ -133,7 +139,11 @@ class Bytewise(Cases):
             due = oaut.Raw.pack(map(answering.reply, bodies))
             preloaded.fill("given", oaut.Raw.pack(bodies))
             got = preloaded.run(["play", preloaded.path("lib.idl")], "given", short=1)
-            self.tell("replies of 100,000 bytes, a byte a write", (got[:3], got.writes >= len(due)) == ((0, due, b""), True), (got[0], len(got[1]), got[2], got.writes))
+            self.tell(
+                "replies of 100,000 bytes, a byte a write",
+                (got[:3], got.writes >= len(due)) == ((0, due, b""), True),
+                (got[0], len(got[1]), got[2], got.writes),
+            )
 
     def test_files_a_byte_at_a_time(self):
         """Each call of the store's file brings a byte, or a few, or one more or one fewer than the call before: the file is the same as where they bring all."""
@@ -192,7 +202,11 @@ class Full(Cases):
             with open(f"{room}/out", "rb") as file:
                 codes = [struct.unpack_from("<I", it, 4)[0] for it in oaut.Raw.split(file.read(), 0, len(bodies))[0]]
             done = codes.count(0) - 1
-            self.tell("full: some are done, one is in doubt, and no other is begun", 0 < done < 15 and codes == [0] * (done + 1) + [WRITE_FAULT] + [E_FAIL] * (len(texts) - done - 1), codes)
+            self.tell(
+                "full: some are done, one is in doubt, and no other is begun",
+                0 < done < 15 and codes == [0] * (done + 1) + [WRITE_FAULT] + [E_FAIL] * (len(texts) - done - 1),
+                codes,
+            )
             now = StoreFile(f"{room}/it.store", b"").dump()
             with open(f"{room}/dump") as file:
                 told = file.read()
@@ -217,10 +231,20 @@ class Injected(Cases):
             for name in ("in", "in/deep", "else"):
                 os.mkdir(f"{room}/{name}")
             os.symlink("in/deep", f"{room}/link")
-            for path, folder in (("it.store", room), ("in/it.store", f"{room}/in"), ("./in/../else/it.store", f"{room}/else"), (f"{room}/in/deep/it.store", f"{room}/in/deep"), ("link/other.store", f"{room}/in/deep")):
+            for path, folder in (
+                ("it.store", room),
+                ("in/it.store", f"{room}/in"),
+                ("./in/../else/it.store", f"{room}/else"),
+                (f"{room}/in/deep/it.store", f"{room}/in/deep"),
+                ("link/other.store", f"{room}/in/deep"),
+            ):
                 made = self.synced(room, ["format", path, "lib.idl"])
                 found = os.path.realpath(f"{room}/{path}" if not path.startswith("/") else path)
-                self.tell(f"format {path}: the folder is synced behind the file, and nothing else", ({*made}, made.index(folder) > made.index(found) if folder in made and found in made else None) == ({found, folder}, True), made)
+                self.tell(
+                    f"format {path}: the folder is synced behind the file, and nothing else",
+                    ({*made}, made.index(folder) > made.index(found) if folder in made and found in made else None) == ({found, folder}, True),
+                    made,
+                )
                 again = self.synced(room, ["format", path, "lib.idl"])
                 self.tell(f"format {path} again: its folder has the name", folder not in again, again)
 
@@ -237,14 +261,23 @@ class Injected(Cases):
     def goes_on(self, room, name, words):
         log = f"{room}/calls"
         for when in range(1, 9):
-            subprocess.run([STRACE, "-f", "-y", "-s", "0", "-o", log, "-e", f"trace={name}", "-e", f"inject={name}:retval=1:when={when}", PROGRAM, *words], cwd=room, stdout=subprocess.DEVNULL, stderr=subprocess.DEVNULL)
+            subprocess.run(
+                [STRACE, "-f", "-y", "-s", "0", "-o", log, "-e", f"trace={name}", "-e", f"inject={name}:retval=1:when={when}", PROGRAM, *words],
+                cwd=room,
+                stdout=subprocess.DEVNULL,
+                stderr=subprocess.DEVNULL,
+            )
             with open(log) as file:
                 made = [(int(length), int(place)) for length, place in re.findall(rf"{name}\(\d+<[^>]*/it.store>.*, (\d+), (\d+)\)", file.read())]
             if len(made) < when:
                 break
             length, place = made[when - 1]
             if length > 1:
-                self.tell(f"{words[0]}: the {name} of {length} bytes at {place} brings one", made[when : when + 1] == [(length - 1, place + 1)], made[when - 1 : when + 1])
+                self.tell(
+                    f"{words[0]}: the {name} of {length} bytes at {place} brings one",
+                    made[when : when + 1] == [(length - 1, place + 1)],
+                    made[when - 1 : when + 1],
+                )
 
     def test_writes_and_reads_that_bring_nothing(self):
         asked = oaut.Raw.pack(tagged([oaut.ask_create(worked.ITEM)]))

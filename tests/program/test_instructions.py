@@ -18,4 +18,6 @@ class Instructions(Cases):
     def test_no_rise_above_what_is_committed(self):
         for way, committed in instructions.committed().items():
             found = instructions.of_longs(way)
-            self.tell(f"{way}: at most 5 % more instructions a long than in {instructions.TABLE}", 0 < found <= instructions.RISE * committed, (found, committed))
+            self.tell(
+                f"{way}: at most 5 % more instructions a long than in {instructions.TABLE}", 0 < found <= instructions.RISE * committed, (found, committed)
+            )

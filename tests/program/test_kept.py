@@ -54,7 +54,10 @@ class Kept(Cases):
             with open(f"{room}/it.store", "wb") as file:
                 file.truncate(length_of(BANK))
             run_in(room, ["format", "it.store", "lib.idl"])
-            for what, words, more, answer in (("over a store", ["serve", "it.store", "lib.idl", "--hex", "--group", "3"], given, wanted), ("the library of the store", ["dump", "it.store", "--library"], b"", left)):
+            for what, words, more, answer in (
+                ("over a store", ["serve", "it.store", "lib.idl", "--hex", "--group", "3"], given, wanted),
+                ("the library of the store", ["dump", "it.store", "--library"], b"", left),
+            ):
                 got = run_in(room, words, given=more)
                 self.tell(f"{name}: {what}", got == (0, answer, b""), told((0, answer, b""), got))
 

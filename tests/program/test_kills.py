@@ -67,7 +67,14 @@ class Session:
     asked."""
 
     def __init__(self, program, room, group, first, values, long):
-        self.process = subprocess.Popen([program, "serve", "it.store", "lib.idl", "--group", str(group)], cwd=room, stdin=subprocess.PIPE, stdout=subprocess.PIPE, stderr=subprocess.PIPE, bufsize=0)
+        self.process = subprocess.Popen(
+            [program, "serve", "it.store", "lib.idl", "--group", str(group)],
+            cwd=room,
+            stdin=subprocess.PIPE,
+            stdout=subprocess.PIPE,
+            stderr=subprocess.PIPE,
+            bufsize=0,
+        )
         self.first, self.long, self.puts, self.over = first, long, [], False
         self.heard = bytearray()
         self.reads = [(object, dispid) for object in range(1, OBJECTS + 1) for dispid in (COUNT, NAME)]
@@ -179,7 +186,9 @@ class Kills(unittest.TestCase):
                     self.fail(wrong)
             if wrong:
                 return
-        print(f"{TIMES} kills, groups of {', '.join(map(str, GROUPS))}: {self.acknowledged} acknowledged puts were all there, {self.behind} more with them, in whole groups; {self.switched} sessions ended in the other bank")
+        print(
+            f"{TIMES} kills, groups of {', '.join(map(str, GROUPS))}: {self.acknowledged} acknowledged puts were all there, {self.behind} more with them, in whole groups; {self.switched} sessions ended in the other bank"
+        )
 
     def kill(self, group, long):
         """Serves, kills, and looks at what is there."""

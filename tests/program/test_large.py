@@ -72,7 +72,11 @@ class Large(Cases):
                 file.seek(size - 100_000)
                 zeros = file.read() == bytes(100_000)
             found = store.read(held(room))
-            self.tell("upgrade: to the largest banks", (answer, kept, zeros, os.path.getsize(f"{room}/it.store")) == ((0, b"upgraded\n", b""), True, True, size), (answer, kept, zeros))
+            self.tell(
+                "upgrade: to the largest banks",
+                (answer, kept, zeros, os.path.getsize(f"{room}/it.store")) == ((0, b"upgraded\n", b""), True, True, size),
+                (answer, kept, zeros),
+            )
             self.tell("upgrade: to the largest banks, what is there", (found.format, found.chosen, "".join(store.lines(found))) == (2, 1, ONE))
 
     def test_a_table_as_large_as_larger_banks_take(self):
@@ -88,10 +92,18 @@ class Large(Cases):
             codes = [0, 0, 0, MEDIUM_FULL, 0, 0]
             given = b"".join(wire.put(tag, 1, full.LAST, wire.scalar(wire.BSTR, it)) for tag, it in enumerate(asked))
             answer = run_in(room, words("--hex"), given)
-            self.tell("a table as large as larger banks take: puts", answer == (0, b"".join(wire.reply(*it) for it in enumerate(codes)), b""), (answer[0], answer[1][:300], answer[2]))
+            self.tell(
+                "a table as large as larger banks take: puts",
+                answer == (0, b"".join(wire.reply(*it) for it in enumerate(codes)), b""),
+                (answer[0], answer[1][:300], answer[2]),
+            )
             found = store.read(held(room))
             due = {**cells, (FACE, full.LAST, ()): (wire.BSTR, struct.pack("<I", full.LONGEST) + last[1])}
-            self.tell("a table as large as larger banks take: what is there behind a checkpoint", (found.chosen, found.next, found.objects) == (1, 2, {1: (CLASS, due)}), (found.chosen, found.next))
+            self.tell(
+                "a table as large as larger banks take: what is there behind a checkpoint",
+                (found.chosen, found.next, found.objects) == (1, 2, {1: (CLASS, due)}),
+                (found.chosen, found.next),
+            )
             read = wire.get(1, 1, full.LAST)
             wanted = wire.reply(1, fields=wire.field(wire.scalar(wire.BSTR, last[1])))
             self.tell("a table as large as larger banks take: it opens again", run_in(room, words("--hex"), read) == (0, wanted, b""))
@@ -104,11 +116,24 @@ class Large(Cases):
             fill(room, {"lib.idl": full.library(1, "long")})
             library = run_in(room, ["check", "lib.idl"])[1]
             objects = (b"".join(struct.pack("<I", number) + each for number in range(first, first + 1_000)) for first in range(1, OBJECTS, 1_000))
-            self.tell("60,000 objects of 8,000 bytes", laid(room, library, MANY, itertools.chain([struct.pack("<II", OBJECTS + 1, OBJECTS)], objects)) == 8 + OBJECTS * EACH == 480_000_008)
+            self.tell(
+                "60,000 objects of 8,000 bytes",
+                laid(room, library, MANY, itertools.chain([struct.pack("<II", OBJECTS + 1, OBJECTS)], objects)) == 8 + OBJECTS * EACH == 480_000_008,
+            )
             places = (1, OBJECTS // 2, OBJECTS)
-            asked = b"".join(wire.get(it, it, full.LAST) for it in places) + wire.put(2, OBJECTS // 2, full.LAST, wire.scalar(wire.BSTR, b"ab")) + wire.line(3, ask_create(worked.ITEM)) + wire.release(4, 1)
+            asked = (
+                b"".join(wire.get(it, it, full.LAST) for it in places)
+                + wire.put(2, OBJECTS // 2, full.LAST, wire.scalar(wire.BSTR, b"ab"))
+                + wire.line(3, ask_create(worked.ITEM))
+                + wire.release(4, 1)
+            )
             held_text = wire.field(wire.scalar(wire.BSTR, bytes(TEXT)))
-            answered = b"".join(wire.reply(it, fields=held_text) for it in places) + wire.reply(2) + wire.reply(3, fields=struct.pack("<II", OBJECTS + 1, 0)) + wire.reply(4)
+            answered = (
+                b"".join(wire.reply(it, fields=held_text) for it in places)
+                + wire.reply(2)
+                + wire.reply(3, fields=struct.pack("<II", OBJECTS + 1, 0))
+                + wire.reply(4)
+            )
             answer = run_in(room, words("--hex", "--group", "3"), asked)
             self.tell("60,000 objects: a session", answer == (0, answered, b""), (answer[0], answer[1][-300:], answer[2]))
             again = wire.live_objects(1) + wire.get(2, OBJECTS // 2, full.LAST)

@@ -42,7 +42,13 @@ class Libraries(Played):
     def test_files_that_cannot_be_read(self):
         self.case("check: a library that is not there", ["check", "none.idl"], 1, b"", cannot("read", "none.idl", "ENOENT"))
         self.case("check: a folder for a library", ["check", "."], 1, b"", cannot("read", ".", "EISDIR"))
-        self.case("check: a file's name with control characters", ["check", "a\nb\x1b[2J\x7f\u009b\té"], 1, b"", cannot("read", "a\\u{a}b\\u{1b}[2J\\u{7f}\\u{9b}\\u{9}é", "ENOENT"))
+        self.case(
+            "check: a file's name with control characters",
+            ["check", "a\nb\x1b[2J\x7f\u009b\té"],
+            1,
+            b"",
+            cannot("read", "a\\u{a}b\\u{1b}[2J\\u{7f}\\u{9b}\\u{9}é", "ENOENT"),
+        )
         self.case("play: a file's name with a control character", ["play", "none\r.idl", "--hex"], 1, b"", cannot("read", "none\\u{d}.idl", "ENOENT"))
         with open("/dev/full", "wb") as full:
             self.checked("standard output that takes nothing", FULL, 1, None, b"oaut: write fault\n", stdout=full)
@@ -54,11 +60,29 @@ class Libraries(Played):
         with open(f"{ROOT}/docs/idl.md", encoding="utf-8") as file:
             section = file.read().split("## Words that are left out\n")[1].split("\n## ")[0]
         words = [word for row in re.findall(r"^\| (`.*?) \|", section, re.MULTILINE) for word in re.findall(r"`(\w+)`", row)]
-        self.tell("the page has the words", {"double", "DATE", "interface", "enum", "import", "dual", "out"} < {*words} and len(words) == len({*words}) > 60, words)
-        places = [("double", b"long", b"double"), ("DATE", b"long", b"DATE"), ("interface", b"dispinterface DItem {", b"interface DItem {"), ("enum", b"[uuid(11223344-5566-7788-99AA-BBCCDDEEFF02)]", b"enum E { A };")]
-        places += [("import", b"[", b'import "oaidl.idl"; ['), ("dual", b"version(1.0)]", b"version(1.0), dual]"), ("out", b"[id(1)] long Count;", b"methods: [id(1)] void Go([out] long At);")]
+        self.tell(
+            "the page has the words", {"double", "DATE", "interface", "enum", "import", "dual", "out"} < {*words} and len(words) == len({*words}) > 60, words
+        )
+        places = [
+            ("double", b"long", b"double"),
+            ("DATE", b"long", b"DATE"),
+            ("interface", b"dispinterface DItem {", b"interface DItem {"),
+            ("enum", b"[uuid(11223344-5566-7788-99AA-BBCCDDEEFF02)]", b"enum E { A };"),
+        ]
+        places += [
+            ("import", b"[", b'import "oaidl.idl"; ['),
+            ("dual", b"version(1.0)]", b"version(1.0), dual]"),
+            ("out", b"[id(1)] long Count;", b"methods: [id(1)] void Go([out] long At);"),
+        ]
         places += [(word, SMALL, word.encode() + end) for word in words for end in (b" ",)] + [("double", SMALL, b"double")]
-        others = [(None, b"long", b"doubles"), (None, b"long", b"Double"), (None, b"long", b"double_"), (None, SMALL, b"library"), (None, b"Count;", b"Count"), (None, SMALL, b"\"double")]
+        others = [
+            (None, b"long", b"doubles"),
+            (None, b"long", b"Double"),
+            (None, b"long", b"double_"),
+            (None, SMALL, b"library"),
+            (None, b"Count;", b"Count"),
+            (None, SMALL, b'"double'),
+        ]
         for word, old, new in places + others:
             text = SMALL.replace(old, new, 1)
             status, out, err = run(["check", "--where", "lib.idl"], files={"lib.idl": text})
@@ -83,17 +107,45 @@ class Libraries(Played):
     def test_libraries_that_are_refused(self):
         self.refused("an interface too many", library_with(b"".join(interface(b"2", name=b"D%d" % it) for it in range(257))), "limit interfaces")
         self.refused("a coclass too many", library_with(interface(b"2") + b"".join(coclass(b"3", name=b"C%d" % it) for it in range(257))), "limit coclasses")
-        self.refused("a member too many", library_with(interface(b"2", body=b"".join(b"[id(%d)] long P%d;" % (it, it) for it in range(1, 514)))), "limit members")
+        self.refused(
+            "a member too many", library_with(interface(b"2", body=b"".join(b"[id(%d)] long P%d;" % (it, it) for it in range(1, 514)))), "limit members"
+        )
         self.refused("a name twice", library_with(interface(b"2", body=b"[id(1)] long Count; [id(2)] long COUNT;") + coclass(b"3")), "duplicate name COUNT")
         self.refused("an id twice", library_with(interface(b"2", body=b"[id(1)] long Count; [id(1)] long Other;") + coclass(b"3")), "duplicate id Other")
-        self.refused("a parameter twice", library_with(interface(b"2", body=b"methods: [id(1)] void Go(long At, long AT);") + coclass(b"3")), "duplicate name AT")
-        self.refused("two gets of a name", library_with(interface(b"2", body=b"methods: [id(1), propget] long A(); [id(1), propget] long a();") + coclass(b"3")), "duplicate name a")
-        self.refused("a get and a put of two types", library_with(interface(b"2", body=b"methods: [id(1), propget] long A(); [id(1), propput] void a([in] short V);") + coclass(b"3")), "get and put disagree a")
-        self.refused("a get and a put of two ids", library_with(interface(b"2", body=b"methods: [id(1), propget] long A(); [id(2), propput] void a([in] long V);") + coclass(b"3")), "get and put disagree a")
-        self.refused("an array as a property's parameter", library_with(interface(b"2", body=b"methods: [id(1), propget] long A(SAFEARRAY(long) By);") + coclass(b"3")), "array parameter By")
-        self.refused("a default out of range", library_with(interface(b"2", body=b"methods: [id(1)] void Go([defaultvalue(40000)] short At);") + coclass(b"3")), "bad default At")
+        self.refused(
+            "a parameter twice", library_with(interface(b"2", body=b"methods: [id(1)] void Go(long At, long AT);") + coclass(b"3")), "duplicate name AT"
+        )
+        self.refused(
+            "two gets of a name",
+            library_with(interface(b"2", body=b"methods: [id(1), propget] long A(); [id(1), propget] long a();") + coclass(b"3")),
+            "duplicate name a",
+        )
+        self.refused(
+            "a get and a put of two types",
+            library_with(interface(b"2", body=b"methods: [id(1), propget] long A(); [id(1), propput] void a([in] short V);") + coclass(b"3")),
+            "get and put disagree a",
+        )
+        self.refused(
+            "a get and a put of two ids",
+            library_with(interface(b"2", body=b"methods: [id(1), propget] long A(); [id(2), propput] void a([in] long V);") + coclass(b"3")),
+            "get and put disagree a",
+        )
+        self.refused(
+            "an array as a property's parameter",
+            library_with(interface(b"2", body=b"methods: [id(1), propget] long A(SAFEARRAY(long) By);") + coclass(b"3")),
+            "array parameter By",
+        )
+        self.refused(
+            "a default out of range",
+            library_with(interface(b"2", body=b"methods: [id(1)] void Go([defaultvalue(40000)] short At);") + coclass(b"3")),
+            "bad default At",
+        )
         self.refused("an id that is none", SMALL.replace(b"id(1)", b"id(-1)"), f"syntax at byte {SMALL.index(b'id(1)') + 4}")
-        self.refused("a parameter too many", library_with(interface(b"2", body=b"methods: [id(1)] void Go(" + b", ".join(b"long P%d" % it for it in range(17)) + b");") + coclass(b"3")), "limit params")
+        self.refused(
+            "a parameter too many",
+            library_with(interface(b"2", body=b"methods: [id(1)] void Go(" + b", ".join(b"long P%d" % it for it in range(17)) + b");") + coclass(b"3")),
+            "limit params",
+        )
         self.refused("a canonical text above the limit", long_when_printed(), "limit text")
         self.refused("a GUID twice", library_with(interface(b"2") + coclass(b"1")), "duplicate guid 11223344-5566-7788-99aa-bbccddeeff01")
         self.refused("an interface that is not there", library_with(interface(b"2") + coclass(b"3", body=b"dispinterface Other;")), "unknown interface Other")
@@ -116,14 +168,25 @@ class Libraries(Played):
         self.case("check: standard input", ["check", "-"], 0, FULL_TEXT, b"", given=FULL)
         self.case("check: standard input that is not UTF-8", ["check", "-"], 2, b"", b"oaut: library is not UTF-8\n", given=b"\xff")
         self.case("check: standard input of no bytes", ["check", "-"], 2, b"", b"oaut: syntax at byte 0\n")
-        self.case("play: standard input cannot hold library and requests", ["play", "-", "--hex"], 2, b"", b"oaut: standard input holds the requests, so LIB cannot be -\n", given=SMALL)
+        self.case(
+            "play: standard input cannot hold library and requests",
+            ["play", "-", "--hex"],
+            2,
+            b"",
+            b"oaut: standard input holds the requests, so LIB cannot be -\n",
+            given=SMALL,
+        )
         with tempfile.TemporaryDirectory() as folder:
             fault = os.open(folder, os.O_RDONLY)
             self.case("check: standard input that cannot be read", ["check", "-"], 1, b"", cannot("read", "-", "EISDIR"), stdin=fault)
             os.close(fault)
 
     def test_texts_far_above_the_limit(self):
-        for name, at, text in (("UTF-8", None, b"limit text"), ("not UTF-8 at its end", HUGE, b"library is not UTF-8"), ("not UTF-8 soon", 270_000, b"library is not UTF-8")):
+        for name, at, text in (
+            ("UTF-8", None, b"limit text"),
+            ("not UTF-8 at its end", HUGE, b"library is not UTF-8"),
+            ("not UTF-8 soon", 270_000, b"library is not UTF-8"),
+        ):
             with tempfile.TemporaryDirectory() as room:
                 with open(f"{room}/lib.idl", "wb") as file:
                     file.truncate(HUGE)

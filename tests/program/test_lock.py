@@ -39,7 +39,9 @@ class Lock(Cases):
             second.append(run_in(room, words("--hex"), given=put(1, 101)))
             self.tell("lock: a second server is refused", second == [in_use()] * 2, second)
             first.process.stdin.close()
-            self.tell("lock: what the first one has acknowledged is there", (told, first.status(), text_held(room)) == ([wire.reply(1)] * 52, 0, table(59)), told)
+            self.tell(
+                "lock: what the first one has acknowledged is there", (told, first.status(), text_held(room)) == ([wire.reply(1)] * 52, 0, table(59)), told
+            )
         third = run_in(room, words("--hex"), given=get(1))
         self.tell("lock: and once it has ended another one opens the store", third == (0, got(1, 59), b""), third)
 
@@ -64,7 +66,10 @@ class Lock(Cases):
             got_ = run_in(room, ["serve", "it.store", "none.idl"])
             self.tell("lock: a library that is not there goes before a store that is in use", got_ == (1, b"", cannot("read", "none.idl", "ENOENT")), got_)
             fcntl.flock(file, fcntl.LOCK_UN)
-            self.tell("lock: the store is as it was", (text_held(room), os.stat(f"{room}/it.store").st_size, run_in(room, ["dump", "it.store"])) == (ONE, len(OLD), (0, ONE.encode(), b"")))
+            self.tell(
+                "lock: the store is as it was",
+                (text_held(room), os.stat(f"{room}/it.store").st_size, run_in(room, ["dump", "it.store"])) == (ONE, len(OLD), (0, ONE.encode(), b"")),
+            )
         with open(f"{room}/lib.idl", "rb") as file:
             fcntl.flock(file, fcntl.LOCK_EX)
             got_ = run_in(room, ["check", "lib.idl"])
@@ -79,7 +84,9 @@ class Lock(Cases):
                 first.process.kill()
                 first.process.wait()
                 second = run_in(room, words("--hex"), given=get(1))
-                self.tell("lock: the next server opens the store at once behind a kill", (told, second) == (wire.reply(1), (0, got(1, value), b"")), (told, second))
+                self.tell(
+                    "lock: the next server opens the store at once behind a kill", (told, second) == (wire.reply(1), (0, got(1, value), b"")), (told, second)
+                )
 
     def test_other_names_of_a_file(self):
         room = self.room()
@@ -89,7 +96,12 @@ class Lock(Cases):
         with Talk(SMALL, room=room, command=SERVE) as first:
             first.send(get(1))
             first.line()
-            for name, shown in (("hard.store", "hard.store"), ("soft.store", "soft.store"), (f"{room}/it.store", f"{room}/it.store"), ("new\nline", "new\\u{a}line")):
+            for name, shown in (
+                ("hard.store", "hard.store"),
+                ("soft.store", "soft.store"),
+                (f"{room}/it.store", f"{room}/it.store"),
+                ("new\nline", "new\\u{a}line"),
+            ):
                 got_ = run_in(room, ["serve", name, "lib.idl"])
                 self.tell(f"lock: the same file as {shown}", got_ == in_use(shown), got_)
             os.rename(f"{room}/it.store", f"{room}/moved.store")
@@ -128,7 +140,11 @@ class LockCalls(Cases):
                     made = re.findall(r"^\d+ +(\w+)\((\d+)<[^>]*/it\.store>", file.read(), re.MULTILINE)
                 first = next(place for place, (name, _) in enumerate(made) if name == "pwrite64")
                 locks = [it for it in made[:first] if it[0] == "flock"]
-                self.tell(f"lock: before the first write of {command[0]}, on its descriptor", answer[0] == 0 and locks and locks[-1][1] == made[first][1] and made[0][0] == "flock", made[:6])
+                self.tell(
+                    f"lock: before the first write of {command[0]}, on its descriptor",
+                    answer[0] == 0 and locks and locks[-1][1] == made[first][1] and made[0][0] == "flock",
+                    made[:6],
+                )
 
     def test_the_lock_cannot_be_had(self):
         with tempfile.TemporaryDirectory() as room:
@@ -141,11 +157,19 @@ class LockCalls(Cases):
                     self.tell(f"lock: {error}, {command[0]}", (calls.answer, others, text_held(room)) == (wanted, [], ONE), (calls.answer, others))
 
     def test_the_lock_is_interrupted(self):
-        for command, wanted in ((words("--hex"), (0, got(1, 7), b"")), (["dump", "it.store"], (0, ONE.encode(), b"")), (["upgrade", "it.store"], (3, b"", fault("already format 2")))):
+        for command, wanted in (
+            (words("--hex"), (0, got(1, 7), b"")),
+            (["dump", "it.store"], (0, ONE.encode(), b"")),
+            (["upgrade", "it.store"], (3, b"", fault("already format 2"))),
+        ):
             with tempfile.TemporaryDirectory() as room:
                 fill(room, {"lib.idl": SMALL, "it.store": TWO})
                 calls = Calls(room, command, "flock:error=EINTR:when=1", given=get(1))
-                self.tell(f"lock: it is interrupted, {command[0]}", (calls.answer, calls.does()[:3]) == (wanted, [("lock",), ("lock",), ("sync",)]), (calls.answer, calls.does()[:3]))
+                self.tell(
+                    f"lock: it is interrupted, {command[0]}",
+                    (calls.answer, calls.does()[:3]) == (wanted, [("lock",), ("lock",), ("sync",)]),
+                    (calls.answer, calls.does()[:3]),
+                )
 
     def test_a_device_that_has_failed(self):
         with tempfile.TemporaryDirectory() as room:
@@ -159,4 +183,8 @@ class LockCalls(Cases):
                 first.process.stdin.close()
                 ended = first.status()
             third = run_in(room, words("--hex"), given=get(1))
-            self.tell("lock: and once its session has ended another one opens the store", (ended, third in ((0, got(1, 7), b""), (0, got(1, 8), b""))) == (0, True), (ended, third))
+            self.tell(
+                "lock: and once its session has ended another one opens the store",
+                (ended, third in ((0, got(1, 7), b""), (0, got(1, 8), b""))) == (0, True),
+                (ended, third),
+            )

@@ -73,17 +73,26 @@ class Memory(Cases):
         self.tell("it holds its table", size < 1_024 * put[0] < size + 8 * 1_024 * MEBIBYTE, put)
         self.tell("a checkpoint takes no memory", max(with_checkpoint) <= max(put) + PAGES, found)
         self.tell("nor does what goes on behind it", max(found["a put behind it"]) <= max(put) + PAGES, found)
-        self.tell("REPLACE LIBRARY takes its library's, and gives it back", max(found["REPLACE LIBRARY"]) <= max(put) + MEBIBYTE and max(found["a put behind that"]) <= max(put) + MEBIBYTE, found)
+        self.tell(
+            "REPLACE LIBRARY takes its library's, and gives it back",
+            max(found["REPLACE LIBRARY"]) <= max(put) + MEBIBYTE and max(found["a put behind that"]) <= max(put) + MEBIBYTE,
+            found,
+        )
 
 
 class Stack(Cases):
     def test_the_largest_inputs_in_a_small_stack(self):
         """Nothing in it is as deep as an input is long or nested."""
         interface = b"[uuid(11223344-5566-7788-99aa-bbccddeeff02)] dispinterface F { properties: [id(1)] SAFEARRAY(VARIANT) A; [id(2)] BSTR B; %s methods: }"
-        library = lambda more: b"[uuid(11223344-5566-7788-99aa-bbccddeeff01)] library D { %s [uuid(11223344-5566-7788-99aa-bbccddeeff03)] coclass C { [default] dispinterface F; } }" % (interface % more)
+        library = (
+            lambda more: b"[uuid(11223344-5566-7788-99aa-bbccddeeff01)] library D { %s [uuid(11223344-5566-7788-99aa-bbccddeeff03)] coclass C { [default] dispinterface F; } }"
+            % (interface % more)
+        )
         long = library(b"".join(b"[id(%d)] VARIANT T%d; " % (it, it) for it in range(3, 500)))
         values = [wire.array(wire.VARIANT, [(65_536, 0)], [(wire.I4, 5)] * 65_536), wire.array(wire.VARIANT, [(1, 0)] * 16, [(wire.I4, 5)])]
-        puts = b"".join(wire.put(2, 1, 1, it) + wire.get(3, 1, 1) for it in values) + wire.put(4, 1, 2, wire.scalar(wire.BSTR, bytes(2**20))) + wire.get(5, 1, 2)
+        puts = (
+            b"".join(wire.put(2, 1, 1, it) + wire.get(3, 1, 1) for it in values) + wire.put(4, 1, 2, wire.scalar(wire.BSTR, bytes(2**20))) + wire.get(5, 1, 2)
+        )
         objects = (CREATE + b"\n") * 1_000 + wire.live_objects(1)
         due = oaut.Raw.pack([struct.pack("<I", tag) + it for tag, it in enumerate(DUE_ASKED + worked.REPLACED)])
         for name, words, given, files, status in (
@@ -122,13 +131,21 @@ class Asked(Cases):
                     for name, session in sessions:
                         if group is not None or not session.before:
                             found = self.larges(Over(preloaded, session, framing, group))
-                            self.tell(f"{name}, {framing}, {'in memory' if group is None else f'groups of {group}'}: no block of {LARGE} bytes", found == 0, found)
+                            self.tell(
+                                f"{name}, {framing}, {'in memory' if group is None else f'groups of {group}'}: no block of {LARGE} bytes", found == 0, found
+                            )
                     found = self.larges(Over(preloaded, long, framing, group))
                     self.tell(f"a text of {len(LONG)} bytes takes some", found > 0, found)
 
     def test_what_a_value_asks_for(self):
         """The reply to a get takes one growth, whatever its value is, and a refusal none; what is put is read once, and a text takes its own block beside that."""
-        front = [oaut.ask_create(worked.ITEM), worked.put(worked.COUNT, worked.i4(7)), worked.put(worked.NAME, worked.text(LONG)), worked.put(worked.GRID, worked.GRID_1_TO_6), worked.put(worked.ANY, worked.OF_VARIANTS)]
+        front = [
+            oaut.ask_create(worked.ITEM),
+            worked.put(worked.COUNT, worked.i4(7)),
+            worked.put(worked.NAME, worked.text(LONG)),
+            worked.put(worked.GRID, worked.GRID_1_TO_6),
+            worked.put(worked.ANY, worked.OF_VARIANTS),
+        ]
         times = 20
         with Preloaded() as preloaded:
             begun = Over(preloaded, Session("", front)).run().calls
@@ -169,7 +186,11 @@ class Asked(Cases):
             puts = [worked.put(it, worked.i4(it)) for it in range(1, cells + 1)]
             one = holds(create)
             rising, scattered = holds(create, *puts) - one, holds(create, *(puts[it * 1_021 % cells] for it in range(cells))) - one
-            self.tell("cells by rising and by scattered names take as much, but for an eighth", max(rising, scattered) <= 9 / 8 * min(rising, scattered), (rising, scattered))
+            self.tell(
+                "cells by rising and by scattered names take as much, but for an eighth",
+                max(rising, scattered) <= 9 / 8 * min(rising, scattered),
+                (rising, scattered),
+            )
             empty, objects = holds(create, releases[0]), holds(*[create] * count)
             some = holds(*[create] * count, *(it for at, it in enumerate(releases) if at % 16))
             self.tell("objects that were released leave an eighth at most", some - empty <= (objects - empty) / 8, (objects, some, empty))

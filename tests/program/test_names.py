@@ -13,7 +13,10 @@ from turns import calls, describes, looks_up
 ITEM = bytes.fromhex("443322116655887799aabbccddeeff02")
 MARKED, BOTH, DEFAULT = 0x1, 0x11, 0x31
 DEFAULTS = library_with(
-    interface(b"2", body=b"methods: [id(1)] long Sum(SAFEARRAY(short) Of, [in, optional] BSTR To, [in, defaultvalue(-2)] CURRENCY By, [in, defaultvalue(\"x\")] VARIANT Or);")
+    interface(
+        b"2",
+        body=b'methods: [id(1)] long Sum(SAFEARRAY(short) Of, [in, optional] BSTR To, [in, defaultvalue(-2)] CURRENCY By, [in, defaultvalue("x")] VARIANT Or);',
+    )
     + coclass(b"3")
 )
 OF_EACH = [
@@ -129,7 +132,25 @@ class Descriptions(Played):
         self.talk(
             "defaults of each kind",
             library_with(interface(b"2", body=f"methods: [id(10)] void Clear({parameters});".encode()) + coclass(b"3")),
-            [describes(0, wire.interface(ITEM, "DItem", [wire.member(10, 1, 0, VOID, "Clear", [wire.parameter(vt, DEFAULT & ~MARKED, f"P{place}", value) for place, (vt, _, value) in enumerate(OF_EACH)])]))],
+            [
+                describes(
+                    0,
+                    wire.interface(
+                        ITEM,
+                        "DItem",
+                        [
+                            wire.member(
+                                10,
+                                1,
+                                0,
+                                VOID,
+                                "Clear",
+                                [wire.parameter(vt, DEFAULT & ~MARKED, f"P{place}", value) for place, (vt, _, value) in enumerate(OF_EACH)],
+                            )
+                        ],
+                    ),
+                )
+            ],
         )
 
     def test_names_of_64_characters(self):

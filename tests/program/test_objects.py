@@ -72,7 +72,17 @@ class Limits(Played):
         self.tell("the image of a table at its limit", 8 + FULL_NAMES * (52 + WHOLE_TEXT) + 52 + FITS == TABLE_LIMIT)
 
     def test_a_table_above_its_limit(self):
-        self.talk("a table above its limit", FULL, [*NEARLY_FULL, puts_of(LAST, NAME_ID, name_of(FITS + 1), MEDIUM_FULL), of(LAST, NAME_ID, wire.scalar(wire.BSTR)), releases(1), puts_of(LAST, NAME_ID, name_of(FITS + 1))])
+        self.talk(
+            "a table above its limit",
+            FULL,
+            [
+                *NEARLY_FULL,
+                puts_of(LAST, NAME_ID, name_of(FITS + 1), MEDIUM_FULL),
+                of(LAST, NAME_ID, wire.scalar(wire.BSTR)),
+                releases(1),
+                puts_of(LAST, NAME_ID, name_of(FITS + 1)),
+            ],
+        )
 
     def test_a_table_at_its_limit(self):
         self.talk(
@@ -102,7 +112,10 @@ class Limits(Played):
         with tempfile.TemporaryDirectory() as room:
             fill(room, {"lib.idl": FULL})
             run_in(room, ["format", "it.store", "lib.idl", "--bank", str(TABLE_LIMIT + 5_242_880 + 1)])
-            self.tell("a table above the limit of memory in larger banks", run_in(room, ["serve", "it.store", "lib.idl", "--hex", "--group", "16"], given=asked) == (0, answered, b""))
+            self.tell(
+                "a table above the limit of memory in larger banks",
+                run_in(room, ["serve", "it.store", "lib.idl", "--hex", "--group", "16"], given=asked) == (0, answered, b""),
+            )
             refused = puts_of(LAST, NAME_ID, name_of(FITS + 2), MEDIUM_FULL)
             self.tell("and at its own limit", run_in(room, ["serve", "it.store", "lib.idl", "--hex"], given=refused[0](1)) == (0, refused[1](1), b""))
 

@@ -32,7 +32,12 @@ coclass C {
 }
 }
 """
-IMAGES = {"i": struct.pack("<Hi", 3, 7), "s": struct.pack("<Hh", 2, 7), "a": struct.pack("<HHIii", 0x2003, 1, 1, 0, 7), "b": struct.pack("<HHIih", 0x2002, 1, 1, 0, 7)}
+IMAGES = {
+    "i": struct.pack("<Hi", 3, 7),
+    "s": struct.pack("<Hh", 2, 7),
+    "a": struct.pack("<HHIii", 0x2003, 1, 1, 0, 7),
+    "b": struct.pack("<HHIih", 0x2002, 1, 1, 0, 7),
+}
 
 
 class Opening(Served):
@@ -42,10 +47,20 @@ class Opening(Served):
             self.tell(f"serve: a group of {refusal!r} is refused", (status, out, err.startswith(b"error: ")) == (2, b"", True), (status, out, err))
 
     def test_files_that_are_refused(self):
-        self.case("serve: a library that is refused goes before a store that is not there", words(), 2, b"", fault("syntax at byte 0"), files={"lib.idl": b"library"})
+        self.case(
+            "serve: a library that is refused goes before a store that is not there", words(), 2, b"", fault("syntax at byte 0"), files={"lib.idl": b"library"}
+        )
         self.case("serve: a library that is not there", words(), 1, b"", cannot("read", "lib.idl", "ENOENT"), files={"it.store": NEW})
         self.case("serve: a store that is not there", words(), 1, b"", cannot("read", "it.store", "ENOENT"), files={"lib.idl": SMALL})
-        self.case("serve: standard input cannot hold library and requests", ["serve", "it.store", "-"], 2, b"", fault("standard input holds the requests, so LIB cannot be -"), files={"it.store": NEW}, given=SMALL)
+        self.case(
+            "serve: standard input cannot hold library and requests",
+            ["serve", "it.store", "-"],
+            2,
+            b"",
+            fault("standard input holds the requests, so LIB cannot be -"),
+            files={"it.store": NEW},
+            given=SMALL,
+        )
 
     def test_stores_that_are_refused(self):
         body = BODIES[2]
@@ -101,5 +116,21 @@ class Opening(Served):
     def test_the_last_number_that_an_object_can_have(self):
         last = bytes(changed(NEW, BODIES[2] + len(SMALL_TEXT), *struct.pack("<I", 4_294_967_294)))
         left = bytes(store.add(bytearray(last), b"\1" + struct.pack("<I", 4_294_967_294) + CLASS))
-        self.serves("the last number", (CREATE + b"\n") * 2, 0, wire.reply(1, fields=struct.pack("<II", 4_294_967_294, 0)) + wire.reply(1, 0x8000_FFFF), b"", last, left, "--hex")
-        self.case("dump: the last number", ["dump", "it.store"], 0, b"next 4294967295\nobject 4294967294 %s\n" % store.guid_text(CLASS).encode(), b"", files={"it.store": left})
+        self.serves(
+            "the last number",
+            (CREATE + b"\n") * 2,
+            0,
+            wire.reply(1, fields=struct.pack("<II", 4_294_967_294, 0)) + wire.reply(1, 0x8000_FFFF),
+            b"",
+            last,
+            left,
+            "--hex",
+        )
+        self.case(
+            "dump: the last number",
+            ["dump", "it.store"],
+            0,
+            b"next 4294967295\nobject 4294967294 %s\n" % store.guid_text(CLASS).encode(),
+            b"",
+            files={"it.store": left},
+        )

@@ -37,7 +37,9 @@ class RawMemory(Cases):
                 while number <= calls:
                     found = room.run([name], program=VALUES, refuse=number)
                     calls = found.calls
-                    self.tell(f"{name}, call {number} refused", (found.status, found.left) == (0, 0), (found.status, found.left, found.out[-200:], found.err[-200:]))
+                    self.tell(
+                        f"{name}, call {number} refused", (found.status, found.left) == (0, 0), (found.status, found.left, found.out[-200:], found.err[-200:])
+                    )
                     refused, number = refused + 1, number + 1
         print(f"raw memory: {refused} calls of the allocator refused in turn")
 
@@ -49,7 +51,11 @@ class RawMemory(Cases):
                 self.tell(f"{name} with ample memory", (ample.status, ample.left, ample.calls > 0) == (0, 0, True), ample)
                 for since in range(1, ample.calls + 1):
                     found = room.run([name], program=tests, refuse_from=since)
-                    self.tell(f"{name}, refused from call {since} on", found.status != 0 and NOT_MADE in found.out + found.err, (found.status, found.out[-200:], found.err[-200:]))
+                    self.tell(
+                        f"{name}, refused from call {since} on",
+                        found.status != 0 and NOT_MADE in found.out + found.err,
+                        (found.status, found.out[-200:], found.err[-200:]),
+                    )
                     tried += 1
         self.tell("some are tried", tried > 0, tried)
         print(f"calls without memory: all refused from {tried} calls of the allocator on")

@@ -34,17 +34,37 @@ LOSSES = [
     ("a property that may no longer be put", FULL.replace(b"[id(1)]", b"[id(1), readonly]"), FACE, 1),
     ("another name of a parameter", FULL.replace(b"long Row", b"long Line"), FACE, 9),
     ("a parameter that is no longer in", FULL.replace(b"[in] BSTR Key", b"BSTR Key"), FACE, 9),
-    ("the default interface", FULL.replace(b"[default] dispinterface DItem;", b"dispinterface DItem; [default] dispinterface DNew;").replace(b"  [uuid(11223344-5566-7788-99AA-BBCCDDEEFF03)]", b"  [uuid(11223344-5566-7788-99AA-BBCCDDEEFF06)] dispinterface DNew { properties: methods: };\n  [uuid(11223344-5566-7788-99AA-BBCCDDEEFF03)]"), CLASS, -1),
+    (
+        "the default interface",
+        FULL.replace(b"[default] dispinterface DItem;", b"dispinterface DItem; [default] dispinterface DNew;").replace(
+            b"  [uuid(11223344-5566-7788-99AA-BBCCDDEEFF03)]",
+            b"  [uuid(11223344-5566-7788-99AA-BBCCDDEEFF06)] dispinterface DNew { properties: methods: };\n  [uuid(11223344-5566-7788-99AA-BBCCDDEEFF03)]",
+        ),
+        CLASS,
+        -1,
+    ),
 ]
 # other libraries that keep all of it
 KEPT = [
     ("the same text", FULL),
     ("its canonical text", FULL_TEXT),
     ("a new property", FULL.replace(b"methods:", b"[id(11)] VARIANT More; methods:")),
-    ("another order", FULL.replace(b"[id(1)] long Count;\n", b"").replace(b"[id(8)] SAFEARRAY(short) Grid;", b"[id(8)] SAFEARRAY(short) Grid; [id(1)] long Count;")),
+    (
+        "another order",
+        FULL.replace(b"[id(1)] long Count;\n", b"").replace(b"[id(8)] SAFEARRAY(short) Grid;", b"[id(8)] SAFEARRAY(short) Grid; [id(1)] long Count;"),
+    ),
     ("names in other letters", FULL.replace(b"Count;", b"COUNT;").replace(b"long Row", b"long ROW")),
-    ("another GUID and another name of the library", FULL.replace(b"BBCCDDEEFF01", b"BBCCDDEEFF09").replace(b"library Demo", b"library Other").replace(b"version(1.0)", b"version(2.7)")),
-    ("another coclass and another interface", FULL.replace(b"  [uuid(11223344-5566-7788-99AA-BBCCDDEEFF03)]", b"  [uuid(11223344-5566-7788-99AA-BBCCDDEEFF06)] dispinterface DNew { properties: [id(1)] long Count; methods: };\n  [uuid(11223344-5566-7788-99AA-BBCCDDEEFF07)] coclass New { dispinterface DNew; };\n  [uuid(11223344-5566-7788-99AA-BBCCDDEEFF03)]").replace(b"[default] dispinterface DItem;", b"[default] dispinterface DItem; dispinterface DNew;")),
+    (
+        "another GUID and another name of the library",
+        FULL.replace(b"BBCCDDEEFF01", b"BBCCDDEEFF09").replace(b"library Demo", b"library Other").replace(b"version(1.0)", b"version(2.7)"),
+    ),
+    (
+        "another coclass and another interface",
+        FULL.replace(
+            b"  [uuid(11223344-5566-7788-99AA-BBCCDDEEFF03)]",
+            b"  [uuid(11223344-5566-7788-99AA-BBCCDDEEFF06)] dispinterface DNew { properties: [id(1)] long Count; methods: };\n  [uuid(11223344-5566-7788-99AA-BBCCDDEEFF07)] coclass New { dispinterface DNew; };\n  [uuid(11223344-5566-7788-99AA-BBCCDDEEFF03)]",
+        ).replace(b"[default] dispinterface DItem;", b"[default] dispinterface DItem; dispinterface DNew;"),
+    ),
     ("a text at its limit", FULL + b" " * (262_144 - len(FULL))),
 ]
 STUBS = [
@@ -76,9 +96,23 @@ def records(lines):
 class InMemory(Played):
     def test_what_is_kept_and_what_is_lost(self):
         for name, text in KEPT:
-            self.play(f"replace: {name}", CREATE + b"\n" + put(2, 7) + wire.replacement(3, text) + get(4), 0, wire.reply(1, fields=struct.pack("<II", 1, 0)) + wire.reply(2) + wire.reply(3) + got(4, 7), b"", library=FULL)
+            self.play(
+                f"replace: {name}",
+                CREATE + b"\n" + put(2, 7) + wire.replacement(3, text) + get(4),
+                0,
+                wire.reply(1, fields=struct.pack("<II", 1, 0)) + wire.reply(2) + wire.reply(3) + got(4, 7),
+                b"",
+                library=FULL,
+            )
         for name, text, guid, dispid in LOSSES:
-            self.play(f"replace: {name} is lost", CREATE + b"\n" + put(2, 7) + wire.replacement(9, text) + get(4), 0, wire.reply(1, fields=struct.pack("<II", 1, 0)) + wire.reply(2) + wire.lost(9, guid, dispid) + got(4, 7), b"", library=FULL)
+            self.play(
+                f"replace: {name} is lost",
+                CREATE + b"\n" + put(2, 7) + wire.replacement(9, text) + get(4),
+                0,
+                wire.reply(1, fields=struct.pack("<II", 1, 0)) + wire.reply(2) + wire.lost(9, guid, dispid) + got(4, 7),
+                b"",
+                library=FULL,
+            )
         row = b"09000000570007 80ffffffff00000000443322116655887799aabbccddeeff020200000000000000".replace(b" ", b"")
         self.play("replace: the full library by the small one, as bytes", wire.replacement(9, SMALL), 0, row + b"\n", b"", library=FULL)
         for name, line in STUBS:
@@ -89,15 +123,47 @@ class InMemory(Played):
         asked = CREATE + b"\n" + names + wire.replacement(2, FULL) + names + wire.get(3, 1, 2) + wire.type_info(4, 0)
         status, out, err = run(["play", "lib.idl", "--hex"], asked, {"lib.idl": SMALL})
         described = run(["play", "lib.idl", "--hex"], wire.type_info(4, 0), {"lib.idl": FULL})[1]
-        wanted = wire.reply(1, fields=struct.pack("<II", 1, 0)) + wire.reply(1, 0x8002_0006, fields=wire.ids([-1])) + wire.reply(2) + wire.reply(1, fields=wire.ids([2])) + wire.reply(3, fields=NO_TEXT) + described
-        self.tell("replace: names, zeros and descriptions follow the new library", (status, out, err) == (0, wanted, b""), told((0, wanted, b""), (status, out, err)))
+        wanted = (
+            wire.reply(1, fields=struct.pack("<II", 1, 0))
+            + wire.reply(1, 0x8002_0006, fields=wire.ids([-1]))
+            + wire.reply(2)
+            + wire.reply(1, fields=wire.ids([2]))
+            + wire.reply(3, fields=NO_TEXT)
+            + described
+        )
+        self.tell(
+            "replace: names, zeros and descriptions follow the new library", (status, out, err) == (0, wanted, b""), told((0, wanted, b""), (status, out, err))
+        )
 
     def test_locks_stay(self):
         grid = lambda tag, opcode: wire.line(tag, ask_call(opcode, 1, 8, 2, (), ()))
         count = lambda tag, held: wire.reply(tag, fields=struct.pack("<II", held, 0))
         more = KEPT[2][1]
-        asked = CREATE + b"\n" + wire.put(2, 1, 8, ARRAYS) + grid(3, LOCK) + wire.replacement(4, more) + wire.release(5, 1) + grid(6, LOCK) + wire.replacement(7, SMALL) + grid(8, UNLOCK) + grid(9, UNLOCK) + wire.release(10, 1)
-        replies = wire.reply(1, fields=struct.pack("<II", 1, 0)) + wire.reply(2) + count(3, 1) + wire.reply(4) + wire.reply(5, 0x8002_000D) + count(6, 2) + wire.lost(7, FACE, 2) + count(8, 1) + count(9, 0) + wire.reply(10)
+        asked = (
+            CREATE
+            + b"\n"
+            + wire.put(2, 1, 8, ARRAYS)
+            + grid(3, LOCK)
+            + wire.replacement(4, more)
+            + wire.release(5, 1)
+            + grid(6, LOCK)
+            + wire.replacement(7, SMALL)
+            + grid(8, UNLOCK)
+            + grid(9, UNLOCK)
+            + wire.release(10, 1)
+        )
+        replies = (
+            wire.reply(1, fields=struct.pack("<II", 1, 0))
+            + wire.reply(2)
+            + count(3, 1)
+            + wire.reply(4)
+            + wire.reply(5, 0x8002_000D)
+            + count(6, 2)
+            + wire.lost(7, FACE, 2)
+            + count(8, 1)
+            + count(9, 0)
+            + wire.reply(10)
+        )
         self.play("replace: locks stay", asked, 0, replies, b"", library=FULL)
 
     def test_as_records(self):
@@ -110,7 +176,11 @@ class OverAStore(Served):
     def holds(self, name, room, disk):
         """What stands in the store's file, byte by byte."""
         left = held(room)
-        self.tell(f"replace: {name}: each byte", has_bytes(f"{room}/it.store", disk), (len(left), left[4096:4097], left[8192:8224].hex(), left[16_785_408:16_785_440].hex()))
+        self.tell(
+            f"replace: {name}: each byte",
+            has_bytes(f"{room}/it.store", disk),
+            (len(left), left[4096:4097], left[8192:8224].hex(), left[16_785_408:16_785_440].hex()),
+        )
 
     def test_small_to_full_and_back(self):
         with tempfile.TemporaryDirectory() as room:
@@ -134,7 +204,11 @@ class OverAStore(Served):
             answer = run_in(room, OF_SMALL, given=wire.replacement(1, FULL) + put(2, 8) + wire.replacement(3, more) + put(4, 9) + wire.replacement(5, more))
             self.tell("replace: three in one session", answer == (0, b"".join(wire.reply(tag) for tag in (1, 2, 3, 4, 5)), b""), answer)
             text = canonical(more)
-            self.holds("three in one session", room, store.settled(store.add(store.settled(store.add(store.settled(TWO, FULL_TEXT), put_of(8)), text), put_of(9)), text))
+            self.holds(
+                "three in one session",
+                room,
+                store.settled(store.add(store.settled(store.add(store.settled(TWO, FULL_TEXT), put_of(8)), text), put_of(9)), text),
+            )
 
     def test_places_in_groups(self):
         # opcode 12 first, last, twice, behind gets, and refused, in each size of groups: of each session what it leaves, and the groups that its events stand in
@@ -168,7 +242,18 @@ class OverAStore(Served):
                     if events:
                         disk = store.add(disk, b"".join(events))
                     given, replies = (b"".join(it) for it in zip(*((line, reply) for line, (reply, _) in parts)))
-                    self.serves(f"replace: {name}, groups of {size}{'' if how else ', records'}", framed(given), 0, framed(replies), b"", TWO, disk, *([how] if how else []), "--group", str(size))
+                    self.serves(
+                        f"replace: {name}, groups of {size}{'' if how else ', records'}",
+                        framed(given),
+                        0,
+                        framed(replies),
+                        b"",
+                        TWO,
+                        disk,
+                        *([how] if how else []),
+                        "--group",
+                        str(size),
+                    )
 
     def test_gets_do_not_count_across_it(self):
         # with groups of 3: a get and a put, the replacement, and then three anew
@@ -187,8 +272,32 @@ class OverAStore(Served):
                 self.tell("replace: its reply comes without a wait for more", (replies, well) == (wire.reply(1) + got(2, 8) + wire.reply(3), True), replies)
         with open("/dev/full", "wb") as full:
             left = store.add(bytearray(TWO), put_of(8))
-            self.serves("replace: it is left undone where the replies before it cannot be handed out", put(1, 8) + wire.replacement(2, FULL), 1, None, fault("write fault"), TWO, left, "--hex", "--group", "3", stdout=full)
-            self.serves("replace: and stands where its own cannot be", wire.replacement(2, FULL), 1, None, fault("write fault"), TWO, store.settled(TWO, FULL_TEXT), "--hex", "--group", "3", stdout=full)
+            self.serves(
+                "replace: it is left undone where the replies before it cannot be handed out",
+                put(1, 8) + wire.replacement(2, FULL),
+                1,
+                None,
+                fault("write fault"),
+                TWO,
+                left,
+                "--hex",
+                "--group",
+                "3",
+                stdout=full,
+            )
+            self.serves(
+                "replace: and stands where its own cannot be",
+                wire.replacement(2, FULL),
+                1,
+                None,
+                fault("write fault"),
+                TWO,
+                store.settled(TWO, FULL_TEXT),
+                "--hex",
+                "--group",
+                "3",
+                stdout=full,
+            )
 
 
 @unittest.skipIf(STRACE is None, "strace is not there: the calls of the system are not looked at, and no call is made to fail")
@@ -266,6 +375,10 @@ class ReplacementCalls(Cases):
             # a write that was made is in the system's cache: a gate or a selector counts from its own sync on
             left = states[0 if call < 3 else 1 if call < 8 else 2 if call < 12 else 3]
             now, replies = self.there(room), b"".join(self.REPLIES)
-            self.tell(f"replace: killed at {what}, call {call}", replies.startswith(answer[1]) and len(answer[1]) >= (0 if call < 4 else len(self.REPLIES[0] + self.REPLIES[1])) and now == left, (answer, now))
+            self.tell(
+                f"replace: killed at {what}, call {call}",
+                replies.startswith(answer[1]) and len(answer[1]) >= (0 if call < 4 else len(self.REPLIES[0] + self.REPLIES[1])) and now == left,
+                (answer, now),
+            )
 
         each_fails(self, self.WORDS, self.FILES, killed, "signal=KILL", given=self.ASKED)

@@ -61,7 +61,10 @@ class Requests(Played):
             "parts of requests that are ignored",
             FULL,
             [
-                (lambda tag: wire.line(tag, wire.oaut.ask_ids(1, ["cELL", "KEY", "none"], locale=0x409)), lambda tag: wire.reply(tag, UNKNOWN_NAME, fields=wire.ids([9, 1, -1]))),
+                (
+                    lambda tag: wire.line(tag, wire.oaut.ask_ids(1, ["cELL", "KEY", "none"], locale=0x409)),
+                    lambda tag: wire.reply(tag, UNKNOWN_NAME, fields=wire.ids([9, 1, -1])),
+                ),
                 (lambda tag: wire.line(tag, struct.pack("<HHII", wire.oaut.RELEASE, 0, 1, 0x0909_0909)), wire.reply),
             ],
         )

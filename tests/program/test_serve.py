@@ -28,9 +28,18 @@ def field_of(text):
 
 # the element at [-1, 5] of the array becomes 6, and its first bound has 3 indices from 10 on
 ELEMENTS = [
-    ("03 01000000 443322116655887799aabbccddeeff02 08000000 0000 0220 0200 02000000 ffffffff 03000000 05000000 0100 0200 0300 0400 0500 0600", wire.put(1, 1, 8, VALUES["GRID"][0])),
-    ("04 01000000 443322116655887799aabbccddeeff02 08000000 0000 0200 ffffffff 05000000 0200 0600", wire.line(2, ask_call(PUTELEM, 1, 8, 2, (), ()) + indices_field([-1, 5]) + wire.field(wire.scalar(wire.I2, 6)))),
-    ("05 01000000 443322116655887799aabbccddeeff02 08000000 0000 03000000 0a000000", wire.line(3, ask_call(REDIM, 1, 8, 2, (), ()) + struct.pack("<Ii", 3, 10))),
+    (
+        "03 01000000 443322116655887799aabbccddeeff02 08000000 0000 0220 0200 02000000 ffffffff 03000000 05000000 0100 0200 0300 0400 0500 0600",
+        wire.put(1, 1, 8, VALUES["GRID"][0]),
+    ),
+    (
+        "04 01000000 443322116655887799aabbccddeeff02 08000000 0000 0200 ffffffff 05000000 0200 0600",
+        wire.line(2, ask_call(PUTELEM, 1, 8, 2, (), ()) + indices_field([-1, 5]) + wire.field(wire.scalar(wire.I2, 6))),
+    ),
+    (
+        "05 01000000 443322116655887799aabbccddeeff02 08000000 0000 03000000 0a000000",
+        wire.line(3, ask_call(REDIM, 1, 8, 2, (), ()) + struct.pack("<Ii", 3, 10)),
+    ),
 ]
 
 
@@ -43,31 +52,94 @@ class Sessions(Served):
 
     def test_what_stands_in_a_store(self):
         self.serves("no requests", b"", 0, b"", b"", TWO, TWO)
-        self.serves("what stood in the store is there", get(1) + CREATE + b"\n", 0, got(1, 7) + wire.reply(1, fields=struct.pack("<II", 2, 0)), b"", TWO, store.add(bytearray(TWO), b"\1" + struct.pack("<I", 2) + CLASS), "--hex")
+        self.serves(
+            "what stood in the store is there",
+            get(1) + CREATE + b"\n",
+            0,
+            got(1, 7) + wire.reply(1, fields=struct.pack("<II", 2, 0)),
+            b"",
+            TWO,
+            store.add(bytearray(TWO), b"\1" + struct.pack("<I", 2) + CLASS),
+            "--hex",
+        )
         BAD = wire.put(5, 1, 1, wire.scalar(wire.NULL))
         self.serves("a refused put leaves no trace", BAD + get(6), 0, wire.reply(5, 0x8002_0005, 0) + got(6, 7), b"", TWO, TWO, "--hex")
 
     def test_the_open_group_is_committed(self):
         for group in map(str, GROUPS):
             cut = put(1, 8) + get(2) + b"0"
-            self.serves(f"the open group is committed before bad hex ends the session, groups of {group}", cut, 4, wire.reply(1) + got(2, 8), fault("bad hex on line 3"), TWO, store.add(bytearray(TWO), put_of(8)), "--hex", "--group", group)
+            self.serves(
+                f"the open group is committed before bad hex ends the session, groups of {group}",
+                cut,
+                4,
+                wire.reply(1) + got(2, 8),
+                fault("bad hex on line 3"),
+                TWO,
+                store.add(bytearray(TWO), put_of(8)),
+                "--hex",
+                "--group",
+                group,
+            )
             record = struct.pack("<I", len(put(1, 8)) // 2) + bytes.fromhex(put(1, 8).decode())
             answer = bytes.fromhex(wire.reply(1).decode())
             stub = struct.pack("<IIIII", 16, 0, 0x8007_06F7, 0xFFFF_FFFF, 0)
-            self.serves(f"records: and before a record that is cut, groups of {group}", record + b"\7", 4, struct.pack("<I", 16) + answer + stub, fault("record cut"), TWO, store.add(bytearray(TWO), put_of(8)), "--group", group)
+            self.serves(
+                f"records: and before a record that is cut, groups of {group}",
+                record + b"\7",
+                4,
+                struct.pack("<I", 16) + answer + stub,
+                fault("record cut"),
+                TWO,
+                store.add(bytearray(TWO), put_of(8)),
+                "--group",
+                group,
+            )
         with open("/dev/full", "wb") as full:
-            self.serves("the open group is committed where nobody takes its replies", put(1, 8), 1, None, fault("write fault"), TWO, store.add(bytearray(TWO), put_of(8)), "--hex", "--group", str(GROUPS[-1]), stdout=full)
+            self.serves(
+                "the open group is committed where nobody takes its replies",
+                put(1, 8),
+                1,
+                None,
+                fault("write fault"),
+                TWO,
+                store.add(bytearray(TWO), put_of(8)),
+                "--hex",
+                "--group",
+                str(GROUPS[-1]),
+                stdout=full,
+            )
 
     def test_objects_come_and_go_in_groups(self):
         coming, gone = CREATED_1 + b"\1" + struct.pack("<I", 2) + CLASS, b"\2" + struct.pack("<I", 1)
         asked = wire.release(1, 1) + (CREATE + b"\n") * 2 + wire.release(4, 1)
         told = wire.reply(1, 0x8001_0108) + b"".join(wire.reply(1, fields=struct.pack("<II", number, 0)) for number in (1, 2)) + wire.reply(4)
-        self.serves("TWO objects come in one group, and one of them goes in the next", asked, 0, told, b"", NEW, store.add(bytearray(NEW), coming, gone), "--hex", "--group", "3")
+        self.serves(
+            "TWO objects come in one group, and one of them goes in the next",
+            asked,
+            0,
+            told,
+            b"",
+            NEW,
+            store.add(bytearray(NEW), coming, gone),
+            "--hex",
+            "--group",
+            "3",
+        )
 
     def test_streams_that_are_closed(self):
         for fd, status, text in ((0, 1, "read fault"), (1, 1, "write fault")):
             left = TWO if fd == 0 else bytes(store.add(bytearray(TWO), put_of(8)))
-            self.serves(f"stream {fd} is closed, and the store is not taken for it", put(1, 8), status, b"", fault(text), TWO, left, "--hex", before=lambda fd=fd: os.close(fd))
+            self.serves(
+                f"stream {fd} is closed, and the store is not taken for it",
+                put(1, 8),
+                status,
+                b"",
+                fault(text),
+                TWO,
+                left,
+                "--hex",
+                before=lambda fd=fd: os.close(fd),
+            )
 
     def test_a_reply_comes_once_the_store_has_what_it_tells(self):
         with tempfile.TemporaryDirectory() as room:
@@ -76,7 +148,11 @@ class Sessions(Served):
                 for asked, answered, now in ((put(1, 8), wire.reply(1), 8), (get(2), got(2, 8), 8), (put(3, 9), wire.reply(3), 9)):
                     session.send(asked)
                     replies = session.line()
-                    self.tell("serve: a reply comes before the next request is sent, and the store has what it tells", (replies, text_held(room)) == (answered, table(now)), replies)
+                    self.tell(
+                        "serve: a reply comes before the next request is sent, and the store has what it tells",
+                        (replies, text_held(room)) == (answered, table(now)),
+                        replies,
+                    )
 
     def test_the_replies_of_a_group_come_together(self):
         with tempfile.TemporaryDirectory() as room:
@@ -87,7 +163,11 @@ class Sessions(Served):
                 before = text_held(room)
                 session.send(put(3, 9))
                 replies = b"".join(session.line() for _ in range(3))
-                self.tell("serve: the replies of a group come together, once it is committed", (early, before, replies, text_held(room)) == ([], table(7), wire.reply(1) + got(2, 8) + wire.reply(3), table(9)), (early, before, replies))
+                self.tell(
+                    "serve: the replies of a group come together, once it is committed",
+                    (early, before, replies, text_held(room)) == ([], table(7), wire.reply(1) + got(2, 8) + wire.reply(3), table(9)),
+                    (early, before, replies),
+                )
                 session.send(put(4, 10))
                 session.process.stdin.close()
                 self.tell("serve: the end of the input ends a group", (session.line(), session.status(), text_held(room)) == (wire.reply(4), 0, table(10)))
@@ -96,7 +176,9 @@ class Sessions(Served):
 class Kept(Served):
     def test_values_and_fields(self):
         """A row each, in an object each: what a put and a get answer, also once the store is opened again, and the image that is kept."""
-        fields = [(word, field, word) for word, (field, _) in VALUES.items()] + [(name, field_of(text), said) for name, text, said in (row.split(" | ") for row in rows_of("fields.txt"))]
+        fields = [(word, field, word) for word, (field, _) in VALUES.items()] + [
+            (name, field_of(text), said) for name, text, said in (row.split(" | ") for row in rows_of("fields.txt"))
+        ]
         with tempfile.TemporaryDirectory() as room:
             fill(room, {"lib.idl": FULL, "it.store": bytes(store.formatted(FULL_TEXT))})
             gets = [wire.get(3, number, ANY) for number in range(1, len(fields) + 1)]
@@ -117,4 +199,14 @@ class Kept(Served):
 
     def test_the_events_of_an_array(self):
         left = store.add(bytearray(WITH_ITEM), *[bytes.fromhex(event) for event, _ in ELEMENTS])
-        self.serves("the events of an array", b"".join(asked for _, asked in ELEMENTS), 0, wire.reply(1) + wire.reply(2) + wire.reply(3), b"", WITH_ITEM, left, "--hex", library=FULL)
+        self.serves(
+            "the events of an array",
+            b"".join(asked for _, asked in ELEMENTS),
+            0,
+            wire.reply(1) + wire.reply(2) + wire.reply(3),
+            b"",
+            WITH_ITEM,
+            left,
+            "--hex",
+            library=FULL,
+        )

@@ -44,7 +44,13 @@ class Lines(Played):
         self.play("a CR that ends no line", b"01\r02\n", 4, b"", b"oaut: bad hex on line 1\n")
         self.play("a line at its limit", b"0" * LINE_LIMIT + b"\n" + CREATE + b"\n", 0, STUB + b"\n" + CREATED + b"\n", b"")
         self.play("a line at its limit with CR LF", b"0" * LINE_LIMIT + b"\r\n" + CREATE + b"\n", 0, STUB + b"\n" + CREATED + b"\n", b"")
-        self.play("a line above its limit", CREATE + b"\n" + b"g" * (LINE_LIMIT + 1) + b"\n" + CREATE + b"\n", 4, CREATED + b"\n" + STUB + b"\n", b"oaut: record too long\n")
+        self.play(
+            "a line above its limit",
+            CREATE + b"\n" + b"g" * (LINE_LIMIT + 1) + b"\n" + CREATE + b"\n",
+            4,
+            CREATED + b"\n" + STUB + b"\n",
+            b"oaut: record too long\n",
+        )
         self.play("a last line above its limit", b"0" * (LINE_LIMIT + 2), 4, STUB + b"\n", b"oaut: record too long\n")
         for length in (8_189, 8_190, 8_191, 8_192, 8_193, 30_000):  # a buffer of the output has 8,192 bytes; there are replies of 33 bytes, and of 49
             stubs = next(it for it in range(49) if (length - 33 * it) % 49 == 0)
@@ -91,7 +97,11 @@ class Lines(Played):
             replies = [session.line()]
             session.send(second[9:])
             replies.append(session.line())
-            self.tell("a reply comes before the rest of a line that is cut behind a whole one", b"".join(replies) == b"".join(REPLIES.splitlines(keepends=True)[:2]), replies)
+            self.tell(
+                "a reply comes before the rest of a line that is cut behind a whole one",
+                b"".join(replies) == b"".join(REPLIES.splitlines(keepends=True)[:2]),
+                replies,
+            )
         with open("/dev/full", "wb") as full, Talk(SMALL, stdout=full) as session:
             session.send(CREATE + b"\n")
             told = session.line(session.process.stderr), session.status()
@@ -140,7 +150,11 @@ class Records(Played):
                 session.send(records(asked))
                 replies.append(session.bytes(len(records(answered))))
             session.send(struct.pack("<I", BODY_LIMIT + 1))
-            self.tell("records: each reply comes before the next request, and a length too long ends the session at once", (session.status(), b"".join(replies)) == (4, records(REPLIES)), replies)
+            self.tell(
+                "records: each reply comes before the next request, and a length too long ends the session at once",
+                (session.status(), b"".join(replies)) == (4, records(REPLIES)),
+                replies,
+            )
 
 
 @unittest.skipUnless(COMPILER, "cc is not there: the calls of the streams are not counted")
@@ -151,8 +165,15 @@ class Calls(Cases):
         answers = b"".join(REPLIES.splitlines(keepends=True)[2:])
         with Preloaded() as preloaded:
             preloaded.fill("lib.idl", SMALL)
-            for words, given, due in ((["--hex"], CREATE + b"\n" + lines * times, CREATED + b"\n" + answers * times), ([], ASKED + records(lines) * times, ANSWERED + records(answers) * times)):
+            for words, given, due in (
+                (["--hex"], CREATE + b"\n" + lines * times, CREATED + b"\n" + answers * times),
+                ([], ASKED + records(lines) * times, ANSWERED + records(answers) * times),
+            ):
                 preloaded.fill("given", given)
                 got = preloaded.run(["play", *words, preloaded.path("lib.idl")], "given")
                 self.tell(f"{len(given)} bytes {words or 'of records'}", got[:3] == (0, due, b""), (got[0], len(got[1]), got[2]))
-                self.tell(f"{len(given)} bytes {words or 'of records'} are read, and their replies written, in few calls", got.writes <= got.reads <= len(given) // BUFFER + 2, (got.reads, got.writes))
+                self.tell(
+                    f"{len(given)} bytes {words or 'of records'} are read, and their replies written, in few calls",
+                    got.writes <= got.reads <= len(given) // BUFFER + 2,
+                    (got.reads, got.writes),
+                )

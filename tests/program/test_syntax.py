@@ -124,14 +124,31 @@ class Where(Played):
     def test_where_a_fault_stands(self):
         self.shows("no text", b"", 0, 1, 1, b"", b"")
         self.shows("the first line", HEAD + b" library Demo ;\n}\n", 58, 1, 59, HEAD + b" library Demo ;", b" " * 58)
-        self.shows("lines that end by CR LF, a tab before the place", b"//\r\n" + HEAD + b"\r\n\tlibrary D\xc3\xa9 {}\r\n", 60, 3, 11, b"\tlibrary D\xc3\xa9 {}", b"\t" + b" " * 9)
+        self.shows(
+            "lines that end by CR LF, a tab before the place",
+            b"//\r\n" + HEAD + b"\r\n\tlibrary D\xc3\xa9 {}\r\n",
+            60,
+            3,
+            11,
+            b"\tlibrary D\xc3\xa9 {}",
+            b"\t" + b" " * 9,
+        )
         self.shows("characters of two bytes before the place", b"/*\xc3\xa9*/ ;", 7, 1, 7, b"/*\xc3\xa9*/ ;", b" " * 6)
         self.shows("lines that end by CR, the end of the text", HEAD + b"\rlibrary", 52, 2, 8, b"library", b" " * 7)
         self.shows("the end of the text behind a line's end", HEAD + b"\n\n", 46, 3, 1, b"", b"")
         self.shows("a control character", b"\n \x1b[1m", 2, 2, 2, b" ?[1m", b" ")
 
     def test_where_names_and_other_faults(self):
-        self.case("check --where: a file's name with control characters", ["check", "--where", "a\n"], 2, b"", b"oaut: syntax at byte 0\na\\u{a}:1:1: ;\n            ^\n", files={"a\n": b";"})
+        self.case(
+            "check --where: a file's name with control characters",
+            ["check", "--where", "a\n"],
+            2,
+            b"",
+            b"oaut: syntax at byte 0\na\\u{a}:1:1: ;\n            ^\n",
+            files={"a\n": b";"},
+        )
         self.case("check --where: standard input", ["check", "--where", "-"], 2, b"", b"oaut: syntax at byte 0\n-:1:1: ;\n       ^\n", given=b";")
         self.case("check --where: a library", ["check", "--where", "lib.idl"], 0, FULL_TEXT, b"", files={"lib.idl": FULL})
-        self.case("check --where: a fault without a place", ["check", "--where", "lib.idl"], 2, b"", b"oaut: limit text\n", files={"lib.idl": SMALL + b" " * 262_145})
+        self.case(
+            "check --where: a fault without a place", ["check", "--where", "lib.idl"], 2, b"", b"oaut: limit text\n", files={"lib.idl": SMALL + b" " * 262_145}
+        )

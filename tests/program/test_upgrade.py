@@ -39,7 +39,10 @@ class Upgrade(Cases):
     def test_the_bytes(self):
         new = bytes(store.upgraded(OLD))
         head = bytes.fromhex("4f415554424b3032 02000000 17010000 3c000000 00004001 0000000000000000")
-        self.tell("upgrade: the head, the body and the selector", (new[16_785_408:16_785_440], new[BODY_1 : BODY_1 + 279], new[BODY_1 + 339], new[4096], len(new)) == (head, SMALL_TEXT, 0, 1, SIZE))
+        self.tell(
+            "upgrade: the head, the body and the selector",
+            (new[16_785_408:16_785_440], new[BODY_1 : BODY_1 + 279], new[BODY_1 + 339], new[4096], len(new)) == (head, SMALL_TEXT, 0, 1, SIZE),
+        )
         self.upgrades("a store with an object", OLD, new)
         self.upgrades("the size where nothing is said, named", OLD, new, "--bank", "20971520")
         self.upgrades("banks of another size", OLD, store.upgraded(OLD, 20_971_521), "--bank", "20971521")
@@ -48,7 +51,11 @@ class Upgrade(Cases):
         self.upgrades("a file that is longer than that", OLD + b"\xab" * 42_000_000, store.upgraded(OLD + b"\xab" * 42_000_000))
         self.upgrades("a file that is somewhat longer than before", OLD + b"\xab" * 1_000, store.upgraded(OLD + b"\xab" * 1_000))
         self.upgrades("a store without objects", store.formatted_before(SMALL_TEXT), store.upgraded(store.formatted_before(SMALL_TEXT)))
-        long = store.add(store.formatted_before(FULL_TEXT), CREATED_1, *[b"\3" + struct.pack("<I", 1) + FACE + struct.pack("<iHHI", 2, 0, 8, 1_048_576) + bytes([it]) * 1_048_576 for it in range(15)])
+        long = store.add(
+            store.formatted_before(FULL_TEXT),
+            CREATED_1,
+            *[b"\3" + struct.pack("<I", 1) + FACE + struct.pack("<iHHI", 2, 0, 8, 1_048_576) + bytes([it]) * 1_048_576 for it in range(15)],
+        )
         self.upgrades("groups of 15 MB, of which one text is left", long, store.upgraded(long))
 
     def test_what_is_there_afterwards(self):
@@ -60,7 +67,12 @@ class Upgrade(Cases):
             after = [run_in(room, ["dump", "it.store", *more]) for more in ([], ["--library"])]
             served = run_in(room, words("--hex"), given=get(1) + put(2, 8) + get(3))
             blocks = os.stat(f"{room}/it.store").st_blocks * 512
-            self.tell("upgrade: what is served before it and behind it", (refused[0], refused[2], done[0], served) == (3, fault("old format"), 0, (0, got(1, 7) + b"02000000" + b"00000000" + b"ffffffff" + b"00000000" + b"\n" + got(3, 8), b"")), (refused, done, served))
+            self.tell(
+                "upgrade: what is served before it and behind it",
+                (refused[0], refused[2], done[0], served)
+                == (3, fault("old format"), 0, (0, got(1, 7) + b"02000000" + b"00000000" + b"ffffffff" + b"00000000" + b"\n" + got(3, 8), b"")),
+                (refused, done, served),
+            )
             self.tell("upgrade: the dumps of both formats are one", before == after == [(0, ONE.encode(), b""), (0, SMALL_TEXT, b"")], (before, after))
             self.tell("upgrade: the longer part of the file takes its room at once", blocks >= SIZE - len(OLD), blocks)
 
@@ -83,13 +95,40 @@ class Upgrade(Cases):
         self.case("upgrade: a folder", ["upgrade", "."], 1, b"", cannot("read", ".", "EISDIR"))
         self.case("upgrade: a device", ["upgrade", "/dev/zero"], 1, b"", cannot("read", "/dev/zero", "not a regular file"))
         for length in (1_000_000, SIZE - 1):
-            self.leaves(f"upgrade: files of {length} bytes at most", UPGRADE, 1, b"", cannot("write", "it.store", "EFBIG"), {"it.store": OLD}, {"it.store": OLD}, before=files_of(length))
-        self.leaves("upgrade: files of the store's length at most", UPGRADE, 0, UPGRADED, b"", {"it.store": OLD}, {"it.store": bytes(store.upgraded(OLD))}, before=files_of(SIZE))
+            self.leaves(
+                f"upgrade: files of {length} bytes at most",
+                UPGRADE,
+                1,
+                b"",
+                cannot("write", "it.store", "EFBIG"),
+                {"it.store": OLD},
+                {"it.store": OLD},
+                before=files_of(length),
+            )
+        self.leaves(
+            "upgrade: files of the store's length at most",
+            UPGRADE,
+            0,
+            UPGRADED,
+            b"",
+            {"it.store": OLD},
+            {"it.store": bytes(store.upgraded(OLD))},
+            before=files_of(SIZE),
+        )
         for bank in ("20971519", "1073741825", "+20971520", "x", ""):
             status, out, err = run([*UPGRADE, f"--bank={bank}"], files={"it.store": OLD})
             self.tell(f"upgrade: banks of {bank!r} bytes are refused", (status, out, err.startswith(b"error: ")) == (2, b"", True), (status, out, err))
         with open("/dev/full", "wb") as full:
-            self.leaves("upgrade: standard output takes nothing", UPGRADE, 1, None, fault("write fault"), {"it.store": OLD}, {"it.store": bytes(store.upgraded(OLD))}, stdout=full)
+            self.leaves(
+                "upgrade: standard output takes nothing",
+                UPGRADE,
+                1,
+                None,
+                fault("write fault"),
+                {"it.store": OLD},
+                {"it.store": bytes(store.upgraded(OLD))},
+                stdout=full,
+            )
 
     def test_a_table_that_a_bank_does_not_take(self):
         fits, too_large = arrays(29), arrays(30)
@@ -126,9 +165,17 @@ class UpgradeCalls(Cases):
         self.tell("upgrade: it is locked in each part", len(parts) == 3 and parts[0] == 0, made)
         first, second, third = made[: parts[1]], made[parts[1] : parts[2]], made[parts[2] :]
         self.tell("upgrade: it looks before it writes", first[:2] == OPENED and all(it[0] in ("sync", "read") for it in first[2:]), first)
-        self.tell("upgrade: zeros behind the end, and a sync", second == [("lock",), ("write", SIZE - 100_000, 65_536), ("write", SIZE - 34_464, 34_464), ("sync",)], second)
+        self.tell(
+            "upgrade: zeros behind the end, and a sync",
+            second == [("lock",), ("write", SIZE - 100_000, 65_536), ("write", SIZE - 34_464, 34_464), ("sync",)],
+            second,
+        )
         last = [("write", 16_785_408, 32), ("write", BODY_1, 340), ("sync",), ("write", 4096, 1), ("sync",), OUT]
-        self.tell("upgrade: a head, a body, a sync, the selector, a sync", third[-len(last) :] == last and third[: len(OPENING)] == OPENING and all(it[0] == "read" for it in third[len(OPENING) : -len(last)]), third)
+        self.tell(
+            "upgrade: a head, a body, a sync, the selector, a sync",
+            third[-len(last) :] == last and third[: len(OPENING)] == OPENING and all(it[0] == "read" for it in third[len(OPENING) : -len(last)]),
+            third,
+        )
 
     def goes_on(self, name, room):
         """The same command brings what is there to the same store."""
@@ -163,7 +210,11 @@ class Kills(Cases):
     def test_killed_at_any_moment(self):
         seed = int(os.environ.get("OAUT_SEED") or int.from_bytes(os.urandom(4), "little"))
         draw = random.Random(seed)
-        many = store.add(store.formatted_before(FULL_TEXT), CREATED_1, *(b"\3" + struct.pack("<I", 1) + FACE + struct.pack("<iH", 2, 0) + struct.pack("<HI", 8, 100_000) + bytes([it]) * 100_000 for it in range(140)))
+        many = store.add(
+            store.formatted_before(FULL_TEXT),
+            CREATED_1,
+            *(b"\3" + struct.pack("<I", 1) + FACE + struct.pack("<iH", 2, 0) + struct.pack("<HI", 8, 100_000) + bytes([it]) * 100_000 for it in range(140)),
+        )
         dump = store.dump(many)
         killed = 0
         for turn in range(12):
@@ -182,5 +233,9 @@ class Kills(Cases):
                     if process.returncode != -9:
                         break
                 done = run_in(room, UPGRADE)
-                self.tell(f"upgrade: killed at any moment, turn {turn}, seed {seed}", (there == said == dump, done[0] in (0, 3), store.read(held(room)).format, text_held(room) == dump) == (True, True, 2, True), (done, process.returncode, err))
+                self.tell(
+                    f"upgrade: killed at any moment, turn {turn}, seed {seed}",
+                    (there == said == dump, done[0] in (0, 3), store.read(held(room)).format, text_held(room) == dump) == (True, True, 2, True),
+                    (done, process.returncode, err),
+                )
         print(f"{killed} upgrades were killed, and went on")

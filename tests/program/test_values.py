@@ -34,7 +34,13 @@ ROWS = [
     (
         "BSTR",
         wire.scalar(wire.BSTR),
-        [HI, wire.scalar(wire.BSTR, b""), wire.scalar(wire.BSTR, b"abc"), *(wire.scalar(wire.BSTR, LONGEST[:count]) for count in (393_216, 786_432, 1_048_576)), wire.scalar(wire.BSTR)],
+        [
+            HI,
+            wire.scalar(wire.BSTR, b""),
+            wire.scalar(wire.BSTR, b"abc"),
+            *(wire.scalar(wire.BSTR, LONGEST[:count]) for count in (393_216, 786_432, 1_048_576)),
+            wire.scalar(wire.BSTR),
+        ],
     ),
     ("VARIANT", wire.scalar(wire.EMPTY), [wire.scalar(wire.NULL), wire.scalar(wire.EMPTY), wire.scalar(wire.UINT, 1), HI, LARGEST_DECIMAL]),
 ]
@@ -105,7 +111,10 @@ class Values(Played):
                 puts(TEXT, HI[:32] + b"\1" + HI[33:], BAD_STUB),
                 puts(TEXT, wire.scalar(wire.BSTR, LONGEST + b"a"), BAD_STUB),
                 # numbers of no type that a value has
-                *(puts(LONG, wire.changed(wire.changed(FOUR, 8, "H", vt), 16, "I", vt), BAD_VAR_TYPE, 0) for vt in (4, 5, 7, 9, 12, 13, 15, 24, 25, 36, 0x2000, 0x4003)),
+                *(
+                    puts(LONG, wire.changed(wire.changed(FOUR, 8, "H", vt), 16, "I", vt), BAD_VAR_TYPE, 0)
+                    for vt in (4, 5, 7, 9, 12, 13, 15, 24, 25, 36, 0x2000, 0x4003)
+                ),
                 calls(NO_MEMBER, 4, [-3], [], MEMBER_NOT_FOUND),
                 puts(VERSION, FOUR, MEMBER_NOT_FOUND),
                 calls(LONG, 4, [-3, 7], [FOUR], E_INVALIDARG),
@@ -129,7 +138,14 @@ class Values(Played):
         self.tell("an object too many", [it[8:] for it in made] == wanted + refusals, made[-3:])
 
     def test_values_that_are_converted(self):
-        converted = [(wire.scalar(wire.CY, 25_000), 2), (wire.scalar(wire.CY, 35_000), 4), (wire.scalar(wire.CY, -25_000), -2), (i2(7), 7), (NO_VALUE, 0), (wire.scalar(wire.BOOL, 0xFFFF), -1)]
+        converted = [
+            (wire.scalar(wire.CY, 25_000), 2),
+            (wire.scalar(wire.CY, 35_000), 4),
+            (wire.scalar(wire.CY, -25_000), -2),
+            (i2(7), 7),
+            (NO_VALUE, 0),
+            (wire.scalar(wire.BOOL, 0xFFFF), -1),
+        ]
         self.talk(
             "values that are converted",
             FULL,

@@ -5,10 +5,38 @@ from stores import TWO
 
 class Words(Cases):
     def test_words_that_are_refused(self):
-        for words in ([], ["play"], ["play", "--hex"], ["play", "lib.idl", "--hex", "more"], ["play", "lib.idl", "--wide"], ["check"], ["check", "lib.idl", "--hex"], ["check", "lib.idl", "more"], ["check", "--where"], ["play", "lib.idl", "--hex", "--where"], ["serve"], ["help"]):
+        for words in (
+            [],
+            ["play"],
+            ["play", "--hex"],
+            ["play", "lib.idl", "--hex", "more"],
+            ["play", "lib.idl", "--wide"],
+            ["check"],
+            ["check", "lib.idl", "--hex"],
+            ["check", "lib.idl", "more"],
+            ["check", "--where"],
+            ["play", "lib.idl", "--hex", "--where"],
+            ["serve"],
+            ["help"],
+        ):
             status, out, err = run(words, files={"lib.idl": SMALL})
             self.tell(f"the words {words} are refused", (status, out, err.startswith(b"error: "), b"--help" in err) == (2, b"", True, True), (status, out, err))
-        for words in (["format"], ["format", "it.store"], ["format", "it.store", "lib.idl", "more"], ["format", "it.store", "lib.idl", "--hex"], ["format", "it.store", "lib.idl", "--bank"], ["format", "--library", "it.store", "lib.idl"], ["upgrade"], ["upgrade", "it.store", "lib.idl"], ["upgrade", "it.store", "--hex"], ["dump"], ["dump", "it.store", "more"], ["dump", "--hex", "it.store"], ["dump", "it.store", "--bank", "20971520"], ["serve", "it.store", "lib.idl", "--bank", "20971520"]):
+        for words in (
+            ["format"],
+            ["format", "it.store"],
+            ["format", "it.store", "lib.idl", "more"],
+            ["format", "it.store", "lib.idl", "--hex"],
+            ["format", "it.store", "lib.idl", "--bank"],
+            ["format", "--library", "it.store", "lib.idl"],
+            ["upgrade"],
+            ["upgrade", "it.store", "lib.idl"],
+            ["upgrade", "it.store", "--hex"],
+            ["dump"],
+            ["dump", "it.store", "more"],
+            ["dump", "--hex", "it.store"],
+            ["dump", "it.store", "--bank", "20971520"],
+            ["serve", "it.store", "lib.idl", "--bank", "20971520"],
+        ):
             status, out, err = run(words, files={"lib.idl": SMALL, "it.store": TWO})
             self.tell(f"the words {words} are refused", (status, out, err.startswith(b"error: "), b"--help" in err) == (2, b"", True, True), (status, out, err))
 

@@ -183,7 +183,15 @@ def call(at):
     _, flags, _, count, named = at.numbers("IHHII")
     need(count <= 32 and named <= 32)
     named = numbers(at, named)
-    return {"object": of, "interface": interface, "riid": bool(riid.int), "dispid": dispid, "flags": flags, "named": named, "arguments": [field(at) for _ in range(count)]}
+    return {
+        "object": of,
+        "interface": interface,
+        "riid": bool(riid.int),
+        "dispid": dispid,
+        "flags": flags,
+        "named": named,
+        "arguments": [field(at) for _ in range(count)],
+    }
 
 
 def indices(at):
@@ -316,4 +324,6 @@ def described(library, index):
         raise Refusal(BAD_INDEX)
     guid = classes[index - len(faces)]
     name, offered, default = library.classes[guid]
-    return struct.pack("<II", 5, len(offered)) + guid.bytes_le + wire.string(name) + b"".join(struct.pack("<II", it == default, faces.index(it)) for it in offered)
+    return (
+        struct.pack("<II", 5, len(offered)) + guid.bytes_le + wire.string(name) + b"".join(struct.pack("<II", it == default, faces.index(it)) for it in offered)
+    )

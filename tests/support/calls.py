@@ -66,7 +66,11 @@ def each_fails(cases, words, files, judge, how=None, **given):
             if error == "EINTR":
                 again = [it for it in calls.does() if it != OUT] == [*does[: place + 1], *does[place:]]
                 same = StoreFile(f"{room}/it.store", b"").now() == left
-                cases.tell(f"{words[0]}: {what} is interrupted, call {place}, and made again", (calls.answer, again, same) == (whole.answer, True, True), (calls.answer, again, same))
+                cases.tell(
+                    f"{words[0]}: {what} is interrupted, call {place}, and made again",
+                    (calls.answer, again, same) == (whole.answer, True, True),
+                    (calls.answer, again, same),
+                )
             else:
                 judge(place, (*what, error) if error else what, calls.answer, room)
 

@@ -68,7 +68,11 @@ def judged(cases, size, opening, killed):
             if killed:
                 well = answer[1] == b""
             else:
-                well = answer == (1, b"", cannot("read", "it.store", what[-1]) if place < len(OPENED) else fault(f"device fault 0x8003001{'d' if what[0] == 'sync' else 'e'}"))
+                well = answer == (
+                    1,
+                    b"",
+                    cannot("read", "it.store", what[-1]) if place < len(OPENED) else fault(f"device fault 0x8003001{'d' if what[0] == 'sync' else 'e'}"),
+                )
             cases.tell(name, well and now == table_after(0), (answer, now))
             return
         number, call = divmod(place - opening, len(COMMIT))
@@ -80,6 +84,10 @@ def judged(cases, size, opening, killed):
             return
         codes = [(place + 1, WRITE_FAULT if place in group else E_FAIL) for place in range(group.start, len(SESSION))]
         wanted = before + b"".join(wire.reply(*it) for it in codes)
-        cases.tell(name, answer == (0, wanted, b"") and now in ([table_after(group.start)] if call < 2 else [table_after(group.start), table_after(group.stop)]), (answer, now))
+        cases.tell(
+            name,
+            answer == (0, wanted, b"") and now in ([table_after(group.start)] if call < 2 else [table_after(group.start), table_after(group.stop)]),
+            (answer, now),
+        )
 
     return judge

@@ -301,7 +301,11 @@ def ranges_of(calls):
 
 
 def shown(state):
-    return state if isinstance(state, str) else f"format {state.format}, {len(state.library)} bytes of library, {zlib.crc32(state.library):08x}, {state.dump[:300]!r}"
+    return (
+        state
+        if isinstance(state, str)
+        else f"format {state.format}, {len(state.library)} bytes of library, {zlib.crc32(state.library):08x}, {state.dump[:300]!r}"
+    )
 
 
 # --- sessions

@@ -6,7 +6,29 @@ import uuid
 import wire
 from codes import BAD_STUB
 from kept import changed
-from model import ARRAY, BOOL, BSTR, CY, DECIMAL, EMPTY, ERROR, FIRST_ONE, I2, I4, ITEM, MISSING, PLAIN, RANGES, SCALARS, SECOND, VARIANT, Array, Model, Refusal, field
+from model import (
+    ARRAY,
+    BOOL,
+    BSTR,
+    CY,
+    DECIMAL,
+    EMPTY,
+    ERROR,
+    FIRST_ONE,
+    I2,
+    I4,
+    ITEM,
+    MISSING,
+    PLAIN,
+    RANGES,
+    SCALARS,
+    SECOND,
+    VARIANT,
+    Array,
+    Model,
+    Refusal,
+    field,
+)
 from oaut import CELLS, GETELEM, LOCK, PUTELEM, REDIM, UNLOCK, ask_call, ask_create, ask_ids, ask_list, ask_release, ask_type_info
 from wire import oaut
 
@@ -108,7 +130,15 @@ class Session:
         found = [lower + dice.randrange(count) if count else lower for count, lower in array.bounds]
         found = [it if -(2**31) <= it < 2**31 else -(2**31) for it in found]
         roll = dice.random()
-        return found[:-1] if roll < 0.05 else found + [0] if roll < 0.08 else [it + dice.choice([-1, 1]) if abs(it) < 9 else it for it in found] if roll < 0.15 else found
+        return (
+            found[:-1]
+            if roll < 0.05
+            else found + [0]
+            if roll < 0.08
+            else [it + dice.choice([-1, 1]) if abs(it) < 9 else it for it in found]
+            if roll < 0.15
+            else found
+        )
 
     def request(self):
         """The bytes of a request behind its tag, and what the model makes of it."""
@@ -143,7 +173,9 @@ class Session:
             return self.bytes_of(GETELEM, call) + oaut.indices_field(indices), lambda: model.get_element(call, indices)
         if roll < 0.85:
             indices, value = self.indices(call), self.value(dice.choice([I2, VARIANT, BSTR, CY, I4]))
-            return self.bytes_of(PUTELEM, call) + oaut.indices_field(indices) + oaut.variant_field(field(value)), lambda: model.put_element(call, indices, value)
+            return self.bytes_of(PUTELEM, call) + oaut.indices_field(indices) + oaut.variant_field(field(value)), lambda: model.put_element(
+                call, indices, value
+            )
         if roll < 0.91:
             bound = (dice.choice([0, 1, 2, 3, 65_537]), dice.choice([0, -1, 10, 2_147_483_647]))
             return self.bytes_of(REDIM, call) + struct.pack("<Ii", *bound), lambda: model.redim(call, bound)
@@ -157,7 +189,7 @@ class Session:
         library = changed(model.library, dice)
         text = library.text()
         if dice.random() < 0.5:
-            text = b"// another one\n" + text.replace(b";\n", b" ; /* \xc3\xa9 */\n").replace(b"[uuid(", b"[ helpstring(\"it\"), uuid(")
+            text = b"// another one\n" + text.replace(b";\n", b" ; /* \xc3\xa9 */\n").replace(b"[uuid(", b'[ helpstring("it"), uuid(')
         if dice.random() < 0.1:
             library, text = None, dice.choice([text[:-3], text + b"}", text + b"// \xff", b"", text.replace(b"library", b"Library")])
         return struct.pack("<HHII", 12, 0, len(text), 0) + wire.aligned(text, 8), lambda: model.replace(library)
@@ -202,7 +234,9 @@ class Large(Session):
         if roll > 0.82:
             indices, value = [dice.choice([0, 1, 2])], self.text()
             call.update(interface=SECOND, dispid=3, named=[], arguments=[])
-            return self.bytes_of(PUTELEM, call) + oaut.indices_field(indices) + oaut.variant_field(field(value)), lambda: model.put_element(call, indices, value)
+            return self.bytes_of(PUTELEM, call) + oaut.indices_field(indices) + oaut.variant_field(field(value)), lambda: model.put_element(
+                call, indices, value
+            )
         return self.bytes_of(oaut.INVOKE, call), lambda: model.invoke(call)
 
 

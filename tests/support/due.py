@@ -33,5 +33,8 @@ def kept(it):
 
 def dump_of(model):
     """What `oaut dump` is to print of the model's objects."""
-    objects = {number: (guid.bytes_le, {(face.bytes_le, dispid, tuple(map(kept, key))): kept(it) for (face, dispid, key), it in cells.items()}) for number, (guid, cells) in model.objects.items()}
+    objects = {
+        number: (guid.bytes_le, {(face.bytes_le, dispid, tuple(map(kept, key))): kept(it) for (face, dispid, key), it in cells.items()})
+        for number, (guid, cells) in model.objects.items()
+    }
     return "".join(store.lines(store.Store(b"", model.next, objects, 0, 0, [], 2, 0)))

@@ -148,7 +148,9 @@ def opening(room):
 def peak_of_run(*words):
     """The most memory that a run of the program takes, in KiB, where that is more than some 9 MiB, which what starts it takes; and its seconds."""
     act = "import os, sys, time; t = time.perf_counter(); it = os.wait4(os.posix_spawn(sys.argv[1], sys.argv[1:], os.environ), 0); print(it[1], it[2].ru_maxrss, time.perf_counter() - t, file=sys.stderr)"
-    run = subprocess.run([sys.executable, "-S", "-c", act, PROGRAM, *words], check=True, stdin=subprocess.DEVNULL, stdout=subprocess.DEVNULL, stderr=subprocess.PIPE)
+    run = subprocess.run(
+        [sys.executable, "-S", "-c", act, PROGRAM, *words], check=True, stdin=subprocess.DEVNULL, stdout=subprocess.DEVNULL, stderr=subprocess.PIPE
+    )
     status, peak, seconds = run.stderr.split()
     if status != b"0":
         raise AssertionError(f"{words} ends with {status}")

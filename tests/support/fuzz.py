@@ -135,7 +135,9 @@ def records(room, seconds, seed, most=5):
         for place, (body, wanted) in enumerate(zip(asked, due)):
             found.kind(f"{struct.unpack_from('<I', wanted, 4)[0]:08x}")
             if place >= len(got) or got[place] != wanted:
-                found.differ.append(f"seed {seed}, record {place + 1}, {body.hex()}: due {wanted.hex()}, got {got[place].hex() if place < len(got) else None}, {status, err}")
+                found.differ.append(
+                    f"seed {seed}, record {place + 1}, {body.hex()}: due {wanted.hex()}, got {got[place].hex() if place < len(got) else None}, {status, err}"
+                )
                 break
         else:
             if (status, err, len(got)) != (0, b"", len(due)):
@@ -146,9 +148,16 @@ def records(room, seconds, seed, most=5):
 
 # --- libraries
 
-WORDS = [it.encode() for it in "[ ] ( ) { } , ; : . - id uuid version helpstring library importlib dispinterface interface coclass properties methods void unsigned SAFEARRAY long short char BSTR VARIANT VARIANT_BOOL CURRENCY DECIMAL SCODE hyper int readonly propget propput in optional defaultvalue default TRUE FALSE -1 0x 0xFFFFFFFF 4294967296 79228162514264337593543950336 \"a\" \" /* // */ \\ \t \r \x00 \xff é Count COUNT DItem Item 11223344-5566-7788-99AA-BBCCDDEEFF02".split(" ")]
+WORDS = [
+    it.encode()
+    for it in '[ ] ( ) { } , ; : . - id uuid version helpstring library importlib dispinterface interface coclass properties methods void unsigned SAFEARRAY long short char BSTR VARIANT VARIANT_BOOL CURRENCY DECIMAL SCODE hyper int readonly propget propput in optional defaultvalue default TRUE FALSE -1 0x 0xFFFFFFFF 4294967296 79228162514264337593543950336 "a" " /* // */ \\ \t \r \x00 \xff é Count COUNT DItem Item 11223344-5566-7788-99AA-BBCCDDEEFF02'.split(
+        " "
+    )
+]
 TOKEN = re.compile(rb"[A-Za-z_][A-Za-z_0-9]*|[0-9]+|\s+|.", re.DOTALL)
-FAULT = re.compile(rb"oaut: (syntax at byte (\d+)|limit (text|name|interfaces|coclasses|members|params)|(duplicate name|duplicate id|get and put disagree|array parameter|bad default|unknown interface) \w+|duplicate guid [0-9a-f-]{36}|library is not UTF-8)\n")
+FAULT = re.compile(
+    rb"oaut: (syntax at byte (\d+)|limit (text|name|interfaces|coclasses|members|params)|(duplicate name|duplicate id|get and put disagree|array parameter|bad default|unknown interface) \w+|duplicate guid [0-9a-f-]{36}|library is not UTF-8)\n"
+)
 
 
 def spoiled_text(dice, text, texts):
@@ -321,7 +330,25 @@ def layout_of(data):
 def spoil_store(dice, file, layout):
     """Changes a store's file at some places."""
     for _ in range(dice.choice((1, 1, 2))):
-        part = dice.choice(("gate", "selector", "head", "head", "library", "snapshot", "snapshot", "groups", "groups", "groups", "events", "events", "events", "image", "length"))
+        part = dice.choice(
+            (
+                "gate",
+                "selector",
+                "head",
+                "head",
+                "library",
+                "snapshot",
+                "snapshot",
+                "groups",
+                "groups",
+                "groups",
+                "events",
+                "events",
+                "events",
+                "image",
+                "length",
+            )
+        )
         if part == "length":
             with open(file.path, "r+b") as opened_:
                 opened_.truncate(dice.choice((0, 100, store.LEAST - 1, store.LEAST, file.length - 1, file.length - 4_096, file.length + 9)))
@@ -355,7 +382,10 @@ def judged_store(room, file, library):
         status, took = spawned([*BOUNDED, *words], "/dev/null", out, err)
         got = status, read(out), read(err)
         if got != wanted or took > 1 or file.now() != now:
-            return refusal, f"{words[0]}: wanted {wanted[0], wanted[1][:200], wanted[2]}, got {got[0], got[1][:200], got[2]}, {took:.2f} s{', and the file is another' if file.now() != now else ''}"
+            return (
+                refusal,
+                f"{words[0]}: wanted {wanted[0], wanted[1][:200], wanted[2]}, got {got[0], got[1][:200], got[2]}, {took:.2f} s{', and the file is another' if file.now() != now else ''}",
+            )
     return refusal, None
 
 

@@ -55,7 +55,12 @@ class Member:
         for form in self.forms:
             parameters = [*self.parameters, *([Parameter("Value", self.vt)] if form == "put" else [])]
             vt = self.vt if form == "get" else None
-            found.append((f"[id({dispid}), prop{form}] {word(vt)} {self.name}({', '.join(it.text() for it in parameters)});", (name, dispid, form, vt, [it.kept() for it in parameters])))
+            found.append(
+                (
+                    f"[id({dispid}), prop{form}] {word(vt)} {self.name}({', '.join(it.text() for it in parameters)});",
+                    (name, dispid, form, vt, [it.kept() for it in parameters]),
+                )
+            )
         return found
 
 
@@ -83,9 +88,22 @@ class Library:
         lines = [f"[uuid({self.guid}), version({self.version[0]}.{self.version[1]})]", f"library {self.name} {{"]
         for guid, (name, _) in self.interfaces.items():
             declared = [(member.is_plain(), line) for dispid, member in self.in_order(guid) for line, _ in member.declarations(dispid)]
-            lines += [f"[uuid({guid})]", f"dispinterface {name} {{", "properties:", *[it for plain, it in declared if plain], "methods:", *[it for plain, it in declared if not plain], "}"]
+            lines += [
+                f"[uuid({guid})]",
+                f"dispinterface {name} {{",
+                "properties:",
+                *[it for plain, it in declared if plain],
+                "methods:",
+                *[it for plain, it in declared if not plain],
+                "}",
+            ]
         for guid, (name, faces, default) in self.classes.items():
-            lines += [f"[uuid({guid})]", f"coclass {name} {{", *[f"{'[default] ' if it == default else ''}dispinterface {self.interfaces[it][0]};" for it in faces], "}"]
+            lines += [
+                f"[uuid({guid})]",
+                f"coclass {name} {{",
+                *[f"{'[default] ' if it == default else ''}dispinterface {self.interfaces[it][0]};" for it in faces],
+                "}",
+            ]
         return "".join(f"{it}\n" for it in [*lines, "}"]).encode()
 
 
@@ -129,7 +147,11 @@ def change(new, dice, number):
     what = dice.choice(range(9))
     if roll == "keeps":
         if what < 3:
-            members[free] = [Member(f"New{number}", vt), Member(f"New{number}", vt, (Parameter("Key", dice.choice([I4, VARIANT]), dice.random() < 0.5),)), Member(f"New{number}", None, (Parameter("Key", vt),), method=True)][what]
+            members[free] = [
+                Member(f"New{number}", vt),
+                Member(f"New{number}", vt, (Parameter("Key", dice.choice([I4, VARIANT]), dice.random() < 0.5),)),
+                Member(f"New{number}", None, (Parameter("Key", vt),), method=True),
+            ][what]
         elif what == 3:
             new.interfaces[face] = (f"DNew{number}", {1: Member("Count", vt), 2: Member("Only", I4, (Parameter("Row", I2),), ("put",))})
         elif what == 4:
@@ -155,7 +177,10 @@ def change(new, dice, number):
     elif what == 4 and member.forms != ("put",) and not member.method:
         member.forms = ("get",) if len(member.forms) == 2 else ("get", "put")
     elif what == 5 and member.parameters:
-        member.parameters = (*member.parameters[:-1], Parameter(f"Other{number}", member.parameters[-1].vt, member.parameters[-1].optional, member.parameters[-1].default))
+        member.parameters = (
+            *member.parameters[:-1],
+            Parameter(f"Other{number}", member.parameters[-1].vt, member.parameters[-1].optional, member.parameters[-1].default),
+        )
     elif what == 6 and len(new.classes) > 1:
         del new.classes[class_]
     elif what == 7:
@@ -163,4 +188,7 @@ def change(new, dice, number):
         new.classes[class_] = (name, faces, dice.choice(faces))
     elif what == 8:
         new.interfaces = {face if it == guid else it: found for it, found in new.interfaces.items()}
-        new.classes = {it: (name, [face if one == guid else one for one in faces], face if default == guid else default) for it, (name, faces, default) in new.classes.items()}
+        new.classes = {
+            it: (name, [face if one == guid else one for one in faces], face if default == guid else default)
+            for it, (name, faces, default) in new.classes.items()
+        }

@@ -6,7 +6,19 @@ import struct
 import uuid
 
 import wire
-from codes import ARRAY_IS_LOCKED, BAD_INDEX, BAD_PARAM_COUNT, BAD_STUB, CLASS_NOT_REGISTERED, DISCONNECTED, E_INVALIDARG, E_NOINTERFACE, E_NOTIMPL, E_UNEXPECTED, MEDIUM_FULL
+from codes import (
+    ARRAY_IS_LOCKED,
+    BAD_INDEX,
+    BAD_PARAM_COUNT,
+    BAD_STUB,
+    CLASS_NOT_REGISTERED,
+    DISCONNECTED,
+    E_INVALIDARG,
+    E_NOINTERFACE,
+    E_NOTIMPL,
+    E_UNEXPECTED,
+    MEDIUM_FULL,
+)
 from codes import MEMBER_NOT_FOUND, OVERFLOW, PARAM_NOT_FOUND, PARAM_NOT_OPTIONAL, TYPE_MISMATCH, UNKNOWN_INTERFACE, UNKNOWN_NAME
 from kept import Library, Member, Parameter, first_lost, fold
 from oaut import ARRAY
@@ -167,6 +179,7 @@ library Demo {
 """
 CELL = (Parameter("Row", I4), Parameter("Key", BSTR), Parameter("Page", I2, default=(I2, 1)))
 
+
 def first_library():
     """The library above."""
     first = {
@@ -180,7 +193,9 @@ def first_library():
         5: Member("Only", ARRAY + I4, (Parameter("Place", UI1),), forms=("put",)),
     }
     interfaces = {FIRST_ONE: ("DItem", first), SECOND: ("DMore", second)}
-    return Library(uuid.UUID("11223344-5566-7788-99aa-bbccddeeff01"), interfaces, {ITEM: ("Item", [FIRST_ONE, SECOND], FIRST_ONE), PLAIN: ("Plain", [SECOND], SECOND)})
+    return Library(
+        uuid.UUID("11223344-5566-7788-99aa-bbccddeeff01"), interfaces, {ITEM: ("Item", [FIRST_ONE, SECOND], FIRST_ONE), PLAIN: ("Plain", [SECOND], SECOND)}
+    )
 
 
 class Model:

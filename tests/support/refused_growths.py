@@ -132,7 +132,11 @@ class Over:
         got = self.run(refuse=nth)
         if got.status == 5:
             tried.ends += 1
-            return (got[:3] == NO_MEMORY and (self.store is None or self.store.is_as_laid())), nth, (got, "a store that was changed" if self.store and not self.store.is_as_laid() else "")
+            return (
+                (got[:3] == NO_MEMORY and (self.store is None or self.store.is_as_laid())),
+                nth,
+                (got, "a store that was changed" if self.store and not self.store.is_as_laid() else ""),
+            )
         replies = replies_of(got.out, self.framing)
         starving = [place for place, (body, reply) in enumerate(zip(self.session.bodies, replies)) if reply == starved(body)]
         if (got.status, got.err, got.left) != (0, b"", 0) or len(starving) > 1:
@@ -185,7 +189,11 @@ def sessions():
     yield Session("every type", worked.EVERY_TYPE)
     yield Session("a library that is replaced", worked.REPLACED)
     yield Session("a due checkpoint", DUE_ASKED, DUE_BEFORE, nearly_full())
-    yield Session("a store with objects", [worked.get(worked.ANY), worked.put(worked.NAME, worked.text(LONG)), *worked.GOES], [*worked.CREATED, *worked.SCALAR_PROPERTIES, *worked.PARAMETERS, *worked.ARRAYS])
+    yield Session(
+        "a store with objects",
+        [worked.get(worked.ANY), worked.put(worked.NAME, worked.text(LONG)), *worked.GOES],
+        [*worked.CREATED, *worked.SCALAR_PROPERTIES, *worked.PARAMETERS, *worked.ARRAYS],
+    )
 
 
 # which sessions are played how: framing and size of groups, None in memory. In the first way each call is refused, in the others every third
@@ -245,16 +253,23 @@ def at_due_checkpoints(preloaded, tell):
             tried.note(got.status != 5 or over.store.is_as_laid(), nth, "a session that did not begin has changed the file")
             if got.out == over.framing.pack([starved(over.session.bodies[0])]):
                 pages = over.store.now()[0]
-                tried.note(pages == over.store.pages or (pages == settled and name not in NEVER_BEHIND), nth, "the file is neither as it was nor behind the checkpoint")
+                tried.note(
+                    pages == over.store.pages or (pages == settled and name not in NEVER_BEHIND), nth, "the file is neither as it was nor behind the checkpoint"
+                )
             tried.note(*over.refuse(tried, nth))
         wrong = tried.wrong[began:]
-        tell(f"{name} at a due checkpoint, {calls - opening} growths, {tried.behind - behind} of them behind it", calls > opening and not wrong, f"{len(wrong)} are wrong: {wrong[:3]}")
+        tell(
+            f"{name} at a due checkpoint, {calls - opening} growths, {tried.behind - behind} of them behind it",
+            calls > opening and not wrong,
+            f"{len(wrong)} are wrong: {wrong[:3]}",
+        )
     tell("a growth is refused behind a checkpoint", tried.behind > 0, tried)
     print(f"growths at due checkpoints: {tried.behind} were refused behind the checkpoint")
     return tried
 
 
 # --- commands
+
 
 class Command:
     """A command, what it says with ample memory, and the file of a store that it begins with and leaves, by what each holds."""
@@ -290,7 +305,12 @@ def in_commands(preloaded, tell):
     preloaded.fill("lib.idl", LIBRARY)
     preloaded.fill("wrong.idl", worked.NO_LIBRARY)
     path = preloaded.path("it.store")
-    stores = {None: None, "full": Over(preloaded, next(it for it in sessions() if it.before and it.disk is None), "raw", 1).store, "old": StoreFile(path, OLD), "short": StoreFile(path, OLD[: store.length_of(store.BANK) - 100_000])}
+    stores = {
+        None: None,
+        "full": Over(preloaded, next(it for it in sessions() if it.before and it.disk is None), "raw", 1).store,
+        "old": StoreFile(path, OLD),
+        "short": StoreFile(path, OLD[: store.length_of(store.BANK) - 100_000]),
+    }
     for command in commands(preloaded):
         began = len(tried.wrong)
         laid = stores[command.store]
@@ -315,7 +335,11 @@ def in_commands(preloaded, tell):
                     tried.note(got.left == 0 and (command.left is None or StoreFile(path).dump() == command.left), how, got)
                     continue
                 tried.ends += 1
-                spared = laid.is_as_laid() or (command.store == "short" and laid.dump() == OLD_DUMP) if laid else not os.path.exists(path) or StoreFile(path).dump() == "not a store"
+                spared = (
+                    laid.is_as_laid() or (command.store == "short" and laid.dump() == OLD_DUMP)
+                    if laid
+                    else not os.path.exists(path) or StoreFile(path).dump() == "not a store"
+                )
                 tried.note(got[:3] == NO_MEMORY and spared, how, (got, spared))
         wrong = tried.wrong[began:]
         tell(command.name, not wrong, f"{len(wrong)} are wrong: {wrong[:3]}")

@@ -87,7 +87,9 @@ def run_in(room, words, given=b"", stdin=None, stdout=None, before=None, under=(
     """Runs the program in a folder, after a call in its process, and returns its status and what it wrote. `under` are the words of what it runs under."""
     source = {"input": given} if stdin is None else {"stdin": stdin}
     try:
-        done = subprocess.run([*under, PROGRAM, *words], cwd=room, stdout=stdout or subprocess.PIPE, stderr=subprocess.PIPE, preexec_fn=before, timeout=TIMEOUT, **source)
+        done = subprocess.run(
+            [*under, PROGRAM, *words], cwd=room, stdout=stdout or subprocess.PIPE, stderr=subprocess.PIPE, preexec_fn=before, timeout=TIMEOUT, **source
+        )
     except subprocess.TimeoutExpired as late:
         return None, late.stdout, late.stderr
     return done.returncode, done.stdout, done.stderr
@@ -132,7 +134,9 @@ class Talk:
         self.own = tempfile.TemporaryDirectory() if room is None else None
         room = room or self.own.name
         fill(room, {"lib.idl": library})
-        self.process = subprocess.Popen([*under, PROGRAM, *command, "lib.idl", *words], cwd=room, stdin=subprocess.PIPE, stdout=stdout, stderr=subprocess.PIPE, bufsize=0)
+        self.process = subprocess.Popen(
+            [*under, PROGRAM, *command, "lib.idl", *words], cwd=room, stdin=subprocess.PIPE, stdout=stdout, stderr=subprocess.PIPE, bufsize=0
+        )
 
     def __enter__(self):
         return self

@@ -66,8 +66,19 @@ def text_put(value, tag=1):
 
 # requests that lead to what the store below holds, and some that a session over it has: a get, and then one that makes the checkpoint
 LONG = b"n\0" * 70_000
-DUE_BEFORE = [oaut.ask_create(worked.ITEM), worked.put(worked.ANY, worked.text(LONG)), worked.put(worked.NAME, worked.text(worked.HI)), worked.put(worked.GRID, worked.GRID_1_TO_6)]
-DUE_ASKED = [worked.get(worked.COUNT), worked.put(worked.COUNT, worked.i4(7)), worked.put(worked.GRID, worked.GRID_1_TO_6), oaut.ask_create(worked.ITEM), oaut.ask_release(1)]
+DUE_BEFORE = [
+    oaut.ask_create(worked.ITEM),
+    worked.put(worked.ANY, worked.text(LONG)),
+    worked.put(worked.NAME, worked.text(worked.HI)),
+    worked.put(worked.GRID, worked.GRID_1_TO_6),
+]
+DUE_ASKED = [
+    worked.get(worked.COUNT),
+    worked.put(worked.COUNT, worked.i4(7)),
+    worked.put(worked.GRID, worked.GRID_1_TO_6),
+    oaut.ask_create(worked.ITEM),
+    oaut.ask_release(1),
+]
 
 
 @functools.lru_cache(maxsize=1)

@@ -49,11 +49,17 @@ def reads(dispid, named, values, value):
 def through(last, object, dispid, flags, named, values, code=0, value=None):
     """A call through the interface whose GUID ends so, and the value that it tells."""
     guid = bytes.fromhex("443322116655887799aabbccddeeff") + bytes([last])
-    return (lambda tag: wire.invoke(tag, object, dispid, flags, named, values, guid), lambda tag: wire.reply(tag, code, fields=b"" if value is None else wire.field(value)))
+    return (
+        lambda tag: wire.invoke(tag, object, dispid, flags, named, values, guid),
+        lambda tag: wire.reply(tag, code, fields=b"" if value is None else wire.field(value)),
+    )
 
 
 def creates(number):
-    return (lambda tag: (struct.pack("<I", tag) + bytes.fromhex(CREATE.decode())[4:]).hex().encode() + b"\n", lambda tag: wire.reply(tag, fields=struct.pack("<II", number, 0)))
+    return (
+        lambda tag: (struct.pack("<I", tag) + bytes.fromhex(CREATE.decode())[4:]).hex().encode() + b"\n",
+        lambda tag: wire.reply(tag, fields=struct.pack("<II", number, 0)),
+    )
 
 
 def releases(number, code=0):

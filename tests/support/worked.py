@@ -4,7 +4,23 @@ import uuid
 
 from model import BSTR, CY, DECIMAL, EMPTY, ERROR, FIRST_ONE, I1, I2, I4, I8, ITEM, LIBRARY, NULL, PLAIN, RANGES, SCALARS, SECOND, UI8, VARIANT, first_library
 from wire import array, changed, oaut, scalar
-from oaut import CELLS, GETELEM, LOCK, PROPERTYGET, PROPERTYPUT, PUTELEM, REDIM, UNLOCK, ask_call, ask_create, ask_ids, ask_invoke, ask_list, ask_release, ask_type_info
+from oaut import (
+    CELLS,
+    GETELEM,
+    LOCK,
+    PROPERTYGET,
+    PROPERTYPUT,
+    PUTELEM,
+    REDIM,
+    UNLOCK,
+    ask_call,
+    ask_create,
+    ask_ids,
+    ask_invoke,
+    ask_list,
+    ask_release,
+    ask_type_info,
+)
 
 COUNT, NAME, PRICE, EXACT, FLAG, VERSION, ANY, GRID, CELL, CLEAR, WIDE = 1, 2, 3, 4, 5, 6, 7, 8, 9, 10, -5
 VALUES, WORDS, SUMS, ONLY = 2, 3, 4, 5  # of the other interface
@@ -176,17 +192,9 @@ REFUSALS = [
     get(COUNT, interface=ITEM.bytes_le),
     put(COUNT, i4(1) + b"\0"),
 ]
-GOES = [
-    ask_create(PLAIN),
-    call(LOCK, GRID, of=2),
-    ask_release(2),
-    call(UNLOCK, GRID, of=2),
-    ask_release(2),
-    get(COUNT, 2),
-    ask_create(ITEM),
-    ask_list(),
-]
+GOES = [ask_create(PLAIN), call(LOCK, GRID, of=2), ask_release(2), call(UNLOCK, GRID, of=2), ask_release(2), get(COUNT, 2), ask_create(ITEM), ask_list()]
 ALL = [*CREATED, *SCALAR_PROPERTIES, *PARAMETERS, *ARRAYS, *NEVER_PUT, *NAMES, *REFUSALS, *GOES]
+
 
 def wider_library():
     library = first_library()
@@ -211,7 +219,10 @@ REPLACED = [
 ]
 
 # a value of each type
-SCALAR_VALUES = {vt: {EMPTY: None, NULL: None, BSTR: HI, DECIMAL: (4, 0x80, 2**95 + 12_345), ERROR: 0x8002_0004, 11: 0xFFFF}.get(vt, RANGES.get(vt, (0, 0))[1]) for vt in SCALARS}
+SCALAR_VALUES = {
+    vt: {EMPTY: None, NULL: None, BSTR: HI, DECIMAL: (4, 0x80, 2**95 + 12_345), ERROR: 0x8002_0004, 11: 0xFFFF}.get(vt, RANGES.get(vt, (0, 0))[1])
+    for vt in SCALARS
+}
 ARRAY_VALUES = {vt: [(I2, 7), (BSTR, HI)] if vt == VARIANT else [SCALAR_VALUES[vt]] * 2 for vt in CELLS}
 EVERY_TYPE = [ask_create(ITEM)]
 for vt in SCALARS:

@@ -150,7 +150,10 @@ EDITS = {
     "a_constant_that_names_none": ("old: const LEAP: u8 = 3;\nnew: const LEAP: u8 = 4;\n", "not tried: its text"),
     "a_step_and_one": ("old:     further(n) + 1\nnew:     n + 3\n", "refused by a proof file alone: three_above: proofs/three_above/Answers.antt"),
     "a_step_for_three": ("old:     further(n) + 1\nnew:     further(n)\n", "refused by a"),
-    "a_sum_on_the_way": ("old:     let all = p;\nnew:     let more = p + 1; let all = more - 1;\n", "refused for an operation that it brings: itself: the sum fits its type"),
+    "a_sum_on_the_way": (
+        "old:     let all = p;\nnew:     let more = p + 1; let all = more - 1;\n",
+        "refused for an operation that it brings: itself: the sum fits its type",
+    ),
     "a_text_that_is_gone": ("old: if b < a\nnew: if a < b\n", "not tried: an 'old:' text is in src/lib.rt 0 times"),
 }
 
@@ -233,7 +236,10 @@ def choices(root):
     tell("the parts take equally long", sorted(took) == [*range(PARTS)] and max(took.values()) - min(took.values()) <= 9, took)
     head = git(root, "rev-parse", "HEAD")
     tried_over(root, seconds, steps=head, above=head)
-    tell("by the seconds that the file has", [it for it in labels if chosen().is_tried(it)] == [it for it, part in parts_of(labels, seconds).items() if part == int(head, 16) % PARTS])
+    tell(
+        "by the seconds that the file has",
+        [it for it in labels if chosen().is_tried(it)] == [it for it, part in parts_of(labels, seconds).items() if part == int(head, 16) % PARTS],
+    )
     for line in (f"steps {head} 2026-01-01 0 5", f"steps {head} 2026-01-01 7 soon", f"steps {head} 2026-01-01 7"):
         write(f"{root}/{TRIED}", f"{line}\n")
         tell(f"'{line}' is no line", chosen().whole == {*crates})
@@ -251,7 +257,14 @@ def choices(root):
             seen[it] = seen.get(it, 0) + 1
     tell("each edit is chosen by one commit or another", sorted(seen) == sorted(labels), sorted({*labels} - {*seen}))
     tell("without the gate all are tried", all(Choice(root, labels, False).is_tried(it) for it in labels))
-    for path, is_counted in (("src/lib.rt", True), ("specs/S.antt", True), ("proofs/P.antt", True), ("wrong-bodies/new.edit", True), ("must-fail/new.edit", False), ("out/x", False)):
+    for path, is_counted in (
+        ("src/lib.rt", True),
+        ("specs/S.antt", True),
+        ("proofs/P.antt", True),
+        ("wrong-bodies/new.edit", True),
+        ("must-fail/new.edit", False),
+        ("out/x", False),
+    ):
         write(f"{root}/crates/above/{path}", "x")
         tell(f"a crate with another {path} has changed: {is_counted}", chosen().whole == ({"above"} if is_counted else set()), chosen().why)
         git(root, "checkout", "-q", ".")
@@ -270,7 +283,9 @@ def choices(root):
     ):
         tried_over(root, **lines)
         choice = chosen()
-        well = choice.whole == whole and [it for it in labels if choice.is_tried(it)] == [it for it in labels if it.partition("/")[0] in whole or it in of_part(newer)]
+        well = choice.whole == whole and [it for it in labels if choice.is_tried(it)] == [
+            it for it in labels if it.partition("/")[0] in whole or it in of_part(newer)
+        ]
         tell(name, well and f"all of {len(whole)} of 2 crates" in choice.why, choice.why)
     tried_over(root, steps=newer, above=older)
     tell("what stands above a crate that changed since is compiled", chosen().has_changed("steps", "above") and not chosen().has_changed("above", "above"))
@@ -283,18 +298,32 @@ def choices(root):
     tell("no file has all tried", chosen().whole == {*crates})
     # what is written
     commit(root, "without the file")
-    tell("one crate was tried over a commit", write_tried(root, {"above": (5, 9.4)}, below).endswith("is written for 1 of 1 crates") and chosen().whole == {"steps"}, chosen().why)
-    tell("and the other after it", write_tried(root, {"steps": (7, 0.2)}, below).endswith("is written for 1 of 1 crates") and chosen().whole == set(), chosen().why)
+    tell(
+        "one crate was tried over a commit",
+        write_tried(root, {"above": (5, 9.4)}, below).endswith("is written for 1 of 1 crates") and chosen().whole == {"steps"},
+        chosen().why,
+    )
+    tell(
+        "and the other after it",
+        write_tried(root, {"steps": (7, 0.2)}, below).endswith("is written for 1 of 1 crates") and chosen().whole == set(),
+        chosen().why,
+    )
     lines = read_tried(root)
     head = git(root, "rev-parse", "HEAD")
-    tell("the lines say commit, count and seconds", [(it[0], *it[2:]) for it in (lines["above"], lines["steps"])] == [(head, "5", "9"), (head, "7", "1")], lines)
+    tell(
+        "the lines say commit, count and seconds", [(it[0], *it[2:]) for it in (lines["above"], lines["steps"])] == [(head, "5", "9"), (head, "7", "1")], lines
+    )
     write_tried(root, {}, {"steps": []})
     tell("nothing tried writes nothing", read_tried(root) == lines, read_tried(root))
     for path in ("crates/above/src/lib.rt", "crates/above/wrong-bodies/new.edit", "crates/steps/src/lib.rt"):
         tried_over(root, steps=older)
         write(f"{root}/{path}", "x")
         said = write_tried(root, {"above": (5, 9.4)}, below)
-        tell(f"{path} is of no commit, so that the crate gets no line", said.endswith("0 of 1 crates; not as in a commit: above") and "above" not in read_tried(root), said)
+        tell(
+            f"{path} is of no commit, so that the crate gets no line",
+            said.endswith("0 of 1 crates; not as in a commit: above") and "above" not in read_tried(root),
+            said,
+        )
         git(root, "checkout", "-q", ".")
         git(root, "clean", "-qfd", "crates")
 
@@ -315,7 +344,11 @@ def main():
         refused = sum(want.startswith("refused") for want in steps.values())
         # as anybody tries them
         lines = ran(root, steps, f"{refused} refused, {len(EDITS) - refused} not", "steps")
-        tell("what a proof file alone refuses is listed", any(line.startswith("   steps/a_step_and_one: proofs") or line.startswith("   steps/a_step_and_one: three_above") for line in lines), lines[-8:])
+        tell(
+            "what a proof file alone refuses is listed",
+            any(line.startswith("   steps/a_step_and_one: proofs") or line.startswith("   steps/a_step_and_one: three_above") for line in lines),
+            lines[-8:],
+        )
         # as the gate does: all of the crate that has changed since, and one part of the crate above it
         above = {}
         for name, (_, text, want) in ABOVE_EDITS.items():
@@ -325,7 +358,11 @@ def main():
         tried_over(root, steps=before, above=before)
         write(f"{root}/crates/steps/src/lib.rt", SOURCE + "\n// changed\n")
         parts = parts_of([*sorted(steps), *above], {})
-        tell("the parts of the second crate's edits", all((parts[f"above/{name}"] == PARTS - 1) == is_last for name, (is_last, _, _) in ABOVE_EDITS.items()), parts)
+        tell(
+            "the parts of the second crate's edits",
+            all((parts[f"above/{name}"] == PARTS - 1) == is_last for name, (is_last, _, _) in ABOVE_EDITS.items()),
+            parts,
+        )
         while int(commit(root, "one crate changed"), 16) % PARTS != PARTS - 1:
             pass
         ran(root, {**steps, **above}, f"{refused + 2} refused, {len(EDITS) - refused + 3} not, 1 left to other commits", "--gate")

@@ -57,7 +57,9 @@ def changed_crates(root, commit, folders=FOLDERS):
     """Returns the crates whose folders differ, committed or not, from how they stood in a commit, or None where it is not in the history."""
     if git(root, "merge-base", "--is-ancestor", commit, "HEAD") is None:
         return None
-    paths = (git(root, "diff", "--name-only", "-z", commit, "--", "crates") or "") + (git(root, "ls-files", "-z", "--others", "--exclude-standard", "crates") or "")
+    paths = (git(root, "diff", "--name-only", "-z", commit, "--", "crates") or "") + (
+        git(root, "ls-files", "-z", "--others", "--exclude-standard", "crates") or ""
+    )
     parts = [it.split("/") for it in paths.split("\0") if it]
     return {it[1] for it in parts if len(it) > 3 and it[2] in folders}
 

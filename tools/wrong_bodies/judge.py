@@ -137,7 +137,9 @@ class Judge:
         path, function = self.sources.functions[it.stands[0]]
         bad = [v for v in said.of(twin).values() if not v.startswith(("proved", "could not tell"))]
         same = next((f for f in edited[path] if f.path == twin.path), twin)
-        goal = next((f.text for f in self.findings(said, function, same, path, texts) if says_of_clause(f)), "") or next((v[:120] for v in bad if OPEN.search(v)), "")
+        goal = next((f.text for f in self.findings(said, function, same, path, texts) if says_of_clause(f)), "") or next(
+            (v[:120] for v in bad if OPEN.search(v)), ""
+        )
         if goal and any(not MASKED.search(v) and not BLOCKED.search(v) for v in bad):
             it.verdict = Verdict(BY_CLAUSE, f"{function.path}: {goal}")
             return []

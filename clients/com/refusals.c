@@ -223,7 +223,9 @@ static void describe(Text *to, const Refusal *refusal)
     add(to, L": ");
     add(to, words);
     add_argument(to, refusal);
-    if (refusal->code == OAUT_E_NOT_REACHED || refusal->code == OAUT_E_LOST)
+    /* (where a server answers such a code, the connection stands) */
+    if ((refusal->code == OAUT_E_NOT_REACHED || refusal->code == OAUT_E_LOST) &&
+        refusal->connection->socket == INVALID_SOCKET)
         add_cause(to, refusal->connection);
     add(to, L" (");
     if (name) {

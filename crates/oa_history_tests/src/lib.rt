@@ -6,6 +6,8 @@
 //! What stands on it: no crate.
 #![tactic(auto)]
 
+#[cfg(test)]
+mod beginnings;
 pub mod counts;
 #[cfg(test)]
 mod formats;

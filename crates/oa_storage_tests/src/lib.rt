@@ -16,3 +16,5 @@ mod journal;
 pub mod moments;
 #[cfg(test)]
 mod store;
+#[cfg(test)]
+mod upgrading;

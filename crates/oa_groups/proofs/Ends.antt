@@ -3,6 +3,7 @@ use Rattle.std.proofs.Common.{◌≡◌, ◌⊎◌, inl, inr, ℕ, true, false, 
 use Rattle.std.proofs.lemmas.List.{append-nil}
 use Rattle.oa_disk.specs.declared.disk.Disk.{Ghosts}
 use Rattle.oa_store.specs.declared.store.Store.{Store}
+use Rattle.oa_groups.specs.Counts.{CallsForRequests}
 use Rattle.oa_groups.specs.Groupings.{Grouping, IsEnded}
 use Rattle.oa_groups.specs.Faults.{IsFaultIn, IsWholeBefore}
 use Rattle.oa_groups.specs.Going.{Faulted, Going, IsCut, IsNextGroup, Underway}
@@ -12,6 +13,7 @@ use Rattle.oa_groups.specs.Served.{IsServed}
 use Rattle.oa_store.specs.Writing.{Goes}
 use Rattle.oa_groups.specs.Turns.{Exchange, Turns, body_of, reply_of}
 use Rattle.oa_groups.proofs.Called.{calls_none}
+use Rattle.oa_groups.proofs.Counted.{all_calls}
 use Rattle.oa_groups.proofs.Entries.{IsEnd, cut_last, either, ends_after, group_ends, joined_push, no_entry, run_append, some_entry}
 use Rattle.oa_groups.proofs.Faulted.{faulted_as}
 use Rattle.oa_groups.proofs.InOpenGroup.{going_as, going_breaks, going_ends}
@@ -29,9 +31,9 @@ module _ {S R : Type 0} (t : Turns S R) where
     first = start.state
 
     -- all was answered
-    served_all : (size : ℕ) (now : Grouping S R D g) (bodies : List (List ℕ)) (out : List R) → now.pending ≡ [] → now.store.stopped ≡ false → Goes start.store now.store → Going t (IsEnd t.alone size) start now bodies out
+    served_all : (size : ℕ) (now : Grouping S R D g) (bodies : List (List ℕ)) (out : List R) → now.pending ≡ [] → now.store.stopped ≡ false → Goes start.store now.store → CallsForRequests (length bodies) 4 start.store now.store → Going t (IsEnd t.alone size) start now bodies out
         → IsServed t size start.store now.store first now.state bodies out
-    served_all size now bodies out none going goes was =
+    served_all size now bodies out none going goes calls was =
         let empty : was.held ≡ [] = no_entry was.held (sym was.pending_are ∙ none) in
         let whole : joined was.groups ++ was.held ≡ joined (was.groups ++ []) =
         ap (λ (l : List (Exchange R)). joined was.groups ++ l) empty ∙ append-nil (joined was.groups) ∙ ap (λ (l : List (List (Exchange R))). joined l) (sym (append-nil was.groups)) in
@@ -54,6 +56,7 @@ module _ {S R : Type 0} (t : Turns S R) where
               let run = was.moments begins in
               (run.0, subst (λ (l : List (List (Exchange R))). IsRun t g.moment g.image_since start.store.disk now.store.disk first l (length was.groups) run.0) (sym (append-nil was.groups)) run.1);
           all = λ is begins. subst (λ (s : S). AllHoldState t now.store s) at_last (was.all begins);
+          calls = calls;
           goes = goes;
         }
       where
@@ -64,9 +67,9 @@ module _ {S R : Type 0} (t : Turns S R) where
             (subst (λ (d : D). InTurn t start.store.disk first was.groups d now.state) (sym same) (subst (λ (s : S). InTurn t start.store.disk first was.groups was.mark s) at_last was.in_turn))
 
     -- or up to a fault
-    served_part : (size : ℕ) (now : Grouping S R D g) (bodies : List (List ℕ)) (out : List R) → now.store.stopped ≡ true → Goes start.store now.store → Faulted t size (λ state group others. (others ≡ []) ⊎ IsWholeBefore t size state group others) start now bodies out
+    served_part : (size : ℕ) (now : Grouping S R D g) (bodies : List (List ℕ)) (out : List R) → now.store.stopped ≡ true → Goes start.store now.store → CallsForRequests (length bodies) 4 start.store now.store → Faulted t size (λ state group others. (others ≡ []) ⊎ IsWholeBefore t size state group others) start now bodies out
         → IsServed t size start.store now.store first now.state bodies out
-    served_part size now bodies out stopped goes was =
+    served_part size now bodies out stopped goes calls was =
         let whole : joined (was.groups ++ was.group ∷ []) ≡ joined was.groups ++ was.group = joined_push was.groups was.group in
         record {
           groups = was.groups;
@@ -85,6 +88,7 @@ module _ {S R : Type 0} (t : Turns S R) where
           in_turn = was.in_turn;
           moments = was.moments;
           all = λ is. absurd (true≢false (sym stopped ∙ is));
+          calls = calls;
           goes = goes;
         }
 
@@ -95,12 +99,15 @@ module _ {S R : Type 0} (t : Turns S R) where
     stopped_or_not : (size : ℕ) (now : Grouping S R D g) (bodies : List (List ℕ)) (out : List R) → now.pending ≡ [] → Underway t size start now bodies out → Ends size now bodies out
     stopped_or_not size now bodies out none so_far = by (either now.store.stopped)
       where
+        calls : CallsForRequests (length bodies) 4 start.store now.store
+        calls = all_calls t start now now so_far.goes.shape so_far.goes.honest bodies so_far.calls [] (inl (record { none = none; nothing = refl; store = refl; state = refl }))
+
         by : (now.store.stopped ≡ false) ⊎ (now.store.stopped ≡ true) → Ends size now bodies out
         by (inl going) =
             let was = so_far.going going in
             let last : Going t (IsEnd t.alone size) start now bodies out = going_as t only start was (IsEnd t.alone size) (cut_last t.alone size was.groups was.held was.cuts) in
-            served_all size now bodies out none going so_far.goes last
-        by (inr stopped) = served_part size now bodies out stopped so_far.goes (faulted_as t only start size (IsWholeBefore t size) (λ state group others. (others ≡ []) ⊎ IsWholeBefore t size state group others) (λ state group others is. inr is) now now bodies out out refl refl refl (so_far.broken stopped))
+            served_all size now bodies out none going so_far.goes calls last
+        by (inr stopped) = served_part size now bodies out stopped so_far.goes calls (faulted_as t only start size (IsWholeBefore t size) (λ state group others. (others ≡ []) ⊎ IsWholeBefore t size state group others) (λ state group others is. inr is) now now bodies out out refl refl refl (so_far.broken stopped))
 
     -- the input has ended
     pub underway_ended : (size : ℕ) (old new : Grouping S R D g) (bodies : List (List ℕ)) (out told : List R) → Underway t size start old bodies out → IsEnded t told old new → Ends size new bodies (out ++ told)
@@ -116,13 +123,17 @@ module _ {S R : Type 0} (t : Turns S R) where
         goes : Goes start.store new.store
         goes = goes_on start.store old.store new.store so_far.goes last.settled.goes
 
+        calls : CallsForRequests (length bodies) 4 start.store new.store
+        calls = all_calls t start old new so_far.goes.shape so_far.goes.honest bodies so_far.calls told (inr (inl last))
+
         ends : IsNextGroup t.alone size was.groups was.held
         ends = group_ends t.alone size was.groups was.held (some_entry was.held (λ none. last.some (was.pending_are ∙ none))) was.cuts
 
         by : (new.store.stopped ≡ false) ⊎ (new.store.stopped ≡ true) → Ends size new bodies (out ++ told)
         by (inl going) =
-            served_all size new bodies (out ++ told) (last.settled.well going).1 going goes (going_ends t only start was (IsEnd t.alone size) told new going (ends_after t.alone size was.groups was.held ends) last.settled)
-        by (inr stopped) = served_part size new bodies (out ++ told) stopped goes (going_breaks t only start was size (λ state group others. (others ≡ []) ⊎ IsWholeBefore t size state group others) told new (inl refl) stopped ends last.settled)
+            served_all size new bodies (out ++ told) (last.settled.well going).1 going goes calls (going_ends t only start was (IsEnd t.alone size) told new going (ends_after t.alone size was.groups was.held ends) last.settled)
+        by (inr stopped) = served_part size new bodies (out ++ told) stopped goes calls (going_breaks t only start was size (λ state group others. (others ≡ []) ⊎ IsWholeBefore t size state group others) told new (inl refl) stopped ends last.settled)
     underway_ended size old new bodies out told so_far (inr (inr left)) =
         served_part size new bodies (out ++ told) left.over.is (goes_on start.store old.store new.store so_far.goes left.over.goes)
+        (all_calls t start old new so_far.goes.shape so_far.goes.honest bodies so_far.calls told (inr (inr left)))
         (faulted_as t only start size (IsWholeBefore t size) (λ state group others. (others ≡ []) ⊎ IsWholeBefore t size state group others) (λ state group others is. inr is) old new bodies out (out ++ told) (ap (λ (l : List R). out ++ l) left.nothing ∙ append-nil out) left.over.disk left.over.state (so_far.broken left.over.was))

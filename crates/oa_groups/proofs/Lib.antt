@@ -8,6 +8,7 @@ pub mod Ends
 pub mod Histories
 -- what this crate alone does
 mod Running
+mod Counted
 mod InOpenGroup
 mod Faulted
 mod Alone

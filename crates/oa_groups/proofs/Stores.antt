@@ -1,5 +1,5 @@
 -- What calls leave of a store, one after another.
-use Rattle.std.proofs.Common.{◌≡◌, ℕ, ◌-◌, ◌^◌, ◌<◌, Bool, true, false, true≢false, List}
+use Rattle.std.proofs.Common.{◌≡◌, ℕ, ◌+◌, ◌-◌, ◌^◌, ◌<◌, ◌≤◌, Bool, true, false, true≢false, List}
 use Rattle.std.proofs.Common.{refl, sym, ◌∙◌, subst, arith}
 use Rattle.oa_disk.specs.declared.disk.Disk.{Ghosts}
 use Rattle.oa_journal.specs.declared.shape.Shape.{Shape}
@@ -17,6 +17,7 @@ goes_nowhere store = record {
   honest = refl;
   size = refl;
   failures = omega arith;
+  once = omega arith;
   shape = refl;
   stops = λ was is. absurd (true≢false (sym is ∙ was));
   stays = λ was. (was, refl);
@@ -29,12 +30,17 @@ goes_on {D} {g} old mid new one two = record {
   honest = two.honest ∙ one.honest;
   size = two.size ∙ one.size;
   failures = omega (arith, one.failures, two.failures);
+  once = at_most mid.stopped refl;
   shape = two.shape ∙ one.shape;
   stops = λ was is small. by (mid.stopped) refl was is small;
   stays = λ was. let here = one.stays was in let there = two.stays here.0 in (there.0, there.1 ∙ here.1);
   unfailed = λ going. two.unfailed going ∙ one.unfailed (on mid.stopped refl going);
 }
   where
+    at_most : (b : Bool) → mid.stopped ≡ b → g.failures_of new.disk ≤ g.failures_of old.disk + 1
+    at_most false at = let same = one.unfailed at in omega (arith, two.once, same)
+    at_most true at = subst (λ (d : D). g.failures_of d ≤ g.failures_of old.disk + 1) (sym (two.stays at).1) one.once
+
     by : (b : Bool) → mid.stopped ≡ b → old.stopped ≡ false → new.stopped ≡ true → g.failures_of new.disk < 2 ^ 64 - 1 → g.failures_of old.disk < g.failures_of new.disk
     by false at was is small = let rose = two.stops at is small in omega (arith, one.failures, rose)
     by true at was is small = let rose = one.stops was at (omega (arith, two.failures, small)) in omega (arith, two.failures, rose)

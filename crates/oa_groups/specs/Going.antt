@@ -1,6 +1,7 @@
 -- What stands while requests are taken. (This project's choice.)
 use Rattle.std.specs.Prelude.{◌≡◌, ◌⊎◌, ℕ, Bool, true, false, List, [], ◌∷◌, ◌++◌, length, map}
 use Rattle.oa_disk.specs.declared.disk.Disk.{Ghosts}
+use Rattle.oa_groups.specs.Counts.{CallsForRequests}
 use Rattle.oa_groups.specs.Groupings.{Grouping}
 use Rattle.oa_groups.specs.Faults.{IsWholeBefore}
 use Rattle.oa_groups.specs.Groups.{cut, events_in, groups_of, joined}
@@ -62,4 +63,5 @@ pub record Underway {S R D : Type 0} {g : Ghosts D} (t : Turns S R) (size : ℕ)
     (out : List R) : Type 0 where
   pub going : now.store.stopped ≡ false → Going t (IsCut t.alone size) start now bodies out
   pub broken : now.store.stopped ≡ true → Faulted t size (IsWholeBefore t size) start now bodies out
+  pub calls : CallsForRequests (length bodies) 0 start.store now.store
   pub goes : Goes start.store now.store

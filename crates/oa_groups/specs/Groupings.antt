@@ -7,7 +7,7 @@ use Rattle.oa_store.specs.declared.store.Store.{Store}
 use Rattle.oa_keeper.specs.Holding.{Carries, Commits, LeavesCommitted}
 use Rattle.oa_groups.specs.Groups.{fills}
 use Rattle.oa_groups.specs.Runs.{AllHoldState, HoldsState, MakesEvent}
-use Rattle.oa_store.specs.Writing.{Goes}
+use Rattle.oa_store.specs.Writing.{CallsForOneCheckpoint, Goes}
 use Rattle.oa_groups.specs.Turns.{Exchange, Turns, exchange}
 
 -- pending: the replies that are held back; events: the bytes of the events that are not committed yet
@@ -67,6 +67,7 @@ pub record FailsAtCheckpoint {S R D : Type 0} {g : Ghosts D} (t : Turns S R) (bo
   pub told_are : told ≡ map t.withdrawn old.pending ++ t.faulted body ∷ []
   pub stopped : new.store.stopped ≡ true
   pub any_moment : LeavesCommitted old.events (t.held old.state) old.store new.store
+  pub once : CallsForOneCheckpoint old.store new.store
   pub goes : Goes old.store new.store
 
 -- After a fault nothing is done.
@@ -91,6 +92,7 @@ pub record IsAnsweredAlone {S R D : Type 0} {g : Ghosts D} (t : Turns S R) (aske
   -- where a call of the device fails in it, the turn is one of those that are done
   pub doubt : new.store.stopped ≡ true → t.is_done asked.reply ≡ true
   pub quiet : t.is_done asked.reply ≡ false → new.store.disk ≡ old.store.disk
+  pub once : CallsForOneCheckpoint old.store new.store
   pub any_moment : AllHoldState t old.store old.state → LeavesState old.store new.store (λ c. HoldsState t old.state c ⊎ HoldsState t new.state c)
   pub each : new.store.stopped ≡ false → AllHoldState t old.store old.state → AllHoldState t new.store new.state
   pub goes : Goes old.store new.store

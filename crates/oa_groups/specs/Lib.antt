@@ -1,4 +1,5 @@
 pub mod Groupings
+pub mod Counts
 pub mod Faults
 pub mod Going
 pub mod Groups

@@ -3,6 +3,7 @@ use Rattle.std.specs.Prelude.{◌≡◌, ℕ, true, false, List, [], ◌∷◌, 
 use Rattle.oa_disk.specs.declared.disk.Disk.{Ghosts}
 use Rattle.oa_store.specs.Writing.{Goes}
 use Rattle.oa_store.specs.declared.store.Store.{Store}
+use Rattle.oa_groups.specs.Counts.{CallsForRequests}
 use Rattle.oa_groups.specs.Faults.{IsFaultIn}
 use Rattle.oa_groups.specs.Groups.{groups_of, joined}
 use Rattle.oa_groups.specs.Runs.{AllHoldState, HasMoments, InTurn, TurnsOver}
@@ -33,4 +34,6 @@ pub record IsServed {S R D : Type 0} {g : Ghosts D} (t : Turns S R) (size : ℕ)
   pub moments : HasMoments t old new before (groups ++ faulted) (length groups)
   -- and the next call may begin
   pub all : new.stopped ≡ false → AllHoldState t old before → AllHoldState t new after
+  -- the calls of a checkpoint and a commit for each request at most, and those of a commit at the end
+  pub calls : CallsForRequests (length bodies) 4 old new
   pub goes : Goes old new

@@ -1,1 +1,2 @@
 pub mod ClientLocks
+pub mod Counts

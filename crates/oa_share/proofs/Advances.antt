@@ -37,7 +37,7 @@ takes_end at over part bytes why n is e f =
     let some = f.0 in
     subst (λ z. ClientBrings (Some z) (take n bytes) (Ends why ∷ []) (Some Over)) o (ends_at why part (take n bytes) (omega (arith, len, some)) f.2)
 
-whole_at : (part bytes : List ℕ) → 0 < length bytes → IsWholeRecord (part ++ bytes) → ClientBrings (Some (Held part)) bytes (Body (drop 4 (part ++ bytes)) ∷ []) (Some (Held []))
+pub whole_at : (part bytes : List ℕ) → 0 < length bytes → IsWholeRecord (part ++ bytes) → ClientBrings (Some (Held part)) bytes (Body (drop 4 (part ++ bytes)) ∷ []) (Some (Held []))
 whole_at part [] some w = absurd (omega (arith, some))
 whole_at part (y ∷ ys) some w = brings_whole part y ys w
 

@@ -6,5 +6,7 @@ mod Advances
 mod States
 mod Framed
 mod Taking
+mod RecordFrames
 mod Putting
+mod Tellings
 mod Talks

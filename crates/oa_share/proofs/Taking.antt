@@ -42,7 +42,7 @@ broken_place [] = same_place Broken
 broken_place (x ∷ xs) = place_first Broken x xs ∙ broken_place xs
 
 -- behind some of a client's bytes
-abbrev place_left : ℕ → ℕ → FramePlace
+abbrev pub place_left : ℕ → ℕ → FramePlace
 place_left client n = if n == 0 then InHead [] else Within client n
 
 within_more : (client n : ℕ) → 1 < n → within client n ≡ Within client (n - 1)

@@ -12,229 +12,23 @@ use Rattle.oa_stream.specs.Ahead as ahead
 use Rattle.oa_stream.specs.declared.ahead.More.{More}
 use Rattle.oa_stream.specs.declared.ahead.More.TheVariants as more
 use Rattle.oa_frame.specs.declared.ends.End.{End}
-use Rattle.oa_stream.specs.Sink.{Output, Writes, Breaks, Delivers, IsHandedOn}
+use Rattle.oa_stream.specs.Sink.{Output, Writes, IsHandedOn}
 use Rattle.oa_stream.specs.declared.sink.Unwritten.{Unwritten}
-use Rattle.oa_stream.proofs.Stretches.{lost_few, tear, writes_nothing, writes_then}
 use Rattle.oa_share.specs.Answering.{AnswersClient, GivesUp, SharedTurn}
 use Rattle.oa_share.specs.Frames.{Broken, FramePlace, InHead, Within}
 use Rattle.oa_share.specs.Marks.{Now, Of, Owned, named}
 use Rattle.oa_share.specs.Steps.{EndsLowest, EndsWith, brought_last}
-use Rattle.oa_share.specs.Outgoing.{spelled_frames, spelled_told}
 use Rattle.oa_share.specs.Readers.{Body, Brought, ClientState, Ends}
-use Rattle.oa_share.specs.Shared.{SharedState, TakesApart, TakesSome, arrived}
+use Rattle.oa_share.specs.Shared.{IsClients, Rises, SharedState, TakesApart, TakesSome, arrived, place_behind}
 use Rattle.oa_share.specs.declared.streams.Arrival.{Arrival}
 use Rattle.oa_share.specs.declared.streams.Arrival.TheVariants as things
-use Rattle.oa_share.specs.Talking.{AllTurned, AnswersAsked, AnswersEnds, AnswersSingle, ClosesAll, EndsNext, FailsToTell, MovesOn, HasLeftAtNow, HasTold, IsEndOf, IsOver, LosesWriter, MakesNow, MakesNowBefore, ServesClients, TalksOn, TellsAll, ends_at, ends_in, input_end, reads_nothing, newest, parted, parting}
+use Rattle.oa_share.specs.Talking.{AllTurned, AnswersAsked, AnswersEnds, AnswersSingle, ClosesAll, EndsNext, FailsToTell, MovesOn, HasTold, IsEndOf, IsOver, LosesWriter, MakesNowBefore, ServesClients, TalksOn, TellsAll, ends_at, ends_in, input_end, reads_nothing, parted, parting}
 use Rattle.oa_share.specs.declared.serving.Loss.{Loss}
 use Rattle.oa_share.specs.declared.serving.Loss.TheVariants as loss
 use Rattle.oa_share.specs.declared.session_end.SessionEnd.{SessionEnd}
 use Rattle.oa_share.specs.declared.session_end.SessionEnd.TheVariants as over
 use Rattle.oa_share.proofs.Taking.{asks_then, nothing_asked}
-
--- how much has left a writer
-gone_is : (o q : Output) (bytes : List ℕ) (w : Writes o q bytes) → length w.gone + length q.kept ≡ length o.kept + length bytes
-gone_is o q bytes w = sym (length-append w.gone q.kept) ∙ ap length (sym w.whole) ∙ length-append o.kept bytes
-
-torn_is : (o q : Output) (bytes : List ℕ) (b : Breaks o q bytes) → length b.gone + length b.lost ≡ length o.kept + length bytes
-torn_is o q bytes b = sym (length-append b.gone b.lost) ∙ ap length (sym b.whole) ∙ length-append o.kept bytes
-
--- ---- what is spelled
-told_append : (xs ys : List (List (ℕ × List ℕ))) → spelled_told (xs ++ ys) ≡ spelled_told xs ++ spelled_told ys
-unfolding spelled_told
-told_append [] ys = refl
-told_append (x ∷ xs) ys = ap (λ l. spelled_frames x ++ l) (told_append xs ys) ∙ sym (append_assoc (spelled_frames x) (spelled_told xs) (spelled_told ys))
-
-told_long : (xs ys : List (List (ℕ × List ℕ))) → length (spelled_told (xs ++ ys)) ≡ length (spelled_told xs) + length (spelled_told ys)
-told_long xs ys = ap length (told_append xs ys) ∙ length-append (spelled_told xs) (spelled_told ys)
-
-told_one : (x : List (ℕ × List ℕ)) → spelled_told (x ∷ []) ≡ spelled_frames x
-unfolding spelled_told
-told_one x = append-nil (spelled_frames x)
-
-told_head : (x : List (ℕ × List ℕ)) (xs : List (List (ℕ × List ℕ))) → length (spelled_told (x ∷ xs)) ≡ length (spelled_frames x) + length (spelled_told xs)
-unfolding spelled_told
-told_head x xs = length-append (spelled_frames x) (spelled_told xs)
-
-told_none : length (spelled_told []) ≡ 0
-unfolding spelled_told
-told_none = refl
-
-nothing_told : spelled_told [] ≡ []
-unfolding spelled_told
-nothing_told = refl
-
-nothing_framed : length (spelled_frames []) ≡ 0
-unfolding spelled_frames
-nothing_framed = refl
-
--- the newest of two parts has no fewer bytes than that of the second
-newest_behind : (xs ys : List (List (ℕ × List ℕ))) → length (spelled_frames (newest ys)) ≤ length (spelled_frames (newest (xs ++ ys)))
-newest_behind [] ys = omega arith
-newest_behind (x ∷ []) [] = omega (arith, nothing_framed)
-newest_behind (x ∷ []) (y ∷ ys) = omega arith
-newest_behind (x ∷ (z ∷ zs)) ys = newest_behind (z ∷ zs) ys
-
--- ---- runs
-module _ {S : Type 0} (turn : SharedTurn S) where
-  pub run_then : (old mid new : S) (ps qs : List (Owned Brought)) (xs ys : List (List (ℕ × List ℕ))) → AllTurned turn old ps xs mid → AllTurned turn mid qs ys new → AllTurned turn old (ps ++ qs) (xs ++ ys) new
-  run_then old mid new [] qs [] ys r s = subst (λ from. AllTurned turn from qs ys new) r s
-  run_then old mid new [] qs (x ∷ xs) ys r s = absurd r
-  run_then old mid new (a ∷ ps) qs [] ys r s = absurd r
-  run_then old mid new (a ∷ ps) qs (x ∷ xs) ys r s = (r.0, r.1, run_then r.0 mid new ps qs xs ys r.2 s)
-
-  -- ---- what had left at each *now*
-  pub left_more : (gone gone' before : ℕ) (ps : List (Owned Brought)) (xs : List (List (ℕ × List ℕ))) → gone ≤ gone' → HasLeftAtNow gone before ps xs → HasLeftAtNow gone' before ps xs
-  left_more gone gone' before [] xs h l = tt
-  left_more gone gone' before (a ∷ ps) [] h l = tt
-  left_more gone gone' before (Now ∷ ps) (x ∷ xs) h l = (let here = l.0 in omega (arith, h, here), left_more gone gone' (before + length (spelled_frames x)) ps xs h l.1)
-  left_more gone gone' before (Of client y ∷ ps) (x ∷ xs) h l = left_more gone gone' (before + length (spelled_frames x)) ps xs h l
-
-  pub left_shift : (gone before k : ℕ) (ps : List (Owned Brought)) (xs : List (List (ℕ × List ℕ))) → HasLeftAtNow gone before ps xs → HasLeftAtNow (gone + k) (before + k) ps xs
-  left_shift gone before k [] xs l = tt
-  left_shift gone before k (a ∷ ps) [] l = tt
-  left_shift gone before k (Now ∷ ps) (x ∷ xs) l =
-      let here = l.0 in
-      (omega (arith, here), subst (λ n. HasLeftAtNow (gone + k) n ps xs) (swapped before (length (spelled_frames x)) k) (left_shift gone (before + length (spelled_frames x)) k ps xs l.1))
-    where
-      swapped : (a b c : ℕ) → a + b + c ≡ a + c + b
-      swapped a b c = omega arith
-  left_shift gone before k (Of client y ∷ ps) (x ∷ xs) l = subst (λ n. HasLeftAtNow (gone + k) n ps xs) (swapped before (length (spelled_frames x)) k) (left_shift gone (before + length (spelled_frames x)) k ps xs l)
-    where
-      swapped : (a b c : ℕ) → a + b + c ≡ a + c + b
-      swapped a b c = omega arith
-
-  pub left_then : (old mid : S) (gone before between : ℕ) (ps qs : List (Owned Brought)) (xs ys : List (List (ℕ × List ℕ))) → AllTurned turn old ps xs mid → between ≡ before + length (spelled_told xs)
-      → HasLeftAtNow gone before ps xs → HasLeftAtNow gone between qs ys → HasLeftAtNow gone before (ps ++ qs) (xs ++ ys)
-  left_then old mid gone before between [] qs [] ys r e l m = subst (λ n. HasLeftAtNow gone n qs ys) (omega (arith, e, told_none)) m
-  left_then old mid gone before between [] qs (x ∷ xs) ys r e l m = absurd r
-  left_then old mid gone before between (a ∷ ps) qs [] ys r e l m = absurd r
-  left_then old mid gone before between (Now ∷ ps) qs (x ∷ xs) ys r e l m = (l.0, left_then r.0 mid gone (before + length (spelled_frames x)) between ps qs xs ys r.2 (omega (arith, e, told_head x xs)) l.1 m)
-  left_then old mid gone before between (Of client y ∷ ps) qs (x ∷ xs) ys r e l m = left_then r.0 mid gone (before + length (spelled_frames x)) between ps qs xs ys r.2 (omega (arith, e, told_head x xs)) l m
-
-  -- ---- what was told, one part after another
-  pub told_nothing : (o : Output) (state : S) → o.broken ≡ false → HasTold turn [] o o state state
-  told_nothing o state h = record { tolds = []; run = refl; written = subst (Writes o o) (sym nothing_told) (writes_nothing o h); left = tt }
-
-  -- only handed on
-  pub told_quiet : (o p : Output) (state : S) → Writes o p [] → HasTold turn [] o p state state
-  told_quiet o p state w = record { tolds = []; run = refl; written = subst (Writes o p) (sym nothing_told) w; left = tt }
-
-  pub told_then : (ps qs : List (Owned Brought)) (o p q : Output) (old mid new : S) → HasTold turn ps o p old mid → HasTold turn qs p q mid new → HasTold turn (ps ++ qs) o q old new
-  told_then ps qs o p q old mid new a b =
-      let w : Writes o q (spelled_told (a.tolds ++ b.tolds)) = subst (Writes o q) (sym (told_append a.tolds b.tolds)) (writes_then o p q _ _ a.written b.written) in
-      let one = gone_is o p _ a.written in
-      let two = gone_is p q _ b.written in
-      let all = gone_is o q _ w in
-      let long = told_long a.tolds b.tolds in
-      let more : HasLeftAtNow (length w.gone) (length p.kept + length a.written.gone) qs b.tolds =
-      subst (λ n. HasLeftAtNow n (length p.kept + length a.written.gone) qs b.tolds) (omega (arith, one, two, all, long)) (left_shift (length b.written.gone) (length p.kept) (length a.written.gone) qs b.tolds b.left) in
-      record {
-        tolds = a.tolds ++ b.tolds;
-        run = run_then old mid new ps qs a.tolds b.tolds a.run b.run;
-        written = w;
-        left = left_then old mid (length w.gone) (length o.kept) (length p.kept + length a.written.gone) ps qs a.tolds b.tolds a.run (omega (arith, one))
-            (left_more (length a.written.gone) (length w.gone) (length o.kept) ps a.tolds (omega (arith, one, two, all, long)) a.left) more;
-      }
-
-  run_apart : (old new : S) (ps qs ends : List (Owned Brought)) (xs given unheard : List (List (ℕ × List ℕ))) → AllTurned turn old (ps ++ (qs ++ ends)) (xs ++ (given ++ unheard)) new
-      → AllTurned turn old ((ps ++ qs) ++ ends) ((xs ++ given) ++ unheard) new
-  run_apart old new ps qs ends xs given unheard r =
-      subst (λ l. AllTurned turn old l ((xs ++ given) ++ unheard) new) (sym (append_assoc ps qs ends)) (subst (λ l. AllTurned turn old (ps ++ (qs ++ ends)) l new) (sym (append_assoc xs given unheard)) r)
-
-  pub loses_then : (ps qs ends : List (Owned Brought)) (o p q : Output) (old mid new : S) → HasTold turn ps o p old mid → LosesWriter turn qs ends p q mid new → LosesWriter turn (ps ++ qs) ends o q old new
-  loses_then ps qs ends o p q old mid new a b =
-      let tears = tear o p q _ _ (spelled_told (a.tolds ++ b.given)) (told_append a.tolds b.given) a.written b.torn in
-      let one = gone_is o p _ a.written in
-      let two = torn_is p q _ b.torn in
-      let all = torn_is o q _ tears.torn in
-      let same = ap length tears.same in
-      let long = told_long a.tolds b.given in
-      let few = b.few in
-      let back = a.written.back in
-      let newer = newest_behind a.tolds b.given in
-      let more : HasLeftAtNow (length tears.torn.gone) (length p.kept + length a.written.gone) qs b.given =
-      subst (λ n. HasLeftAtNow n (length p.kept + length a.written.gone) qs b.given) (omega (arith, one, two, all, same, long)) (left_shift (length b.torn.gone) (length p.kept) (length a.written.gone) qs b.given b.left) in
-      record {
-        given = a.tolds ++ b.given;
-        unheard = b.unheard;
-        run = run_apart old new ps qs (ends ++ Now ∷ []) a.tolds b.given b.unheard (run_then old mid new ps (qs ++ (ends ++ Now ∷ [])) a.tolds (b.given ++ b.unheard) a.run b.run);
-        one = b.one;
-        torn = tears.torn;
-        few = omega (arith, few, back, newer, same);
-        left = left_then old mid (length tears.torn.gone) (length o.kept) (length p.kept + length a.written.gone) ps qs a.tolds b.given a.run (omega (arith, one))
-            (left_more (length a.written.gone) (length tears.torn.gone) (length o.kept) ps a.tolds (omega (arith, one, two, all, same, long)) a.left) more;
-      }
-
-  -- what was asked were ends
-  pub as_ends : (ps : List (Owned Brought)) (o q : Output) (old new : S) → LosesWriter turn ps [] o q old new → LosesWriter turn [] ps o q old new
-  as_ends ps o q old new a = record { given = a.given; unheard = a.unheard; run = a.run; one = a.one; torn = a.torn; few = a.few; left = tt }
-
-  -- ---- one turn
-  pub told_once : (client : ℕ) (x : Brought) (u : Unit {0}) (o p : Output) (old new : S) → AnswersClient turn (Ok u) (Of client x) o p old new → HasTold turn (Of client x ∷ []) o p old new
-  told_once client x u o p old new a = record { tolds = a.told ∷ []; run = (new, a.turned, refl); written = subst (Writes o p) (sym (told_one a.told)) a.put; left = tt }
-
-  -- the writer failed in it
-  pub loses_once : (client : ℕ) (x : Brought) (fault : Unwritten) (o q : Output) (old mid new : S) → length o.kept ≤ o.back → AnswersClient turn (Err fault) (Of client x) o q old mid → GivesUp turn mid new → LosesWriter turn (Of client x ∷ []) [] o q old new
-  loses_once client x fault o q old mid new keeps a g =
-      let torn : Breaks o q (spelled_told (a.told ∷ [])) = subst (Breaks o q) (sym (told_one a.told)) a.put in
-      let few = lost_few o q _ o.back torn keeps refl in
-      let long = ap length (told_one a.told) in
-      record {
-        given = a.told ∷ [];
-        unheard = g.told ∷ [];
-        run = (mid, a.turned, (new, g.turned, refl));
-        one = omega arith;
-        torn = torn;
-        few = omega (arith, few, long);
-        left = tt;
-      }
-
-  -- it failed where all was to be handed on
-  pub loses_quiet : (o q : Output) (old new : S) → length o.kept ≤ o.back → Breaks o q [] → GivesUp turn old new → LosesWriter turn [] [] o q old new
-  loses_quiet o q old new keeps b g =
-      let torn : Breaks o q (spelled_told []) = subst (Breaks o q) (sym nothing_told) b in
-      let few = lost_few o q _ o.back torn keeps refl in
-      record { given = []; unheard = g.told ∷ []; run = (new, g.turned, refl); one = omega arith; torn = torn; few = omega (arith, few, told_none, nothing_framed); left = tt }
-
-  -- ---- *now*
-  pub told_now : (u : Unit {0}) (o p q : Output) (old new : S) → AnswersClient turn (Ok u) Now o p old new → Writes p q [] → IsHandedOn q → HasTold turn (Now ∷ []) o q old new
-  told_now u o p q old new a w h =
-      let all : Writes o q (spelled_told (a.told ∷ [])) = subst (Writes o q) (append-nil (spelled_frames a.told) ∙ sym (told_one a.told)) (writes_then o p q _ _ a.put w) in
-      let gone = gone_is o q _ all in
-      let none = ap length h.nothing in
-      let long = ap length (told_one a.told) in
-      record { tolds = a.told ∷ []; run = (new, a.turned, refl); written = all; left = (omega (arith, gone, none, long), tt) }
-
-  pub loses_now : (fault : Unwritten) (o q : Output) (old new : S) → length o.kept ≤ o.back → AnswersClient turn (Err fault) Now o q old new → LosesWriter turn [] [] o q old new
-  loses_now fault o q old new keeps a =
-      let torn : Breaks o q (spelled_told (a.told ∷ [])) = subst (Breaks o q) (sym (told_one a.told)) a.put in
-      let few = lost_few o q _ o.back torn keeps refl in
-      let long = ap length (told_one a.told) in
-      record { given = a.told ∷ []; unheard = []; run = (new, a.turned, refl); one = omega arith; torn = torn; few = omega (arith, few, long); left = tt }
-
-  pub loses_delivery : (u : Unit {0}) (o p q : Output) (old new : S) → length p.kept ≤ p.back → AnswersClient turn (Ok u) Now o p old new → Breaks p q [] → LosesWriter turn [] [] o q old new
-  loses_delivery u o p q old new keeps a b =
-      let tears = tear o p q _ [] (spelled_told (a.told ∷ [])) (told_one a.told ∙ sym (append-nil (spelled_frames a.told))) a.put b in
-      let few = lost_few p q [] o.back b keeps a.put.back in
-      let same = ap length tears.same in
-      record { given = a.told ∷ []; unheard = []; run = (new, a.turned, refl); one = omega arith; torn = tears.torn; few = omega (arith, few, same); left = tt }
-
-  pub now_delivers : (u : Unit {0}) (result : Result (Unit {0}) Unwritten) (o p q : Output) (old new : S) → length p.kept ≤ p.back → AnswersClient turn (Ok u) Now o p old new → Delivers result p q → MakesNow turn result o q old new
-  now_delivers u (Ok v) o p q old new keeps a d = (told_now u o p q old new a d.0 d.1, d.1)
-  now_delivers u (Err f) o p q old new keeps a d = loses_delivery u o p q old new keeps a d
-
-  pub now_breaks : (result : Result (Unit {0}) Unwritten) (fault : Unwritten) (o q : Output) (old new : S) → IsErr result → length o.kept ≤ o.back → AnswersClient turn (Err fault) Now o q old new → MakesNow turn result o q old new
-  now_breaks (Ok u) fault o q old new is keeps a = absurd (false≢true is)
-  now_breaks (Err f) fault o q old new is keeps a = loses_now fault o q old new keeps a
-
-  pub now_alone : (b : Bool) (result : Result (Unit {0}) Unwritten) (o q : Output) (old new : S) → b ≡ true → MakesNow turn result o q old new → MakesNowBefore turn b result o q old new
-  now_alone true (Ok u) o q old new is m = (m.0, λ _. m.1)
-  now_alone true (Err f) o q old new is m = m
-  now_alone false result o q old new is m = absurd (false≢true is)
-
-  pub now_together : (b : Bool) (o : Output) (state : S) → b ≡ false → o.broken ≡ false → MakesNowBefore turn b (Ok tt) o o state state
-  now_together false o state is h = (told_nothing o state h, λ e. absurd (false≢true e))
-  now_together true o state is h = absurd (false≢true (sym is))
+use Rattle.oa_share.proofs.Tellings.{as_ends, loses_once, loses_then, told_nothing, told_once, told_quiet, told_then}
 
 -- ---- bodies that come alone
 pub parted_append : (alone : List ℕ → Bool) (ps qs : List (Owned Brought)) → parted alone (ps ++ qs) ≡ parted alone ps ++ parted alone qs
@@ -250,7 +44,7 @@ pub end_later : (why : SessionEnd) (place : FramePlace) (used used' : ℕ) (i : 
 end_later over.Closed place used used' i h e = e
 end_later over.Cut place used used' i h e = e
 end_later over.Unknown place used used' i h e = e
-end_later over.Memory place used used' i h e = tt
+end_later over.Memory place used used' i h e = e
 end_later over.ReadFault place used used' i h (inl f) = inl f
 end_later over.ReadFault place used used' i h (inr f) = inr (omega (arith, h, f))
 end_later over.WriteFault place used used' i h e = absurd e
@@ -298,6 +92,7 @@ module _ {S : Type 0} (alone : List ℕ → Bool) (turn : SharedTurn S) where
         ended = end_later why b.streams.place (b.calls + length b.taken) (a.calls + b.calls + length (a.taken ++ b.taken)) k (omega (arith, long)) c.ended;
         told = subst (λ l. HasTold turn l o q old new) (sym (append_assoc (parted alone a.asked) (parted alone b.asked) (ends_at why b.streams.clients ++ Now ∷ [])) ∙ ap (λ l. l ++ (ends_at why b.streams.clients ++ Now ∷ [])) (sym (parted_append alone a.asked b.asked)))
             (told_then turn (parted alone a.asked) (parted alone b.asked ++ (ends_at why b.streams.clients ++ Now ∷ [])) o p q old between new a.told c.told);
+        rise = c.rise;
         handed_on = c.handed_on;
       })
       by (inr c) = inr (record {
@@ -305,6 +100,7 @@ module _ {S : Type 0} (alone : List ℕ → Bool) (turn : SharedTurn S) where
         ends = c.ends;
         others = c.others;
         are = c.are;
+        rise = c.rise;
         loses = subst (λ l. LosesWriter turn l c.ends o q old new) (sym (parted_append alone a.asked b.asked)) (loses_then turn (parted alone a.asked) (parted alone b.asked) c.ends o p q old between new a.told c.loses);
       })
 
@@ -384,7 +180,7 @@ module _ {S : Type 0} (alone : List ℕ → Bool) (turn : SharedTurn S) where
     apart = a;
     clock = t.clock ∙ no_call i.calls;
     sound = λ s. t.fault ∙ well;
-    done = inr (record { ended = refl; ends = []; others = ends_in to.clients; are = refl; loses = h });
+    done = inr (record { ended = refl; ends = []; others = ends_in to.clients; are = refl; rise = λ some. absurd (some refl); loses = h });
   }
 
   -- nothing was taken
@@ -398,7 +194,7 @@ module _ {S : Type 0} (alone : List ℕ → Bool) (turn : SharedTurn S) where
     apart = stays from;
     clock = no_call i.calls;
     sound = λ s. well;
-    done = inr (record { ended = refl; ends = []; others = ends_in from.clients; are = refl; loses = subst (λ l. LosesWriter turn l [] o p old new) (sym (parted_none alone)) h });
+    done = inr (record { ended = refl; ends = []; others = ends_in from.clients; are = refl; rise = λ some. absurd (some refl); loses = subst (λ l. LosesWriter turn l [] o p old new) (sym (parted_none alone)) h });
   }
 
   over_here : (why : SessionEnd) (from to : SharedState) (i : Input) (o : Output) (state : S) → o.broken ≡ false → i.faulted ≡ false → TakesApart from [] [] to → IsEndOf why to.place 0 i → IsOver alone turn why from to i i o o state state
@@ -408,8 +204,9 @@ module _ {S : Type 0} (alone : List ℕ → Bool) (turn : SharedTurn S) where
     sound = λ s. well;
   }
 
-  pub over_memory : (from to : SharedState) (i : Input) (o : Output) (state : S) → o.broken ≡ false → i.faulted ≡ false → TakesApart from [] [] to → IsOver alone turn over.Memory from to i i o o state state
-  over_memory from to i o state h well t = over_here over.Memory from to i o state h well t tt
+  pub over_memory : (from to : SharedState) (i : Input) (o : Output) (state : S) → o.broken ≡ false → i.faulted ≡ false → TakesApart from [] [] to → IsClients from.place → IsOver alone turn over.Memory from to i i o o state state
+  unfolding place_behind
+  over_memory from to i o state h well t c = over_here over.Memory from to i o state h well t (subst IsClients t.place c)
 
   pub over_unknown : (from : SharedState) (i : Input) (o : Output) (state : S) → o.broken ≡ false → i.faulted ≡ false → reads_nothing from.place ≡ true → IsOver alone turn over.Unknown from from i i o o state state
   over_unknown from i o state h well e = over_here over.Unknown from from i o state h well (stays from) e
@@ -610,9 +407,9 @@ module _ {S : Type 0} (alone : List ℕ → Bool) (turn : SharedTurn S) where
   )
 
   -- ---- the whole session
-  pub over_closes : (result why : SessionEnd) (from to : SharedState) (i j : Input) (o p q : Output) (old between new : S) → IsOver alone turn why from to i j o p old between → ClosesAll turn result why to.clients p q between new
+  pub over_closes : (result why : SessionEnd) (from to : SharedState) (i j : Input) (o p q : Output) (old between new : S) → IsOver alone turn why from to i j o p old between → ClosesAll turn result why to.clients p q between new → Rises to.clients
       → ServesClients alone turn from i j o q old new result
-  over_closes result why from to i j o p q old between new a c = record {
+  over_closes result why from to i j o p q old between new a c rise = record {
     taken = a.talks.taken;
     asked = a.talks.asked;
     streams = to;
@@ -630,6 +427,7 @@ module _ {S : Type 0} (alone : List ℕ → Bool) (turn : SharedTurn S) where
         ended = subst (λ (e : SessionEnd). IsEndOf e to.place (a.talks.calls + length a.talks.taken) j) (sym d.0) (end_later why to.place 0 (a.talks.calls + length a.talks.taken) j (omega arith) a.ended);
         told = subst (λ (e : SessionEnd). HasTold turn (parted alone a.talks.asked ++ (ends_at e to.clients ++ Now ∷ [])) o q old new) (sym d.0)
             (told_then turn (parted alone a.talks.asked) (ends_at why to.clients ++ Now ∷ []) o p q old between new a.talks.told d.1);
+        rise = rise;
         handed_on = d.2;
       })
       by (inr d) = inr (record {
@@ -637,6 +435,7 @@ module _ {S : Type 0} (alone : List ℕ → Bool) (turn : SharedTurn S) where
         ends = d.1.ends;
         others = d.1.others;
         are = d.1.are;
+        rise = λ some. rise;
         loses = subst (λ l. LosesWriter turn l d.1.ends o q old new) (append-nil (parted alone a.talks.asked)) (loses_then turn (parted alone a.talks.asked) [] d.1.ends o p q old between new a.talks.told d.1.loses);
       })
 
@@ -664,8 +463,8 @@ module _ {S : Type 0} (alone : List ℕ → Bool) (turn : SharedTurn S) where
 
   -- as many as may be
   pub far_used : (result : SessionEnd) (from to : SharedState) (i j : Input) (o p q : Output) (old between new : S) (count : ℕ) → max_records ≤ count → j.faulted ≡ false → SharedSoFar from to i j o p old between count
-      → ClosesAll turn result over.ReadFault to.clients p q between new → ServesClients alone turn from i j o q old new result
-  far_used result from to i j o p q old between new count all well a c = record {
+      → ClosesAll turn result over.ReadFault to.clients p q between new → Rises to.clients → ServesClients alone turn from i j o q old new result
+  far_used result from to i j o p q old between new count all well a c rise = record {
     taken = a.talks.taken;
     asked = a.talks.asked;
     streams = to;
@@ -686,6 +485,7 @@ module _ {S : Type 0} (alone : List ℕ → Bool) (turn : SharedTurn S) where
         ended = subst (λ (e : SessionEnd). IsEndOf e to.place (a.talks.calls + length a.talks.taken) j) (sym d.0) (inr many);
         told = subst (λ (e : SessionEnd). HasTold turn (parted alone a.talks.asked ++ (ends_at e to.clients ++ Now ∷ [])) o q old new) (sym d.0)
             (told_then turn (parted alone a.talks.asked) ([] ++ Now ∷ []) o p q old between new a.talks.told d.1);
+        rise = rise;
         handed_on = d.2;
       })
       by (inr d) = inr (record {
@@ -693,5 +493,6 @@ module _ {S : Type 0} (alone : List ℕ → Bool) (turn : SharedTurn S) where
         ends = d.1.ends;
         others = d.1.others;
         are = d.1.are;
+        rise = λ some. rise;
         loses = subst (λ l. LosesWriter turn l d.1.ends o q old new) (append-nil (parted alone a.talks.asked)) (loses_then turn (parted alone a.talks.asked) [] d.1.ends o p q old between new a.talks.told d.1.loses);
       })

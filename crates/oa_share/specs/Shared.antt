@@ -1,10 +1,14 @@
 -- One stream of the frames of many clients, taken apart. (This project's choice.)
-use Rattle.std.specs.Prelude.{◌≡◌, ◌<◌, ◌≤◌, ℕ, ◌==◌, Bool, if◌then◌else◌, List, [], ◌∷◌, take, ⊤}
+use Rattle.std.specs.Prelude.{◌≡◌, ◌<◌, ◌≤◌, ℕ, ◌-◌, ◌==◌, Bool, if◌then◌else◌, List, [], ◌∷◌, length, slice_range, take, ⊤}
+use Rattle.std.specs.List.Sorted.{IsStrictlySortedBy}
+use Rattle.std.specs.Map.{keys_of}
+use Rattle.std.specs.Ordering.{nat_cmp}
 use Rattle.oa_share.specs.Marks.{Owned, StreamPiece, Of, Now, States, put_at}
-use Rattle.oa_share.specs.Readers.{Body, Brought, Ends, ClientState, Reads, asked_in, records_of}
-use Rattle.oa_share.specs.Frames.{Broken, InHead, FramePlace, Within, begun, framed, items_in}
+use Rattle.oa_share.specs.Readers.{Body, Brought, Ends, ClientState, IsWholeRecord, Reads, asked_in, records_of}
+use Rattle.oa_share.specs.Frames.{Broken, InHead, FramePlace, Within, begun, frame_head_of, framed, items_in}
 use Rattle.oa_share.specs.Steps.{body_of, state_of}
 use Rattle.oa_share.specs.declared.frame.FrameHead.{FrameHead}
+use Rattle.oa_share.specs.declared.frame.FrameHead.TheVariants as head
 use Rattle.oa_share.specs.declared.streams.Arrival.{Arrival}
 use Rattle.oa_share.specs.declared.streams.Arrival.TheVariants as things
 
@@ -26,6 +30,10 @@ pub record SharedState : Type 0 where
 
 abbrev pub starting : SharedState
 starting = record { place = InHead []; clients = [] }
+
+-- the numbers of the clients that are there rise, so that each stands once
+abbrev pub Rises : List (ℕ × ClientState) → Type 0
+Rises clients = IsStrictlySortedBy nat_cmp (keys_of clients)
 
 -- where the reading stands, by what is kept of it
 abbrev pub place_of : Bool → ℕ → ℕ → ℕ → List ℕ → FramePlace
@@ -65,3 +73,17 @@ pub record Begins (head : FrameHead) (old : SharedState) (all : List (Owned Brou
   pub brought : asked_in records_of (state_of old.clients) (begun head).0 ≡ all
   pub place : new.place ≡ (begun head).1
   pub states : (client : ℕ) → states_behind records_of (state_of old.clients) (begun head).0 client ≡ state_of new.clients client
+
+-- the first bytes of these, so many, are a frame of this client that brings one whole record and no more
+pub record IsRecordFrame (bytes : List ℕ) (client count : ℕ) : Type 0 where
+  pub some : 12 < count
+  pub within : count ≤ length bytes
+  pub says : frame_head_of (take 8 bytes) ≡ head.Bytes client (count - 8)
+  pub whole : IsWholeRecord (slice_range bytes 8 count)
+
+-- The first bytes of these, so many, bring the body of one whole record, which ends with them and stands behind a head and a length, and leave
+-- the stream as it was.
+pub record BringsRecord (streams : SharedState) (bytes : List ℕ) (client count : ℕ) : Type 0 where
+  pub some : 12 < count
+  pub within : count ≤ length bytes
+  pub apart : TakesApart streams (take count bytes) (Of client (Body (slice_range bytes 12 count)) ∷ []) streams

@@ -1,5 +1,5 @@
 -- A session of many clients over a reader and a writer. (This project's choice.)
-use Rattle.std.specs.Prelude.{◌≡◌, ◌⊎◌, ℕ, ◌+◌, ◌<◌, ◌≤◌, Bool, true, false, if◌then◌else◌, List, [], ◌∷◌, ◌++◌, length, Some, Result, Ok, Err, ⊤}
+use Rattle.std.specs.Prelude.{◌≡◌, ◌≢◌, ◌⊎◌, ℕ, ◌+◌, ◌<◌, ◌≤◌, Bool, true, false, if◌then◌else◌, List, [], ◌∷◌, ◌++◌, length, Some, Result, Ok, Err}
 use Rattle.std.specs.Io.KnownBytes.{Consumes, IsAtEnd}
 use Rattle.oa_model.specs.Limits.{max_records}
 use Rattle.oa_stream.specs.Source.{Input, later}
@@ -10,7 +10,7 @@ use Rattle.oa_share.specs.Frames.{Broken, FramePlace, InHead, Within}
 use Rattle.oa_share.specs.Marks.{Last, Now, Of, Owned, named}
 use Rattle.oa_share.specs.Outgoing.{spelled_frames, spelled_told}
 use Rattle.oa_share.specs.Readers.{Body, Brought, ClientState, Ends, records_of}
-use Rattle.oa_share.specs.Shared.{SharedState, TakesApart}
+use Rattle.oa_share.specs.Shared.{IsClients, Rises, SharedState, TakesApart}
 use Rattle.oa_share.specs.declared.serving.Loss.{Loss}
 use Rattle.oa_share.specs.declared.serving.Loss.TheVariants as loss
 use Rattle.oa_share.specs.declared.serving.Progress.{Progress}
@@ -86,13 +86,13 @@ reads_nothing (InHead front) = false
 reads_nothing (Within client n) = false
 reads_nothing Broken = true
 
--- Why the reading ended: the input did, between two frames or within one; a head said nothing; memory was refused; the reader failed, or so
--- many bytes and calls of it were used up.
+-- Why the reading ended: the input did, between two frames or within one; a head said nothing; memory was refused among a client's bytes; the
+-- reader failed, or so many bytes and calls of it were used up.
 abbrev pub IsEndOf : SessionEnd → FramePlace → ℕ → Input → Type 0
 IsEndOf over.Closed place used input = (input_end place ≡ over.Closed) × IsAtEnd input.left
 IsEndOf over.Cut place used input = (input_end place ≡ over.Cut) × IsAtEnd input.left
 IsEndOf over.Unknown place used input = reads_nothing place ≡ true
-IsEndOf over.Memory place used input = ⊤
+IsEndOf over.Memory place used input = IsClients place
 IsEndOf over.ReadFault place used input = (input.faulted ≡ true) ⊎ (max_records ≤ used)
 IsEndOf over.WriteFault place used input = ⊥
 
@@ -105,10 +105,11 @@ ends_at over.Memory clients = []
 ends_at over.ReadFault clients = []
 ends_at over.WriteFault clients = []
 
--- all was answered and has left: what was asked, the ends, and a last *now*
+-- all was answered and has left: what was asked, the ends, of the lowest number first, and a last *now*
 pub record TellsAll {S : Type 0} (turn : SharedTurn S) (asks : List (Owned Brought)) (why : SessionEnd) (streams : SharedState) (used : ℕ)
     (input : Input) (out out' : Output) (old new : S) : Type 0 where
   pub ended : IsEndOf why streams.place used input
+  pub rise : Rises streams.clients
   pub told : HasTold turn (asks ++ (ends_at why streams.clients ++ Now ∷ [])) out out' old new
   pub handed_on : IsHandedOn out'
 
@@ -119,6 +120,7 @@ pub record FailsToTell {S : Type 0} (turn : SharedTurn S) (asks : List (Owned Br
   pub ends : List (Owned Brought)
   pub others : List (Owned Brought)
   pub are : ends ++ others ≡ ends_in clients
+  pub rise : ends ≢ [] → Rises clients
   pub loses : LosesWriter turn asks ends out out' old new
 
 -- A whole session of many clients, from some state of the reading on: the bytes that were taken; what they ask of all clients, in the order

@@ -1,5 +1,5 @@
 //! A client that is there.
-ghost use Rattle.std.specs.Prelude.{◌≡◌, ◌<◌, ◌≤◌, [], length, take, IfOk, OnErr, Some, None};
+ghost use Rattle.std.specs.Prelude.{◌≡◌, ◌<◌, ◌≤◌, [], length, take, true, IfOk, OnErr, Some, None};
 ghost use Rattle.oa_share.specs.Readers.{ClientBrings, IsWholeRecord};
 ghost use Rattle.oa_share.specs.Readers.ClientState.{Held, Over};
 ghost use Rattle.oa_share.specs.Steps.{EndsWith, IsWholeBehind, Takes, brought};
@@ -41,6 +41,13 @@ impl Client {
             part: Vec::new(alloc),
             over: false,
         }
+    }
+
+    /// Whether it stands between two records.
+    pub(crate) fn is_between(&self) -> bool
+        ensures { result ≡ true → self.now ≡ Held [] }
+    {
+        !self.over && self.part.is_empty()
     }
 
     /// Takes the first of these bytes, up to the first that brings something. Err where memory is refused for a part of a record:

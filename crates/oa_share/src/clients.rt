@@ -1,9 +1,8 @@
 //! The clients that are there.
-ghost use Rattle.std.specs.Prelude.{◌≡◌, ◌<◌, [], length, take, IfOk, OnErr, None};
-ghost use Rattle.std.specs.List.Sorted.{IsStrictlySortedBy};
-ghost use Rattle.std.specs.Map.{keys_of};
-ghost use Rattle.std.specs.Ordering.{nat_cmp};
+ghost use Rattle.std.specs.Prelude.{◌≡◌, ◌<◌, [], length, take, true, IfOk, OnErr, None, Some};
 ghost use Rattle.oa_share.specs.Readers.{ClientBrings};
+ghost use Rattle.oa_share.specs.Readers.ClientState.{Held};
+ghost use Rattle.oa_share.specs.Shared.{Rises};
 ghost use Rattle.oa_share.specs.Steps.{EndsLowest, EndsWith, OthersStay, Takes, brought, first_of, state_of};
 
 use crate::ClientStep;
@@ -50,6 +49,16 @@ impl Clients {
         match self.clients.iter().next() {
             Some((client, _)) => Some(*client),
             None => None,
+        }
+    }
+
+    /// Whether a client is there, and has sent no part of a record that is not whole, nor its end.
+    pub(crate) fn is_between(&self, client: u32) -> bool
+        ensures { result ≡ true → state_of self.now client ≡ Some (Held []) }
+    {
+        match self.clients.get_near(&client, client as usize) {
+            Some(found) => found.is_between(),
+            None => false,
         }
     }
 
@@ -121,8 +130,8 @@ impl Clients {
     }
 
     /// A fact and no work: the numbers of the clients rise.
-    fn numbers_rise(&self)
-        ensures { IsStrictlySortedBy nat_cmp (keys_of self.now) }
+    pub(crate) fn numbers_rise(&self)
+        ensures { Rises self.now }
     {
         // For the prover: the clause `ordered` of `len`.
         let _count = self.clients.len();

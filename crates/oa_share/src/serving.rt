@@ -3,9 +3,9 @@ ghost use Rattle.std.specs.Prelude.{◌≡◌, ◌<◌, ◌≤◌, ◌∷◌, []
 ghost use Rattle.oa_frame.specs.Beginnings.{AreUnbroken};
 ghost use Rattle.oa_share.specs.Marks.{Of};
 ghost use Rattle.oa_share.specs.Readers.{Body, Ends};
-ghost use Rattle.oa_share.specs.Shared.{arrived, starting};
+ghost use Rattle.oa_share.specs.Shared.{BringsRecord, Rises, arrived, starting};
 ghost use Rattle.oa_share.specs.Talking.{AnswersAsked, AnswersEnds, AnswersSingle, ClosesAll, EndsNext, MakesNow, MakesNowBefore, Progresses, ServesClients};
-ghost use Rattle.oa_share.specs.Talking.{ends_at, ends_in, parted};
+ghost use Rattle.oa_share.specs.Talking.{ends_at, ends_in, parted, reads_nothing};
 ghost use Rattle.oa_share.specs.declared.session_end.SessionEnd.TheVariants as over;
 ghost use Rattle.oa_stream.specs.Ahead.{ahead, read_ahead};
 
@@ -83,10 +83,13 @@ fn part<S: SharedResponder, R: Source + Drop, W: Sink>(
     if reader.buffered().is_empty() {
         return wait(server, streams, reader, writer);
     }
-    take_part(server, streams, reader, writer)
+    match streams.whole_record(reader.buffered()) {
+        Some((client, count)) => answer_record(server, streams, client, count, reader, writer),
+        None => take_part(server, streams, reader, writer),
+    }
 }
 
-/// Hands all on, and waits for more input.
+/// Hands all on, and waits for more input. Nothing is read behind a head that says nothing.
 fn wait<S: SharedResponder, R: Source + Drop, W: Sink>(
     server: &mut S,
     streams: &Streams,
@@ -94,6 +97,7 @@ fn wait<S: SharedResponder, R: Source + Drop, W: Sink>(
     writer: &mut W,
 ) -> Progress
     requires ready { S.ready server.old }
+    requires open { reads_nothing streams.now.place ≡ false }
     requires none { read_ahead reader.old ≡ [] }
     requires unbroken { AreUnbroken (ahead R.input reader.old) (W.out writer.old) }
     ensures progresses { Progresses S.alone S.turn result streams.now streams.now (ahead R.input reader.old) (ahead R.input reader.new)
@@ -111,6 +115,36 @@ fn wait<S: SharedResponder, R: Source + Drop, W: Sink>(
     }
 }
 
+/// Answers the record in the frame of so many bytes at the front of what is read ahead, from where it stands.
+fn answer_record<S: SharedResponder, R: Source + Drop, W: Sink>(
+    server: &mut S,
+    streams: &Streams,
+    client: u32,
+    count: usize,
+    reader: &mut Ahead<R>,
+    writer: &mut W,
+) -> Progress
+    requires ready { S.ready server.old }
+    requires brings { BringsRecord streams.now (read_ahead reader.old) client count }
+    requires unbroken { AreUnbroken (ahead R.input reader.old) (W.out writer.old) }
+    ensures progresses { Progresses S.alone S.turn result streams.now streams.now (ahead R.input reader.old) (ahead R.input reader.new)
+        (W.out writer.old) (W.out writer.new) server.old server.new }
+    ensures ready { S.ready server.new }
+{
+    let body = &reader.buffered()[12..count];
+    match answer_body(server, client, body, writer) {
+        Ok(()) => {
+            reader.advance(count);
+            Progress::Goes
+        }
+        Err(Loss::Answered) => {
+            reader.advance(count);
+            Progress::Unwritten
+        }
+        Err(Loss::Undone) => Progress::Unwritten,
+    }
+}
+
 /// Takes the first of what is read ahead, and answers what it asks. What could not be answered, since the writer failed before, is not taken.
 fn take_part<S: SharedResponder, R: Source + Drop, W: Sink>(
     server: &mut S,
@@ -119,6 +153,7 @@ fn take_part<S: SharedResponder, R: Source + Drop, W: Sink>(
     writer: &mut W,
 ) -> Progress
     requires ready { S.ready server.old }
+    requires open { reads_nothing streams.old.place ≡ false }
     requires some { 0 < length (read_ahead reader.old) }
     requires unbroken { AreUnbroken (ahead R.input reader.old) (W.out writer.old) }
     ensures progresses { Progresses S.alone S.turn result streams.old streams.new (ahead R.input reader.old) (ahead R.input reader.new)
@@ -246,8 +281,10 @@ fn close<S: SharedResponder, W: Sink>(
     requires ready { S.ready server.old }
     requires unbroken { (W.out writer.old).broken ≡ false }
     ensures closes { ClosesAll S.turn result why streams.old.clients (W.out writer.old) (W.out writer.new) server.old server.new }
+    ensures rise { Rises streams.old.clients }
     ensures ready { S.ready server.new }
 {
+    streams.numbers_rise();
     if let Err(_) = end_clients(server, streams, writer, why) {
         return SessionEnd::WriteFault;
     }

@@ -1,8 +1,8 @@
 //! The frames of many clients, taken apart.
-ghost use Rattle.std.specs.Prelude.{◌≡◌, ◌<◌, ◌≤◌, ◌+◌, ◌++◌, [], length, take, IfOk, OnErr};
+ghost use Rattle.std.specs.Prelude.{◌≡◌, ◌<◌, ◌≤◌, ◌+◌, ◌++◌, [], length, take, IfOk, IfSome, OnErr};
 ghost use Rattle.oa_share.specs.Frames.{InHead, SaysSome};
 ghost use Rattle.oa_share.specs.Marks.{named};
-ghost use Rattle.oa_share.specs.Shared.{TakesApart, Begins, IsClients, IsHeads, TakesSome, arrived, starting};
+ghost use Rattle.oa_share.specs.Shared.{Begins, BringsRecord, IsClients, IsHeads, IsRecordFrame, Rises, TakesApart, TakesSome, arrived, starting};
 ghost use Rattle.oa_share.specs.Steps.{EndsLowest, brought, brought_last};
 ghost use Rattle.oa_share.specs.Talking.{input_end, reads_nothing};
 
@@ -74,13 +74,14 @@ impl Streams {
         }
     }
 
-    /// Takes the first of these bytes, up to the last that brings something, or all of them. Err where memory is refused: nothing is taken
-    /// then, and it may be tried again.
+    /// Takes the first of these bytes, up to the last that brings something, or all of them. Err where memory is refused, which is among a
+    /// client's bytes: nothing is taken then, and it may be tried again.
     pub fn take<'a>(&mut self, bytes: &'a [u8]) -> Result<Portion<'a>, AllocError>
         requires { 0 < length bytes.now }
         ensures taken { IfOk result (λ t. TakesSome t.count (length bytes.now)) }
         ensures asks { IfOk result (λ t. TakesApart self.old (take t.count bytes.now) (arrived t.arrived) self.new) }
         ensures err { OnErr result (TakesApart self.old [] [] self.new) }
+        ensures within { OnErr result (IsClients self.old.place) }
     {
         if self.broken {
             return Ok(Portion {
@@ -94,11 +95,35 @@ impl Streams {
         Ok(self.take_head(bytes))
     }
 
+    /// The client and the length of the frame at the front of these bytes, its head included, where the frame stands there whole and brings one
+    /// whole record of a client that is there and has sent no part of another; None for all else. What it brings may then be answered from
+    /// where it stands: as a stream this one is behind it as it was before it.
+    pub fn whole_record(&self, bytes: &[u8]) -> Option<(u32, usize)>
+        ensures { IfSome result (λ f. BringsRecord self.now bytes.now f.0 f.1) }
+    {
+        if self.broken || self.left != 0 || self.have != 0 {
+            return None;
+        }
+        let (client, count) = record_frame(bytes)?;
+        if self.clients.is_between(client) {
+            Some((client, count))
+        } else {
+            None
+        }
+    }
+
     /// How many clients are there.
     pub(crate) fn count(&self) -> usize
         ensures { result ≡ length self.now.clients }
     {
         self.clients.len()
+    }
+
+    /// A fact and no work: the numbers of the clients rise.
+    pub(crate) fn numbers_rise(&self)
+        ensures { Rises self.now.clients }
+    {
+        self.clients.numbers_rise();
     }
 
     /// The end of the stream of the client with the lowest number, with which it goes, for when no more bytes come: `Closed` between two
@@ -195,6 +220,23 @@ impl Streams {
             }
         }
     }
+}
+
+/// The client and the length of the frame at the front of these bytes, where it stands there whole and brings one whole record.
+fn record_frame(bytes: &[u8]) -> Option<(u32, usize)>
+    ensures { IfSome result (λ f. IsRecordFrame bytes.now f.0 f.1) }
+{
+    let (head, rest) = bytes.split_first_chunk::<8>()?;
+    let FrameHead::Bytes { client, count } = FrameHead::from_bytes(head) else {
+        return None;
+    };
+    let (length, _) = rest.split_first_chunk::<4>()?;
+    let count = count as usize;
+    let n = u32::from_le_bytes(*length) as usize;
+    if n == 0 || count != 4 + n || rest.len() < count {
+        return None;
+    }
+    Some((client, 8 + count))
 }
 
 /// The same in a client's name.

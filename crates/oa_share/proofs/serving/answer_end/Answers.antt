@@ -1,4 +1,4 @@
-use Rattle.oa_share.proofs.Talks.{loses_once, told_once}
+use Rattle.oa_share.proofs.Tellings.{loses_once, told_once}
 use Rattle.oa_share.proofs.serving.answer_end.Goals as goal
 
 pub returns-in-Err-clause-answers : goal.returns-in-Err-clause-answers

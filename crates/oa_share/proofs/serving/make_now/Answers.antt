@@ -1,4 +1,4 @@
-use Rattle.oa_share.proofs.Talks.{now_breaks, now_delivers}
+use Rattle.oa_share.proofs.Tellings.{now_breaks, now_delivers}
 use Rattle.oa_share.proofs.serving.make_now.Goals as goal
 
 pub returns-clause-now : goal.returns-clause-now

@@ -1,4 +1,5 @@
-use Rattle.oa_share.proofs.Talks.{goes_waited, loses_before, loses_quiet, over_fault, over_waited, quiet_more}
+use Rattle.oa_share.proofs.Talks.{goes_waited, loses_before, over_fault, over_waited, quiet_more}
+use Rattle.oa_share.proofs.Tellings.{loses_quiet}
 use Rattle.oa_share.proofs.serving.wait.Goals as goal
 
 pub returns-in-Err-clause-progresses : goal.returns-in-Err-clause-progresses

@@ -1,11 +1,11 @@
 //! Bodies as lines of hexadecimal digits.
-ghost use Rattle.std.specs.Prelude.{◌≡◌, ◌<◌, ◌≤◌, ◌+◌, ◌*◌, ℕ, true, false, length, slice_index, take, vec_capacity};
+ghost use Rattle.std.specs.Prelude.{◌≡◌, ◌<◌, ◌≤◌, ◌+◌, ◌*◌, ◌%◌, ℕ, true, false, length, slice_index, take, vec_capacity};
 ghost use Rattle.std.specs.Prelude.{Ok, IfSome, IsErr, IsNone};
 ghost use Rattle.hex.specs.Hex.{decode_of, pair_value};
 ghost use Rattle.oa_model.specs.Limits.{max_request_bytes};
 ghost use Rattle.oa_stream.specs.Ahead.{ahead};
 ghost use Rattle.oa_frame.specs.Beginnings.{AreUnbroken, HoldLongest};
-ghost use Rattle.oa_frame.specs.Digits.{HasDigitValue};
+ghost use Rattle.oa_frame.specs.Digits.{AreDecoded, HasBadPair, HasDigitValue, HasNoDigit, IsDigitValue};
 ghost use Rattle.oa_frame.specs.Lines.{DecodesLine, without_return};
 ghost use Rattle.oa_frame.specs.Framings.{GrowsTo, Hands, Inputs, FitsBuffer, hex_lines, ends_in_read_fault};
 ghost use Rattle.oa_frame.specs.Paces.{Paced};
@@ -15,6 +15,7 @@ use crate::lines::{Found, LINE_LIMIT, read_line};
 use crate::{End, Read};
 use memchr::memchr;
 use oa_stream::{Ahead, Sink, Source, Unwritten};
+use std::simd::prelude::*;
 
 /// How many bytes are decoded at a time.
 const BLOCK: usize = 16;
@@ -85,8 +86,7 @@ fn judge(line: &[u8], body: &mut Vec<u8>, number: u64) -> Read
     }
 }
 
-/// Decodes digits into the front of a buffer, and answers how many bytes they are. A pair that is none does not end the loop, so that many
-/// are decoded at a time.
+/// Decodes digits into the front of a buffer, and answers how many bytes they are.
 fn decode(line: &[u8], buffer: &mut [u8]) -> Option<usize>
     requires { length line.now ≤ 2 * length buffer.old }
     ensures len { length buffer.new ≡ length buffer.old }
@@ -99,23 +99,85 @@ fn decode(line: &[u8], buffer: &mut [u8]) -> Option<usize>
         return None;
     }
     let count = line.len() / 2;
-    let mut good = true;
-    let mut at = 0;
-    'groups: while count - at >= BLOCK {
-        let values = values_at(line, 2 * at);
-        'joined: for k in 0..BLOCK {
-            let (byte, is_pair) = join(values[2 * k], values[2 * k + 1]);
-            buffer[at + k] = byte;
-            good = good & is_pair;
-        }
+    if decode_all(line, count, buffer) {
+        Some(count)
+    } else {
+        None
+    }
+}
+
+/// Decodes so many pairs of digits. False where some pair is none, which does not end the loops: so many are decoded at a time.
+fn decode_all(line: &[u8], count: usize, buffer: &mut [u8]) -> bool
+    requires digits { 2 * count ≤ length line.now }
+    requires room { count ≤ length buffer.old }
+    ensures len { length buffer.new ≡ length buffer.old }
+    ensures some { result ≡ true → AreDecoded line.now buffer.new count }
+    ensures none { result ≡ false → HasBadPair line.now count }
+{
+    if count < BLOCK {
+        return decode_few(line, count, buffer);
+    }
+    // The first block may reach over the next one, so that the last one ends with the last pair.
+    let mut good = decode_block(line, 0, buffer);
+    let mut at = (count - 1) % BLOCK + 1;
+    'rest: while at < count {
+        let all = decode_block(line, at, buffer);
+        good = good & all;
         at += BLOCK;
     }
-    'pairs: for i in at..count {
+    good
+}
+
+/// The same of a few pairs, one at a time.
+fn decode_few(line: &[u8], count: usize, buffer: &mut [u8]) -> bool
+    requires digits { 2 * count ≤ length line.now }
+    requires room { count ≤ length buffer.old }
+    ensures len { length buffer.new ≡ length buffer.old }
+    ensures some { result ≡ true → AreDecoded line.now buffer.new count }
+    ensures none { result ≡ false → HasBadPair line.now count }
+{
+    let mut good = true;
+    'pairs: for i in 0..count {
         let (byte, is_pair) = pair(line[2 * i], line[2 * i + 1]);
         buffer[i] = byte;
         good = good & is_pair;
     }
-    if good { Some(count) } else { None }
+    good
+}
+
+/// Decodes the 16 pairs from one on. False where some of them is none.
+fn decode_block(line: &[u8], at: usize, buffer: &mut [u8]) -> bool
+    requires digits { 2 * (at + 16) ≤ length line.now }
+    requires room { at + 16 ≤ length buffer.old }
+    ensures len { length buffer.new ≡ length buffer.old }
+    ensures some { result ≡ true → AreDecoded line.now buffer.old at → AreDecoded line.now buffer.new (at + 16) }
+    ensures none { result ≡ false → HasBadPair line.now (at + 16) }
+{
+    let values = values_at(line, 2 * at);
+    let bytes = joined(&values);
+    'bytes: for k in 0..BLOCK {
+        buffer[at + k] = bytes[k];
+    }
+    are_digits(&values)
+}
+
+/// The bytes of 32 values, each of two that stand side by side.
+fn joined(values: &[u8; 32]) -> [u8; 16]
+    ensures { (k : ℕ) → k < 16 → slice_index result k ≡ (slice_index values.now (2 * k) * 16 + slice_index values.now (2 * k + 1)) % 256 }
+{
+    let all = u8x32::from_array(*values);
+    let high: u8x16 = all.swizzle([0, 2, 4, 6, 8, 10, 12, 14, 16, 18, 20, 22, 24, 26, 28, 30]);
+    let low: u8x16 = all.swizzle([1, 3, 5, 7, 9, 11, 13, 15, 17, 19, 21, 23, 25, 27, 29, 31]);
+    (high * u8x16::splat(16) + low).to_array()
+}
+
+/// Whether all are values of digits.
+fn are_digits(values: &[u8; 32]) -> bool
+    ensures some { result ≡ true → (k : ℕ) → k < 32 → IsDigitValue (slice_index values.now k) }
+    ensures none { result ≡ false → HasNoDigit values.now 32 }
+{
+    let none = u8x32::from_array(*values).simd_ge(u8x32::splat(16));
+    none.to_bitmask() == 0
 }
 
 /// The values of the digits of a block, which stand side by side: so many are read at a time.

@@ -1,5 +1,5 @@
 -- The status that a fault ends the program with, and which faults each function tells. (This project's choice.)
-use Rattle.std.specs.Prelude.{◌≡◌, ◌⊎◌, ℕ, ⊤}
+use Rattle.std.specs.Prelude.{◌≡◌, ◌⊎◌, ℕ, Result, Ok, Err, ⊤}
 use Rattle.oa_idl.specs.declared.stop.Limit.TheVariants as limits
 use Rattle.oa_idl.specs.declared.stop.ParseError.{ParseError}
 use Rattle.oa_idl.specs.declared.stop.ParseError.TheVariants as parsing
@@ -7,6 +7,8 @@ use Rattle.oa_checks.specs.declared.fault.CheckError.{CheckError}
 use Rattle.oa_checks.specs.declared.fault.CheckError.TheVariants as checking
 use Rattle.oa_disk.specs.declared.disk.DeviceFault.{DeviceFault}
 use Rattle.oa_disk.specs.declared.disk.DeviceFault.TheVariants as devices
+use Rattle.oa_share.specs.declared.session_end.SessionEnd.{SessionEnd}
+use Rattle.oa_share.specs.declared.session_end.SessionEnd.TheVariants as ends
 use Rattle.oa_store.specs.declared.fault.FormatFault.{FormatFault}
 use Rattle.oa_store.specs.declared.fault.FormatFault.TheVariants as formats
 use Rattle.oa_store.specs.declared.fault.OpenFault.{OpenFault}
@@ -24,7 +26,8 @@ abbrev pub status_of_tree : CheckError → ℕ
 status_of_tree checking.Memory = 5
 status_of_tree error = 2
 
--- 1 for a file, a device, a reader or a writer, 2 for a command line or a library, 3 for a store, 4 for a record, 5 for want of memory
+-- 1 for a file, a device, a reader or a writer, 2 for a command line or a library, 3 for a store, 4 for a record or a frame, 5 for want of
+-- memory
 abbrev pub status_of : Fault → ℕ
 status_of faults.Words = 2
 status_of faults.TwoInputs = 2
@@ -46,6 +49,8 @@ status_of faults.DeviceRead = 1
 status_of faults.Cut = 4
 status_of faults.TooLong = 4
 status_of (faults.BadHex line) = 4
+status_of faults.FrameCut = 4
+status_of faults.UnknownFrame = 4
 status_of faults.Read = 1
 status_of faults.Write = 1
 status_of faults.Memory = 5
@@ -75,6 +80,15 @@ of_upgrade upgrades.AlreadyNew = faults.AlreadyNew
 of_upgrade (upgrades.Damaged place) = faults.Damaged place
 of_upgrade (upgrades.Device fault) = of_device fault
 of_upgrade upgrades.Memory = faults.Memory
+
+-- how a session of many clients ends, as the program tells it: the end of the input between two frames is no fault
+abbrev pub of_session_end : SessionEnd → Result (Unit {0}) Fault
+of_session_end ends.Closed = Ok tt
+of_session_end ends.Cut = Err faults.FrameCut
+of_session_end ends.Unknown = Err faults.UnknownFrame
+of_session_end ends.Memory = Err faults.Memory
+of_session_end ends.ReadFault = Err faults.Read
+of_session_end ends.WriteFault = Err faults.Write
 
 -- ---- of files
 

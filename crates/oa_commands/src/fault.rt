@@ -75,6 +75,12 @@ pub enum Fault {
     /// This line is none of hexadecimal digits.
     #[error("bad hex on line {0}")]
     BadHex(u64),
+    /// The frames of many clients end within one.
+    #[error("frame cut")]
+    FrameCut,
+    /// The head of a frame says nothing.
+    #[error("unknown frame")]
+    UnknownFrame,
     /// The requests cannot be read.
     #[error("read fault")]
     Read,
@@ -87,8 +93,8 @@ pub enum Fault {
 }
 
 impl Fault {
-    /// 1 for a file, a device, a reader or a writer, 2 for a command line or a library, 3 for a store, 4 for a record, 5 for want of
-    /// memory; never that of success.
+    /// 1 for a file, a device, a reader or a writer, 2 for a command line or a library, 3 for a store, 4 for a record or a frame, 5 for want
+    /// of memory; never that of success.
     #[tactic(auto, using(crate::proofs::Failing::fails))]
     pub fn status(&self) -> u8
         ensures value { result ≡ status_of self.now }
@@ -116,7 +122,11 @@ impl Fault {
             | Fault::AlreadyNew
             | Fault::LibraryDiffers
             | Fault::Damaged(_) => 3,
-            Fault::Cut | Fault::TooLong | Fault::BadHex(_) => 4,
+            Fault::Cut
+            | Fault::TooLong
+            | Fault::BadHex(_)
+            | Fault::FrameCut
+            | Fault::UnknownFrame => 4,
         }
     }
 }

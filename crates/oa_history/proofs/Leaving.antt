@@ -1,5 +1,5 @@
 -- What the stop of a session leaves.
-use Rattle.std.proofs.Common.{rules, ◌≡◌, ◌⊎◌, inl, inr, ⊎_elim, ℕ, ◌<◌, ◌≤◌, nat_le, min, Bool, true, false, List, refl, sym, ap, subst, arith}
+use Rattle.std.proofs.Common.{rules, ◌≡◌, ◌⊎◌, inl, inr, ⊎_elim, ℕ, ◌<◌, ◌≤◌, nat_le, min, Bool, true, false, List, refl, sym, subst, arith}
 use Rattle.oa_disk.specs.declared.disk.Disk.{Ghosts}
 use Rattle.oa_groups.specs.Groups.{joined}
 use Rattle.oa_groups.specs.History.{MayBeLeft}

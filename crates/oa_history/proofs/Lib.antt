@@ -1,7 +1,10 @@
+pub mod Addressed
 pub mod Calls
 pub mod Crashed
 pub mod Few
+pub mod ForMany
 pub mod Found
+pub mod Framed
 pub mod Leaving
 pub mod Living
 pub mod Marking
@@ -11,5 +14,6 @@ pub mod Replying
 pub mod Streams
 pub mod Switched
 pub mod TakenUp
+pub mod Turns
 pub mod Unmade
 pub mod Withstanding

@@ -6,14 +6,14 @@ use Rattle.oa_record.specs.Replies.{ReplyValue}
 use Rattle.oa_decision.specs.States.{State}
 use Rattle.oa_server.specs.Storages.{Serves, disk_of}
 use Rattle.oa_server.specs.declared.storage.Storage.{Storage}
-use Rattle.oa_history.specs.Lived.{bodies_of, call_as_heard, calls_of}
+use Rattle.oa_history.specs.Lived.{bodies_of, calls_of}
 use Rattle.oa_history.specs.Stops.{Done, Made}
 use Rattle.oa_history.proofs.Calls.{made_push}
 use Rattle.oa_history.specs.declared.session.Answer.{Answer}
 use Rattle.oa_history.specs.declared.session.ServerCall.{ServerCall}
 
 abbrev done : ServerCall → Answer → Done ReplyValue
-done call answer = record { call = call_as_heard call answer; moment = answer.moment }
+done call answer = record { call = record { size = call.group; bodies = bodies_of call; replies = answer.replies.items }; moment = answer.moment }
 
 calls_push : (calls : List ServerCall) (answers : List Answer) (call : ServerCall) (answer : Answer) → length answers ≡ length calls → calls_of (calls ++ call ∷ []) (answers ++ answer ∷ []) ≡ calls_of calls answers ++ done call answer ∷ []
 calls_push [] [] call answer same = refl

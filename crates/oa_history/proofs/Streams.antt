@@ -32,7 +32,7 @@ all_made_of {D} {g} size old new before after bodies handed read_ahead is =
     made_push Serves old before (parts_of size old is.mid before is.state is.parts is.served) is.mid is.state rest new after (parts_made size old is.mid before is.state is.parts is.served) is.ends refl
 
 -- nothing was read ahead of the bytes
-reads_from : (bytes : Bor (List ℕ)) (reader : Ahead (Bor (List ℕ))) → reader.reader ≡ bytes → read_ahead reader ≡ [] → ahead (λ (s : Bor (List ℕ)). in_memory s.now) reader ≡ in_memory bytes.now
+pub reads_from : (bytes : Bor (List ℕ)) (reader : Ahead (Bor (List ℕ))) → reader.reader ≡ bytes → read_ahead reader ≡ [] → ahead (λ (s : Bor (List ℕ)). in_memory s.now) reader ≡ in_memory bytes.now
 reads_from bytes reader at none = ap (λ (l : List ℕ). with_front l (in_memory reader.reader.now)) none ∙ ap (λ (s : Bor (List ℕ)). with_front [] (in_memory s.now)) at
 
 pub has_written : {g : Ghosts MemoryDisk} (input : Input) (framing : Framing) (bytes : Bor (List ℕ)) (reader : Ahead (Bor (List ℕ))) (empty output : Gathered) (served : Served) (old new : Server MemoryDisk g) (unread : Read)

@@ -4,7 +4,6 @@ use Rattle.oa_disk.specs.Memory.{contents_of, moments_of, IsTornAt}
 use Rattle.oa_disk.specs.declared.disk.Disk.{Ghosts}
 use Rattle.oa_disk.specs.declared.memory.MemoryDisk.{MemoryDisk}
 use Rattle.oa_groups.specs.Runs.{HoldsState}
-use Rattle.oa_groups.specs.Sessions.{AnsweredCall}
 use Rattle.oa_canonical.specs.Canonical.{canonical}
 use Rattle.oa_record.specs.Replies.{ReplyValue}
 use Rattle.oa_server.specs.Requests.{requests}
@@ -33,14 +32,13 @@ use Rattle.oa_history.specs.declared.session.Step.TheVariants.{Session, Checkpoi
 abbrev pub bodies_of : ServerCall → List (List ℕ)
 bodies_of call = map (λ b. b.items) call.bodies.items
 
--- one call as a part of a session
-abbrev pub call_as_heard : ServerCall → Answer → AnsweredCall ReplyValue
-call_as_heard call answer = record { size = call.group; bodies = bodies_of call; replies = answer.replies.items }
-
+-- each call as a part of a session
 abbrev pub calls_of : List ServerCall → List Answer → List (Done ReplyValue)
 calls_of [] answers = []
 calls_of (call ∷ calls) [] = []
-calls_of (call ∷ calls) (answer ∷ answers) = record { call = call_as_heard call answer; moment = answer.moment } ∷ calls_of calls answers
+calls_of (call ∷ calls) (answer ∷ answers) =
+    record { call = record { size = call.group; bodies = bodies_of call; replies = answer.replies.items }; moment = answer.moment }
+    ∷ calls_of calls answers
 
 -- each of these calls was answered
 pub record HasReplied (calls : List ServerCall) (answers : List Answer) (done : List (Done ReplyValue)) : Type 0 where
@@ -90,20 +88,20 @@ IsStepped (Session session) heard found before left after = IsHeardUntilStop ses
 IsStepped (Checkpoint stop) heard found before left after =
     IsCheckpointed found stop heard.disk left before × IsSilent heard.replies × (after ≡ before)
 
--- each on what the one before has left
-abbrev pub Lives : List ℕ → State → List Step → List Heard → List ℕ → State → Type 0
-Lives found before [] [] left after = (found ≡ left) × (before ≡ after)
-Lives found before (step ∷ steps) (heard ∷ others) left after =
-    (image : List ℕ) × (mid : State) × IsStepped step heard found before image mid × Lives image mid steps others left after
-Lives found before [] (heard ∷ others) left after = ⊥
-Lives found before (step ∷ steps) [] left after = ⊥
+-- each on what the one before has left, by what a step comes to
+abbrev pub Lives : {X Y : Type 0} → (X → Y → List ℕ → State → List ℕ → State → Type 0) → List ℕ → State → List X → List Y → List ℕ → State → Type 0
+Lives stepped found before [] [] left after = (found ≡ left) × (before ≡ after)
+Lives stepped found before (step ∷ steps) (heard ∷ others) left after =
+    (image : List ℕ) × (mid : State) × stepped step heard found before image mid × Lives stepped image mid steps others left after
+Lives stepped found before [] (heard ∷ others) left after = ⊥
+Lives stepped found before (step ∷ steps) [] left after = ⊥
 
 -- What is played on a store of a state, and told at last: a server that was opened on what is left, and serves the state that this is a store
 -- of; the store's library, and its table.
 pub record IsLivedOn (found : List ℕ) (state : State) (steps : List Step) (lived : Lived) : Type 0 where
   pub left : List ℕ
   pub last : State
-  pub lives : Lives found state steps lived.heard.items left last
+  pub lives : Lives IsStepped found state steps lived.heard.items left last
   pub end : MemoryDisk
   pub holds_left : contents_of end ≡ left
   pub begins : BeginsServing end lived.opened.server last

@@ -28,7 +28,7 @@ pub struct Lived {
 }
 
 /// Plays a session, or makes a checkpoint, and stops. Answers what was heard of it, and the disk that the stop has left.
-fn stepped(
+pub(crate) fn stepped(
     alloc: Global,
     disk: MemoryDisk,
     step: &Step,

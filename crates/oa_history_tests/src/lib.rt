@@ -17,3 +17,5 @@ mod script;
 mod script_failures;
 #[cfg(test)]
 mod script_histories;
+#[cfg(test)]
+mod script_shared;

@@ -6,7 +6,7 @@ use Rattle.oa_disk.specs.Moments.{chained, weakened}
 use Rattle.oa_groups.specs.Groupings.{Grouping, IsSettled, IsTaken, LeavesState}
 use Rattle.oa_groups.specs.Groups.{fills}
 use Rattle.oa_groups.specs.Served.{IsServed}
-use Rattle.oa_store.specs.Writing.{Goes}
+use Rattle.oa_store.specs.Writing.{CallsForOneCheckpoint, Goes}
 use Rattle.oa_groups.specs.Turns.{exchange}
 use Rattle.oa_groups.proofs.Called.{none_or_some}
 use Rattle.oa_groups.proofs.Ends.{underway_ended}
@@ -40,7 +40,7 @@ unfolding fills
 full_one bytes = refl
 
 module _ {D : Type 0} {g : Ghosts D} (only : (d : D) (c : List ℕ) → IsTrue (g.is_honest d) → g.image_since d (g.moment d) c → g.image d c) (old mid : Store D g) (was : old.stopped ≡ false) (before after : State) (body start : List ℕ) (empty : start ≡ []) (first : Goes old mid) (stays : mid.library.items ≡ old.library.items) (plain : is_replacement body ≡ false)
-    (once : CallsForCheckpoint old mid before.table) (leaves : (committed : TableValue) → (length start ≡ 0 → held_of before ≡ committed) → AllHold old committed → LeavesTable old mid committed) where
+    (once : CallsForCheckpoint old mid before.table) (at_most : CallsForOneCheckpoint old mid) (leaves : (committed : TableValue) → (length start ≡ 0 → held_of before ≡ committed) → AllHold old committed → LeavesTable old mid committed) where
   abbrev at_first : Grouping State ReplyValue D g
   at_first = grouping old before [] start
 
@@ -90,7 +90,7 @@ module _ {D : Type 0} {g : Ghosts D} (only : (d : D) (c : List ℕ) → IsTrue (
     library_calls = λ no kind. absurd (true≢false (sym kind ∙ plain));
     served = λ no. alone mid reply start (inr (inr (inl (record {
       was = was;
-      failed = record { reply = some.reply; event = []; turn = some.asked; plain = plain; due = due; none = refl; same = some.same; told_are = ap (λ (r : ReplyValue). r ∷ []) told; stopped = stopped; any_moment = leaves; goes = first };
+      failed = record { reply = some.reply; event = []; turn = some.asked; plain = plain; due = due; none = refl; same = some.same; told_are = ap (λ (r : ReplyValue). r ∷ []) told; stopped = stopped; any_moment = leaves; once = at_most; goes = first };
     }))));
   }
 
@@ -122,7 +122,7 @@ module _ {D : Type 0} {g : Ghosts D} (only : (d : D) (c : List ℕ) → IsTrue (
       reply = due;
       event = turn.event;
       mid = grouping mid after (due ∷ []) events;
-      held = record { turn = turn.asked; plain = plain; pending = refl; events = turn.added; going = on; calls = calls; carries = record { any_moment = leaves; each = λ going. holds; library = stays }; goes = first };
+      held = record { turn = turn.asked; plain = plain; pending = refl; events = turn.added; going = on; calls = calls; carries = record { any_moment = leaves; each = λ going. holds; library = stays; once = at_most }; goes = first };
       full = full_one (length events);
       settled = settled;
     })))

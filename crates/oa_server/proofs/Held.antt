@@ -43,6 +43,7 @@ carried batch old new same is = record {
   any_moment = λ committed first all. is.any_moment committed (λ none. same ∙ first none) all;
   each = λ going committed first all. is.each going committed (λ none. same ∙ first none) all;
   library = is.library;
+  once = is.once;
 }
 
 -- no events

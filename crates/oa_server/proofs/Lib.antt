@@ -17,3 +17,11 @@ pub mod Parting
 pub mod OneState
 pub mod Kept
 pub mod Told
+mod Lifted
+mod LockTurns
+mod Desked
+mod Stretched
+mod SharedParts
+mod Ledgered
+mod Alone
+mod PutFrames

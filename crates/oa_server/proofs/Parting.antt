@@ -18,10 +18,10 @@ use Rattle.oa_server.specs.Storages.{Serves}
 use Rattle.oa_server.specs.Talks.{Part, Parts, calls_of}
 
 -- the moments of a session begin with these
-abbrev BeginsWith : List ℕ → List ℕ → Type 0
+abbrev pub BeginsWith : List ℕ → List ℕ → Type 0
 BeginsWith front moments = (more : List ℕ) × (moments ≡ front ++ more)
 
-begins_more : (front mid more all : List ℕ) → mid ≡ front ++ more → (later : List ℕ) × (all ≡ mid ++ later) → BeginsWith front all
+pub begins_more : (front mid more all : List ℕ) → mid ≡ front ++ more → (later : List ℕ) × (all ≡ mid ++ later) → BeginsWith front all
 begins_more front mid more all begins is = (more ++ is.0, is.1 ∙ subst (λ (l : List ℕ). l ++ is.0 ≡ front ++ (more ++ is.0)) (sym begins) (append_assoc front more is.0))
 
 abbrev call_of : ℕ → Part → AnsweredCall ReplyValue

@@ -6,7 +6,7 @@ use Rattle.oa_disk.specs.declared.disk.Disk.{Ghosts}
 use Rattle.oa_groups.specs.Groupings.{Grouping, IsEnded, IsFlushed, IsTaken, LeavesState}
 use Rattle.oa_groups.specs.Runs.{AllHoldState, HoldsState}
 use Rattle.oa_groups.specs.Served.{IsServed}
-use Rattle.oa_store.specs.Writing.{Goes}
+use Rattle.oa_store.specs.Writing.{CallsForOneCheckpoint, Goes}
 use Rattle.oa_groups.specs.Simple.{no_event}
 use Rattle.oa_groups.proofs.Ends.{underway_ended}
 use Rattle.oa_groups.proofs.Stores.{goes_nowhere}
@@ -90,7 +90,7 @@ as_many_calls text other table now from to one two le =
 
 -- ---- as a group of its own
 module _ {D : Type 0} {g : Ghosts D} (old new : Store D g) (before after : State) (body : List ℕ) (kind : is_replacement body ≡ true) (same : held_of after ≡ held_of before)
-    (moment : AllHoldState requests old before → LeavesState old new (λ c. HoldsState requests before c ⊎ HoldsState requests after c)) (each : new.stopped ≡ false → AllHoldState requests old before → AllHoldState requests new after) (calls : CallsForLibrary old new after) (goes : Goes old new) where
+    (moment : AllHoldState requests old before → LeavesState old new (λ c. HoldsState requests before c ⊎ HoldsState requests after c)) (each : new.stopped ≡ false → AllHoldState requests old before → AllHoldState requests new after) (calls : CallsForLibrary old new after) (once : CallsForOneCheckpoint old new) (goes : Goes old new) where
   asked : (due : ReplyValue) → Replacement before body due after → IsAsked (exchange body due []) before after
   asked due turn = record {
     turn = inr (record { kind = kind; turn = turn });
@@ -111,6 +111,7 @@ module _ {D : Type 0} {g : Ghosts D} (old new : Store D g) (before after : State
       broken = λ stopped. absurd (true≢false (sym stopped ∙ going));
       doubt = λ stopped. absurd (true≢false (sym stopped ∙ going));
       quiet = quiet;
+      once = once;
       any_moment = moment;
       each = each;
       goes = goes;
@@ -132,6 +133,7 @@ module _ {D : Type 0} {g : Ghosts D} (old new : Store D g) (before after : State
       broken = λ yes. ap (λ (r : ReplyValue). r ∷ []) told;
       doubt = λ yes. done;
       quiet = λ refused. absurd (true≢false (sym done ∙ refused));
+      once = once;
       any_moment = moment;
       each = each;
       goes = goes;

@@ -3,7 +3,7 @@ use Rattle.std.specs.Prelude.{◌≡◌, ◌⊎◌, ℕ, ◌+◌, ◌*◌, ◌�
 use Rattle.oa_canonical.specs.Canonical.{canonical}
 use Rattle.oa_disk.specs.declared.disk.Disk.{Ghosts}
 use Rattle.oa_groups.specs.Served.{IsServed}
-use Rattle.oa_store.specs.Writing.{Goes}
+use Rattle.oa_store.specs.Writing.{CallsForOneCheckpoint, Goes}
 use Rattle.oa_groups.specs.Groupings.{IsAnsweredAlone, LeavesState}
 use Rattle.oa_groups.specs.Runs.{AllHoldState, HoldsState}
 use Rattle.oa_groups.specs.Turns.{exchange}
@@ -69,6 +69,7 @@ pub record RenewsStore {D : Type 0} {g : Ghosts D} (old new : Store D g) (before
   pub any_moment : AllHoldState requests old before → LeavesState old new (λ c. HoldsState requests before c ⊎ HoldsState requests after c)
   pub each : new.stopped ≡ false → AllHoldState requests old before → AllHoldState requests new after
   pub calls : CallsForLibrary old new after
+  pub once : CallsForOneCheckpoint old new
   pub goes : Goes old new
 
 -- A body that asks for another library is answered, where no group is open: as a group of its own.

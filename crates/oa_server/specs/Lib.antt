@@ -2,6 +2,13 @@ pub mod Serving
 pub mod Requests
 pub mod Sharing
 pub mod SharedRequests
+pub mod Desks
+pub mod SharedTalks
+pub mod Stretches
+pub mod SharedSessions
+pub mod SharedCalls
+pub mod Ledgers
+pub mod OneClient
 pub mod Openings
 pub mod OpenGroups
 pub mod Answers

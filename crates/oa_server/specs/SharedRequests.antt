@@ -1,5 +1,5 @@
 -- The requests of many clients, as the theory of groups sees them. (This project's choice.)
-use Rattle.std.proofs.Common.{◌≡◌, inl, inr, ℕ, Bool, true, false, true≢false, List, [], ◌∷◌, Option, Some, None, Result, Ok, Err, refl, sym, ap, ◌∙◌, subst}
+use Rattle.std.proofs.Common.{◌≡◌, inl, inr, ℕ, Bool, false, true≢false, List, [], ◌∷◌, map, Some, None, Result, Ok, Err, refl, sym, ap, ◌∙◌}
 use Rattle.oa_canonical.specs.Canonical.{canonical}
 use Rattle.oa_frame.specs.declared.ends.End.TheVariants.{Closed, Cut, TooLong, BadHex, ReadFault, WriteFault}
 use Rattle.oa_groups.specs.Turns.{Turns}
@@ -9,7 +9,7 @@ use Rattle.oa_owners.specs.declared.owners.ClientLock.{ClientLock}
 use Rattle.oa_record.specs.Replies.{ReplyValue}
 use Rattle.oa_server.specs.Requests as one_client
 use Rattle.oa_server.specs.Sharing.{ClientReply, IsSharedTurn, Replies, Shared, TurnOf, TurnsFor}
-use Rattle.oa_server.specs.Sharing.{behind_end, brought_by, failed, faulted, is_apart, is_done, shared, tagged, taken_back, withdrawn}
+use Rattle.oa_server.specs.Sharing.{behind_all, behind_end, brought_by, failed, faulted, is_apart, is_done, shared, tagged, taken_back, withdrawn}
 use Rattle.oa_share.specs.Readers.{Body, Brought, Ends}
 use Rattle.oa_decision.specs.Decided.{refusal}
 use Rattle.oa_decision.specs.States.{State}
@@ -48,6 +48,9 @@ all_back (name ∷ names) state =
 
 pub end_keeps : (client : ℕ) (old : Shared) → KeepsBank old.state (behind_end client old).state
 end_keeps client old = all_back (cells_of client old.locks) old.state
+
+pub close_keeps : (old : Shared) → KeepsBank old.state (behind_all old).state
+close_keeps old = all_back (map (λ (lock : ClientLock). lock.name) old.locks) old.state
 
 -- ---- the laws of turns
 

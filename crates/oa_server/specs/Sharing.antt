@@ -1,5 +1,5 @@
 -- A server of many clients: its state with the owners of its locks, and what becomes of it at what a client brings. (This project's choice.)
-use Rattle.std.specs.Prelude.{◌≡◌, ◌⊎◌, ℕ, ◌==◌, Bool, true, false, if◌then◌else◌, List, [], ◌∷◌, ◌++◌, Option, Some, None, ⊤}
+use Rattle.std.specs.Prelude.{◌≡◌, ◌⊎◌, ℕ, ◌==◌, Bool, true, false, if◌then◌else◌, List, [], ◌∷◌, ◌++◌, map, Some, None, ⊤}
 use Rattle.oa_frame.specs.declared.ends.End.{End}
 use Rattle.oa_frame.specs.declared.ends.End.TheVariants.{Closed, Cut, TooLong, BadHex, ReadFault, WriteFault}
 use Rattle.oa_groups.specs.Turns.{Exchange}
@@ -114,6 +114,10 @@ pub record HasOwners (client : ℕ) (old : Shared) (body : List ℕ) (reply : Re
   pub others : ((change : LockChange) → AsksLock old.state body change → ⊥) → locks ≡ old.locks
   pub undone : turns.is_done reply ≡ false → locks ≡ old.locks
 
+-- a lock is taken back, where it is this client's
+abbrev pub taken_one : ℕ → ClientLock → State → State
+taken_one client lock state = if lock.client == client then after_locks state (Some (Unlock lock.name)) else state
+
 -- the cells' locks are taken back, one for each name, where there is one
 abbrev pub taken_back : List CellName → State → State
 taken_back [] state = state
@@ -122,6 +126,10 @@ taken_back (name ∷ names) state = taken_back names (after_locks state (Some (U
 -- behind a client's end: all of its locks are taken back
 abbrev pub behind_end : ℕ → Shared → Shared
 behind_end client old = record { state = taken_back (cells_of client old.locks) old.state; locks = of_others client old.locks }
+
+-- behind the end of a session: all locks that clients still have are taken back
+abbrev pub behind_all : Shared → Shared
+behind_all old = record { state = taken_back (map (λ lock. lock.name) old.locks) old.state; locks = [] }
 
 -- ---- turns
 

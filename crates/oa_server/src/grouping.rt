@@ -63,7 +63,12 @@ fn renewed_over<D: Disk>(alloc: Global, host: &mut Host, store: &mut Store<D>, b
 }
 
 /// Ends the open group: its events go out, and its replies may be handed out, or are taken back.
-fn settle<D: Disk>(alloc: Global, host: &Host, store: &mut Store<D>, open_group: &mut OpenGroup)
+pub(crate) fn settle<D: Disk>(
+    alloc: Global,
+    host: &Host,
+    store: &mut Store<D>,
+    open_group: &mut OpenGroup,
+)
     requires goes_on { store.old.stopped ≡ false }
     requires room { HasRoom open_group.old.batch store.old }
     requires few { length open_group.old.batch + 6 ≤ ample_bytes }

@@ -8,12 +8,16 @@ ghost use Rattle.oa_record.specs.declared.request.Request.{Request as ARequest};
 ghost use Rattle.oa_record.specs.Asks.{Asks};
 ghost use Rattle.oa_record.specs.Replacement.{is_replacement};
 ghost use Rattle.oa_record.specs.Replies.{ReplyValue};
+ghost use Rattle.oa_server.specs.Ledgers.{EndUnlocksAll, IsRunOfOne, IsTurnOfOne, OpeningHasLedger, RunsKeepLedger, TurnsKeepLedger};
 ghost use Rattle.oa_server.specs.Laws.{AnsweredAreRun, FoundIsKept, OpenedBegins, OpenedJoins, PartsCount, PartsGoOn};
 ghost use Rattle.oa_turn.specs.Beginnings.{CanBegin};
 ghost use Rattle.oa_turn.specs.Events.{change_bytes};
 ghost use Rattle.oa_turn.specs.Limits.{least_bank};
+ghost use Rattle.oa_server.specs.OneClient.{OneClientInMemory, OneClientOverStore};
 ghost use Rattle.oa_server.specs.Requests.{opened, requests};
+ghost use Rattle.oa_server.specs.SharedCalls.{SessionsAreCalls, StretchesCount, StretchesGoOn};
 ghost use Rattle.oa_server.specs.SharedRequests.{shared_requests};
+ghost use Rattle.oa_server.specs.SharedSessions.{StretchesAreServed};
 ghost use Rattle.oa_decision.specs.States.{State, state_of};
 ghost use Rattle.oa_turn.specs.Steps.{outcome};
 ghost use Rattle.oa_turn.specs.Turns.{Turn};
@@ -25,7 +29,7 @@ use oa_canonical::laws::marked_is_read;
 use oa_disk::Disk;
 use oa_fits::laws::changes_that_fit;
 use oa_idl::laws::one_tree;
-use oa_record::laws::one_request;
+use oa_record::laws::{a_replacement_is_no_request, one_request, refused_asks_nothing};
 pub use oa_turn::laws::{kept_fits, no_trace};
 
 /// What was served can be served again, whatever its sessions were and wherever they stopped: from a state with which a server can begin,
@@ -129,3 +133,46 @@ pub fn many_clients<D: Disk>()
     ensures one { OneFault shared_requests D.Disk }
     ensures stopped { StopKeepsAnswered shared_requests D.Disk }
 {}
+
+/// What many clients ask of a server over a store from one *now* to the next is a call that was served, in groups of the session's size, and
+/// each client's frames are those of the replies to what it asked, in order.
+pub fn stretches_are_served<D: Disk>()
+    ensures { StretchesAreServed D.Disk }
+{}
+
+/// A session of many clients over a store is calls of a session over that store: one from each *now* to the next, and one up to its end. So
+/// what holds of sessions, of stops and of the history of a store holds of it, and of each client in it.
+pub fn shared_sessions_are_calls<D: Disk>()
+    ensures calls { SessionsAreCalls D.Disk }
+    ensures goes_on { StretchesGoOn D.Disk }
+    // Also where the device fails in one of them.
+    ensures counts { StretchesCount D.Disk }
+{}
+
+/// The locks of the table are those that clients have taken, each with its owner: from the start of a session on, at which no lock is held,
+/// and behind its end no array is locked. So where one client alone has locks, it is answered what a server of one client answers: an UNLOCK
+/// of an array on which it has none is refused by both.
+pub fn locks_have_owners()
+    ensures opened { OpeningHasLedger }
+    ensures turn { TurnsKeepLedger }
+    ensures run { RunsKeepLedger }
+    ensures ended { EndUnlocksAll }
+    ensures one_turn { IsTurnOfOne }
+    ensures one_run { IsRunOfOne }
+{
+    one_request();
+    a_replacement_is_no_request();
+    refused_asks_nothing();
+}
+
+/// A session of many clients in which one alone asks is answered as by a server of one client: its bodies have the replies of one run of
+/// turns, and each reply is a frame, with the bytes that `serve` writes behind its length. So in memory, and over a store where no call of
+/// the device fails.
+pub fn one_client_is_served<D: Disk>()
+    ensures memory { OneClientInMemory D.Disk }
+    ensures store { OneClientOverStore D.Disk }
+{
+    one_request();
+    a_replacement_is_no_request();
+    refused_asks_nothing();
+}

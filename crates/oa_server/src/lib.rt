@@ -7,17 +7,24 @@
 //! What stands on it: the program; oa_history, and the tests of sessions.
 #![tactic(auto)]
 
+mod desk;
 mod engine;
 mod fault;
 mod grouping;
 mod holding;
 pub mod laws;
+mod locking;
 mod open_group;
 mod renewal;
 mod server;
 mod serving;
+mod shared_engine;
+mod shared_server;
+mod sharing;
 mod starting;
 mod storage;
 
 pub use oa_frame::{End, Served};
+pub use oa_share::SessionEnd;
 pub use server::Server;
+pub use shared_server::SharedServer;

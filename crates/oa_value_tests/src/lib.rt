@@ -21,6 +21,8 @@ mod ndr;
 #[cfg(test)]
 mod record;
 #[cfg(test)]
+mod share;
+#[cfg(test)]
 mod shown;
 #[cfg(test)]
 mod stream;

@@ -50,15 +50,26 @@ fn hex<'a>(alloc: Global) -> Arg<'a> {
     )
 }
 
+/// Sessions of many clients, whose requests are records.
+fn shared<'a>(alloc: Global) -> Result<Arg<'a>, AllocError> {
+    flag(
+        alloc,
+        "shared",
+        "Take the records of many clients in frames, and write each reply in a frame of its client",
+    )
+    .conflicts_with("hex")
+}
+
 fn play<'a>(alloc: Global) -> Result<Command<'a>, AllocError> {
     named(
         alloc,
         "play",
         "Answers the requests of standard input on standard output, with objects in memory",
-        "Each request and each reply is a record: its length in 4 bytes, little-endian, and that many bytes.\n\nExample, four requests and their replies as lines:\n  oaut play examples/small.idl --hex < examples/first.hex",
+        "Each request and each reply is a record: its length in 4 bytes, little-endian, and that many bytes. A frame is the number of a client and a length, 4 bytes each, and that many bytes of the client's records.\n\nExample, four requests and their replies as lines:\n  oaut play examples/small.idl --hex < examples/first.hex",
     )
     .arg(library(alloc))?
-    .arg(hex(alloc))
+    .arg(hex(alloc))?
+    .arg(shared(alloc)?)
 }
 
 /// The place of a syntax fault.
@@ -140,7 +151,8 @@ fn serve<'a>(alloc: Global) -> Result<Command<'a>, AllocError> {
     .arg(word(alloc, "STORE", "The store's file, as format made it"))?
     .arg(library(alloc))?
     .arg(group(alloc))?
-    .arg(hex(alloc))
+    .arg(hex(alloc))?
+    .arg(shared(alloc)?)
 }
 
 fn dump<'a>(alloc: Global) -> Result<Command<'a>, AllocError> {

@@ -97,21 +97,21 @@ fn act(rt: &HostRuntime, name: &str, arguments: &ArgMatches) -> Result<ExitCode,
 }
 
 fn plays(rt: &HostRuntime, arguments: &ArgMatches) -> Result<(), Fault> {
-    play::play(
-        rt,
-        arguments.get_str("LIB").unwrap_or(""),
-        arguments.get_flag("hex"),
-    )
+    let library = arguments.get_str("LIB").unwrap_or("");
+    if arguments.get_flag("shared") {
+        return play::play_shared(rt, library);
+    }
+    play::play(rt, library, arguments.get_flag("hex"))
 }
 
 fn serves(rt: &HostRuntime, arguments: &ArgMatches) -> Result<(), Fault> {
-    serve::serve(
-        rt,
-        arguments.get_str("STORE").unwrap_or(""),
-        arguments.get_str("LIB").unwrap_or(""),
-        arguments.get_one::<u32>("group").unwrap_or(1),
-        arguments.get_flag("hex"),
-    )
+    let store = arguments.get_str("STORE").unwrap_or("");
+    let library = arguments.get_str("LIB").unwrap_or("");
+    let group = arguments.get_one::<u32>("group").unwrap_or(1);
+    if arguments.get_flag("shared") {
+        return serve::serve_shared(rt, store, library, group);
+    }
+    serve::serve(rt, store, library, group, arguments.get_flag("hex"))
 }
 
 fn formats(rt: &HostRuntime, arguments: &ArgMatches) -> Result<(), Fault> {

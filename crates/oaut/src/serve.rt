@@ -1,7 +1,10 @@
 //! Answering requests with objects that a store keeps.
-use crate::session::hold;
+ghost use Rattle.std.specs.Prelude.{IfErr, IfOk};
+ghost use Rattle.oaut.specs.Clients.{HasServed, IsOfNoStore, OpensStore, group_near};
+
+use crate::session::{hold, hold_shared};
 use oa_commands::{Fault, STANDARD_INPUT, StandardStreams, open_store_file, read_library};
-use oa_disk::FileDisk;
+use oa_disk::{Disk, FileDisk};
 use oa_model::MAX_GROUP;
 use oa_server::Server;
 
@@ -21,15 +24,38 @@ pub(crate) fn serve(
     hold(rt, &mut server, (group as usize).clamp(1, MAX_GROUP), hex)
 }
 
+/// Holds a session of many clients over a store of a library, so many requests committed together, whoever made them.
+pub(crate) fn serve_shared(
+    rt: &HostRuntime,
+    store: &str,
+    library: &str,
+    group: u32,
+) -> Result<(), Fault>
+    ensures { HasServed ⟦<FileDisk as Disk>⟧ (group_near group) result }
+{
+    if library == STANDARD_INPUT {
+        return Err(Fault::TwoInputs);
+    }
+    let streams = StandardStreams::fill_closed(rt);
+    let mut server = opened(rt, &streams, store, library)?.shared();
+    hold_shared(rt, &mut server, (group as usize).clamp(1, MAX_GROUP))
+}
+
 /// A server over a store of a library.
 fn opened(
     rt: &HostRuntime,
     streams: &StandardStreams,
     store: &str,
     library: &str,
-) -> Result<Server<FileDisk>, Fault> {
+) -> Result<Server<FileDisk>, Fault>
+    ensures opened { IfOk result (λ server. OpensStore ⟦<FileDisk as Disk>⟧ server.engine.storage server.engine.host) }
+    ensures refused { IfErr result IsOfNoStore }
+{
     let alloc = rt.alloc();
     let library = read_library(rt, alloc, library)?;
     let disk = open_store_file(rt, streams, alloc, store)?;
-    Server::open(alloc, disk, library).map_err(|(_, fault)| Fault::from(fault))
+    match Server::open(alloc, disk, library) {
+        Ok(server) => Ok(server),
+        Err((_, fault)) => Err(Fault::from(fault)),
+    }
 }

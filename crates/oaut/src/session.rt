@@ -1,11 +1,12 @@
 //! Sessions over standard input and output.
 ghost use Rattle.std.specs.Prelude.{◌≤◌};
 ghost use Rattle.oa_model.specs.Limits.{max_group};
+ghost use Rattle.oaut.specs.Clients.{HoldsClients};
 
-use oa_commands::Fault;
+use oa_commands::{Fault, clients_ended};
 use oa_disk::Disk;
 use oa_model::MAX_LINE_CHARACTERS;
-use oa_server::{End, Server};
+use oa_server::{End, Server, SharedServer};
 use oa_stream::{Ahead, Behind, Inlet, Outlet};
 use std::alloc::{AllocError, Global};
 use std::io;
@@ -31,6 +32,24 @@ pub(crate) fn hold<D: Disk + Drop>(
         server.serve(&mut reader, &mut writer, group)?
     };
     ended(served.why)
+}
+
+/// Answers the frames of many clients of standard input on standard output, until the input ends or a head says nothing, so many requests
+/// committed together.
+pub(crate) fn hold_shared<D: Disk + Drop>(
+    rt: &HostRuntime,
+    server: &mut SharedServer<D>,
+    group: usize,
+) -> Result<(), Fault>
+    requires positive { 1 ≤ group }
+    requires small { group ≤ max_group }
+    ensures session { HoldsClients group result server.old.engine server.new.engine }
+{
+    let alloc = rt.alloc();
+    keep_long_blocks(alloc)?;
+    let mut reader = Ahead::new(alloc, Inlet::new(rt.reader()))?;
+    let mut writer = Behind::new(alloc, Outlet::new(io::writer(rt)))?;
+    clients_ended(server.serve_shared(&mut reader, &mut writer, group)?)
 }
 
 /// Takes a block as long as the longest line and gives it back, untouched. From then on the C library keeps the blocks of long texts that are

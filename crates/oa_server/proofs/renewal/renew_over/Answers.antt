@@ -6,6 +6,8 @@ use Rattle.oa_table.specs.Tables.{unlocked_table}
 use Rattle.oa_decision.specs.States.{state_of}
 use Rattle.oa_decision.specs.Decided.{refusal}
 use Rattle.oa_canonical.specs.Canonical.{canonical}
+use Rattle.oa_journal.specs.Shapes.{body_bytes}
+use Rattle.oa_store.proofs.Counted.{within}
 use Rattle.oa_server.proofs.Renewing.{as_many_calls, at_last, meanwhile, still}
 use Rattle.oa_turn.proofs.Renewing.{replaces}
 use Rattle.oa_server.proofs.renewal.renew_over.Goals as goal
@@ -16,6 +18,7 @@ returns-in-Answered-clause-renews g c = record {
   any_moment = still {g = g.D.Disk} (λ d f honest since. g.met.D.Disk.only_now d f honest since) c.args.store.now c.args.host.now c.args.host.now c.args.store.now.disk refl;
   each = λ going all. all;
   calls = λ honest. omega arith;
+  once = λ honest. omega arith;
   goes = search rules;
 }
 
@@ -32,6 +35,7 @@ returns-in-Ok-clause-renews g c =
       each = λ going. at_last {g = g.D.Disk} c.args.store.now c.checkpoint_with.new.self before after text (first_gate text table) (unlocked_table table) c.text_of.ensures.text held held refl
           c.checkpoint_with.ensures.goes.shape c.in-Ok.ensures.switches.chosen c.in-Ok.ensures.switches.gate c.in-Ok.ensures.switches.library c.checkpoint_with.ensures.goes.honest c.in-Ok.ensures.leaves.done;
       calls = λ honest. as_many_calls text (canonical c.in-Renewed.library) table before.table (g.D.Disk.moment c.checkpoint_with.new.self.disk) (g.D.Disk.moment c.args.store.now.disk) c.text_of.ensures.text c.table.ensures.table (c.checkpoint_with.ensures.calls honest);
+      once = λ honest. within (body_bytes c.args.store.now.bank.shape) text table (g.D.Disk.moment c.checkpoint_with.new.self.disk) (g.D.Disk.moment c.args.store.now.disk) c.text_of.ensures.short (search rules) (c.checkpoint_with.ensures.calls honest);
       goes = c.checkpoint_with.ensures.goes;
     })
 
@@ -51,6 +55,7 @@ returns-in-Err-Device g c =
         any_moment = rw c.replace_library-in-Err-Device.ensures (meanwhile {g = g.D.Disk} c.args.store.now c.checkpoint_with.new.self before after text (first_gate text table) (unlocked_table table) c.text_of.ensures.text held held refl c.checkpoint_with.ensures.leaves.any_moment);
         each = λ going. absurd (true≢false (sym stopped ∙ going));
         calls = rw c.replace_library-in-Err-Device.ensures (λ honest. as_many_calls text (canonical c.in-Renewed.library) table before.table (g.D.Disk.moment c.checkpoint_with.new.self.disk) (g.D.Disk.moment c.args.store.now.disk) c.text_of.ensures.text c.table.ensures.table (c.checkpoint_with.ensures.calls honest));
+        once = λ honest. within (body_bytes c.args.store.now.bank.shape) text table (g.D.Disk.moment c.checkpoint_with.new.self.disk) (g.D.Disk.moment c.args.store.now.disk) c.text_of.ensures.short (search rules) (c.checkpoint_with.ensures.calls honest);
         goes = c.checkpoint_with.ensures.goes;
       };
       quiet = tt;

@@ -1,0 +1,55 @@
+-- Whose locks the table of a server of many clients has. (This project's choice.)
+use Rattle.std.specs.Prelude.{◌≡◌, ℕ, true, List, [], map}
+use Rattle.std.specs.List.Sorted.{IsStrictlySortedBy}
+use Rattle.std.specs.Map.{keys_of}
+use Rattle.std.specs.Ordering.{nat_cmp}
+use Rattle.oa_groups.specs.Runs.{TurnsOver}
+use Rattle.oa_groups.specs.Turns.{Exchange, body_of, reply_of}
+use Rattle.oa_image.specs.Tables.{is_numbered}
+use Rattle.oa_owners.specs.ClientLocks.{of_others}
+use Rattle.oa_owners.specs.Counts.{IsLedger}
+use Rattle.oa_record.specs.Replies.{ReplyValue}
+use Rattle.oa_server.specs.SharedRequests.{opened, shared_requests}
+use Rattle.oa_server.specs.Sharing.{ClientReply, IsSharedTurn, Replies, Shared, TurnsFor, behind_all, tagged}
+use Rattle.oa_share.specs.Readers.{Body}
+use Rattle.oa_table.specs.Locks.{locks_at}
+use Rattle.oa_table.specs.declared.name.CellName.{CellName}
+use Rattle.oa_turn.specs.Turns.{Run, Turn}
+
+-- Each array of the table has as many locks as clients have taken of it; its objects are numbered, in the order of their numbers.
+pub record HasLedger (one : Shared) : Type 0 where
+  pub numbered : is_numbered one.state.table ≡ true
+  pub ledger : IsLedger one.locks one.state.table
+
+-- nobody else has a lock
+abbrev pub OwnsAll : ℕ → Shared → Type 0
+OwnsAll client one = of_others client one.locks ≡ []
+
+-- so is every state behind a turn, and so behind many
+abbrev pub TurnsKeepLedger : Type 0
+TurnsKeepLedger = (asked : Exchange ClientReply) (old new : Shared) → HasLedger old → IsSharedTurn asked old new → HasLedger new
+
+abbrev pub RunsKeepLedger : Type 0
+RunsKeepLedger = (old new : Shared) (entries : List (Exchange ClientReply)) → HasLedger old → TurnsOver shared_requests old entries new → HasLedger new
+
+-- and at the start of a session, at which no lock is held
+abbrev pub OpeningHasLedger : Type 0
+OpeningHasLedger =
+    (one : Shared) → is_numbered one.state.table ≡ true → IsStrictlySortedBy nat_cmp (keys_of one.state.table.objects) → HasLedger (opened one)
+
+-- behind the end of a session no array has a lock
+abbrev pub EndUnlocksAll : Type 0
+EndUnlocksAll = (old : Shared) (name : CellName) → HasLedger old → locks_at name (behind_all old).state.table ≡ 0
+
+-- what one client alone is answered is what a server of one client answers
+abbrev pub IsTurnOfOne : Type 0
+IsTurnOfOne =
+    (client : ℕ) (old new : Shared) (body : List ℕ) (reply : ReplyValue) → HasLedger old → OwnsAll client old
+    → TurnsFor client body reply old new → Turn old.state body reply new.state × OwnsAll client new
+
+abbrev pub IsRunOfOne : Type 0
+IsRunOfOne =
+    (client : ℕ) (old new : Shared) (entries : List (Exchange ClientReply)) (bodies : List (List ℕ)) (replies : List ReplyValue)
+    → HasLedger old → OwnsAll client old → TurnsOver shared_requests old entries new
+    → map body_of entries ≡ map (λ body. tagged client (Body body)) bodies → map reply_of entries ≡ map (λ reply. Replies client reply) replies
+    → Run old.state bodies replies new.state

@@ -1,0 +1,183 @@
+//! The open group of many clients over a store: whose each of its replies is, and whose lock is whose.
+ghost use Rattle.std.specs.Prelude.{◌≡◌, [], false, true};
+ghost use Rattle.oa_groups.specs.Groupings.{IsEnded, IsTaken};
+ghost use Rattle.oa_decision.specs.declared.decision.LockChange.{LockChange as AChange};
+ghost use Rattle.oa_server.specs.Desks.{DeskIsReady, DeskIsReadyCleared, HoldsFrom, cleared_desk, desk_grouping, told_at, told_with};
+ghost use Rattle.oa_server.specs.OpenGroups.{HasBanks};
+ghost use Rattle.oa_server.specs.SharedRequests.{shared_requests};
+ghost use Rattle.oa_server.specs.Sharing.{shared, tagged};
+ghost use Rattle.oa_share.specs.Readers.{Body, Ends};
+ghost use Rattle.oa_turn.specs.Locking.{AsksLock};
+
+use crate::grouping::{finish, settle, take};
+use crate::locking::{let_go, lock_turn};
+use crate::open_group::{OpenGroup, bare_reply};
+use oa_disk::Disk;
+use oa_frame::End;
+use oa_keeper::Batch;
+use oa_model::HResult;
+use oa_owners::Owners;
+use oa_record::Reply;
+use oa_record::laws::{a_replacement_is_no_request, refused_asks_nothing};
+use oa_store::Store;
+use oa_turn::Host;
+use std::alloc::Global;
+
+/// Whose a reply is, and which end it is where the client has ended.
+#[derive(Clone, Copy, Debug, PartialEq, Eq)]
+pub(crate) struct Asker {
+    /// The client's number.
+    pub client: u32,
+    /// Its end, in the place of a reply.
+    pub why: Option<End>,
+}
+
+/// The open group of many clients.
+#[derive(Drop)]
+pub(crate) struct Desk {
+    /// Its events and its replies.
+    pub open_group: OpenGroup,
+    /// Whose each reply is, in the same order.
+    pub askers: Vec<Asker>,
+    /// Whose lock is whose.
+    pub owners: Owners,
+}
+
+/// Takes one body of a client. True where the open group has ended: what it holds then is to be handed out.
+pub(crate) fn ask_over<D: Disk>(
+    alloc: Global,
+    host: &mut Host,
+    store: &mut Store<D>,
+    desk: &mut Desk,
+    client: u32,
+    body: &[u8],
+) -> bool
+    requires ready { DeskIsReady store.old desk.old }
+    requires banks { HasBanks store.old host.old }
+    ensures held { result ≡ false → IsTaken shared_requests desk.old.open_group.size (tagged client (Body body.now)) []
+        (desk_grouping store.old host.old desk.old) (desk_grouping store.new host.new desk.new) }
+    ensures told { result ≡ true → IsTaken shared_requests desk.old.open_group.size (tagged client (Body body.now)) (told_at desk.new)
+        (desk_grouping store.old host.old desk.old) (cleared_desk store.new host.new desk.new) }
+    ensures ready { result ≡ false → DeskIsReady store.new desk.new }
+    ensures cleared { result ≡ true → DeskIsReadyCleared store.new desk.new }
+    ensures banks { HasBanks store.new host.new }
+    ensures size { desk.new.open_group.size ≡ desk.old.open_group.size }
+{
+    if store.has_stopped() {
+        return take_for(alloc, host, store, desk, client, body);
+    }
+    match lock_turn(alloc, host, &mut desk.owners, client, body) {
+        Some(reply) => hold(alloc, host, store, desk, Asker { client, why: None }, reply),
+        None => take_for(alloc, host, store, desk, client, body),
+    }
+}
+
+/// The same of one that asks for no lock to be changed.
+fn take_for<D: Disk>(
+    alloc: Global,
+    host: &mut Host,
+    store: &mut Store<D>,
+    desk: &mut Desk,
+    client: u32,
+    body: &[u8],
+) -> bool
+    requires ready { DeskIsReady store.old desk.old }
+    requires banks { HasBanks store.old host.old }
+    requires none { store.old.stopped ≡ false → (change : AChange) → AsksLock host.old body.now change → ⊥ }
+    ensures held { result ≡ false → IsTaken shared_requests desk.old.open_group.size (tagged client (Body body.now)) []
+        (desk_grouping store.old host.old desk.old) (desk_grouping store.new host.new desk.new) }
+    ensures told { result ≡ true → IsTaken shared_requests desk.old.open_group.size (tagged client (Body body.now)) (told_at desk.new)
+        (desk_grouping store.old host.old desk.old) (cleared_desk store.new host.new desk.new) }
+    ensures ready { result ≡ false → DeskIsReady store.new desk.new }
+    ensures cleared { result ≡ true → DeskIsReadyCleared store.new desk.new }
+    ensures banks { HasBanks store.new host.new }
+    ensures size { desk.new.open_group.size ≡ desk.old.open_group.size }
+{
+    a_replacement_is_no_request();
+    refused_asks_nothing();
+    desk.askers.push_reserved(Asker { client, why: None });
+    take(alloc, host, store, &mut desk.open_group, body)
+}
+
+/// Holds the reply to what made no event, and ends the group where it fills that. True where the group has ended.
+fn hold<D: Disk>(
+    alloc: Global,
+    host: &Host,
+    store: &mut Store<D>,
+    desk: &mut Desk,
+    asker: Asker,
+    reply: Reply,
+) -> bool
+    requires ready { DeskIsReady store.old desk.old }
+    requires going { store.old.stopped ≡ false }
+    ensures held { result ≡ false → HoldsFrom store.old desk.old (told_with asker.client asker.why reply) (shared host.now desk.old.owners) []
+        (desk_grouping store.new host.now desk.new) }
+    ensures told { result ≡ true → HoldsFrom store.old desk.old (told_with asker.client asker.why reply) (shared host.now desk.old.owners) (told_at desk.new)
+        (cleared_desk store.new host.now desk.new) }
+    ensures ready { result ≡ false → DeskIsReady store.new desk.new }
+    ensures cleared { result ≡ true → DeskIsReadyCleared store.new desk.new }
+    ensures shape { store.new.bank.shape ≡ store.old.bank.shape }
+    ensures owners { desk.new.owners ≡ desk.old.owners }
+    ensures size { desk.new.open_group.size ≡ desk.old.open_group.size }
+{
+    desk.askers.push_reserved(asker);
+    desk.open_group.replies.push_reserved(reply);
+    if !desk.open_group.is_full() {
+        return false;
+    }
+    settle(alloc, host, store, &mut desk.open_group);
+    true
+}
+
+/// A client ends: it is told that behind all that it was told before, and its locks are taken back. After a fault of the device nothing is
+/// taken back.
+pub(crate) fn end_over<D: Disk>(
+    alloc: Global,
+    host: &mut Host,
+    store: &mut Store<D>,
+    desk: &mut Desk,
+    client: u32,
+    why: End,
+) -> bool
+    requires ready { DeskIsReady store.old desk.old }
+    requires banks { HasBanks store.old host.old }
+    ensures held { result ≡ false → IsTaken shared_requests desk.old.open_group.size (tagged client (Ends why)) []
+        (desk_grouping store.old host.old desk.old) (desk_grouping store.new host.new desk.new) }
+    ensures told { result ≡ true → IsTaken shared_requests desk.old.open_group.size (tagged client (Ends why)) (told_at desk.new)
+        (desk_grouping store.old host.old desk.old) (cleared_desk store.new host.new desk.new) }
+    ensures ready { result ≡ false → DeskIsReady store.new desk.new }
+    ensures cleared { result ≡ true → DeskIsReadyCleared store.new desk.new }
+    ensures banks { HasBanks store.new host.new }
+    ensures size { desk.new.open_group.size ≡ desk.old.open_group.size }
+{
+    let asker = Asker {
+        client,
+        why: Some(why),
+    };
+    let reply = Reply::bare(alloc, 0, HResult::S_OK, None);
+    if store.has_stopped() {
+        desk.askers.push_reserved(asker);
+        desk.open_group.replies.push_reserved(reply);
+        return true;
+    }
+    let_go(host, &mut desk.owners, client);
+    hold(alloc, host, store, desk, asker, reply)
+}
+
+/// The open group ends: what it holds is to be handed out.
+pub(crate) fn finish_over<D: Disk>(
+    alloc: Global,
+    host: &Host,
+    store: &mut Store<D>,
+    desk: &mut Desk,
+)
+    requires ready { DeskIsReady store.old desk.old }
+    ensures ended { IsEnded shared_requests (told_at desk.new) (desk_grouping store.old host.now desk.old) (cleared_desk store.new host.now desk.new) }
+    ensures cleared { DeskIsReadyCleared store.new desk.new }
+    ensures batch { desk.new.open_group.batch ≡ [] }
+    ensures shape { store.new.bank.shape ≡ store.old.bank.shape }
+    ensures size { desk.new.open_group.size ≡ desk.old.open_group.size }
+{
+    finish(alloc, host, store, &mut desk.open_group);
+    desk.open_group.batch = Batch::new(alloc);
+}

@@ -1,0 +1,200 @@
+//! What a server of many clients answers them.
+ghost use Rattle.std.specs.Prelude.{◌≡◌, ◌<◌, [], false, get_or, length};
+ghost use Rattle.oa_frame.specs.Sessions.{is_answered};
+ghost use Rattle.oa_record.specs.Replacement.{is_replacement};
+ghost use Rattle.oa_server.specs.Desks.{ClearsDesk, all_frames, frames_of, told_at, told_to, told_with};
+ghost use Rattle.oa_server.specs.SharedTalks.{TakesAsked, asked_written};
+ghost use Rattle.oa_server.specs.Sharing.ClientReply.{Leaves as ALeave};
+ghost use Rattle.oa_share.specs.Outgoing.{spelled_frames};
+ghost use Rattle.oa_stream.specs.Sink.{Puts};
+
+use crate::desk::{Asker, Desk, ask_over, end_over, finish_over};
+use crate::locking::{let_go, turn_for};
+use crate::shared_engine::SharedEngine;
+use crate::storage::Storage;
+use oa_disk::Disk;
+use oa_frame::End;
+use oa_model::HResult;
+use oa_record::{Reply, is_replacement};
+use oa_share::{SharedResponder, put_last_of, put_reply_of};
+use oa_stream::{Sink, Unwritten};
+use std::alloc::Global;
+
+/// In memory each body has its reply at once. Over a store its reply is held until its group ends, and then all replies of the group are
+/// written, each to its client.
+impl<D: Disk> SharedResponder for SharedEngine<D> {
+    ghost ready = { TakesAsked };
+
+    ghost turn = { asked_written };
+
+    ghost alone = { is_replacement };
+
+    fn is_alone(&self, body: &[u8]) -> bool {
+        is_replacement(body)
+    }
+
+    fn answer_client<W: Sink>(
+        &mut self,
+        client: u32,
+        body: &[u8],
+        writer: &mut W,
+    ) -> Result<(), Unwritten> {
+        match &mut self.storage {
+            Storage::Memory(_) => {
+                let reply = turn_for(
+                    self.alloc,
+                    &mut self.host,
+                    &mut self.desk.owners,
+                    client,
+                    body,
+                );
+                put_reply_of(writer, client, &reply.head(), reply.body())
+            }
+            Storage::Disk(store) => {
+                if !ask_over(
+                    self.alloc,
+                    &mut self.host,
+                    store,
+                    &mut self.desk,
+                    client,
+                    body,
+                ) {
+                    return Ok(());
+                }
+                put_told(self.alloc, writer, &mut self.desk)
+            }
+        }
+    }
+
+    fn end_client<W: Sink>(
+        &mut self,
+        client: u32,
+        why: End,
+        writer: &mut W,
+    ) -> Result<(), Unwritten> {
+        match &mut self.storage {
+            Storage::Memory(_) => {
+                let_go(&mut self.host, &mut self.desk.owners, client);
+                put_end(self.alloc, writer, client, why)
+            }
+            Storage::Disk(store) => {
+                if !end_over(
+                    self.alloc,
+                    &mut self.host,
+                    store,
+                    &mut self.desk,
+                    client,
+                    why,
+                ) {
+                    return Ok(());
+                }
+                put_told(self.alloc, writer, &mut self.desk)
+            }
+        }
+    }
+
+    fn commit_now<W: Sink>(&mut self, writer: &mut W) -> Result<(), Unwritten> {
+        match &mut self.storage {
+            Storage::Memory(_) => Ok(()),
+            Storage::Disk(store) => {
+                finish_over(self.alloc, &self.host, store, &mut self.desk);
+                put_told(self.alloc, writer, &mut self.desk)
+            }
+        }
+    }
+
+    fn abandon_clients(&mut self) {
+        match &mut self.storage {
+            Storage::Memory(_) => {}
+            Storage::Disk(store) => {
+                finish_over(self.alloc, &self.host, store, &mut self.desk);
+                clear(&mut self.desk);
+            }
+        }
+    }
+}
+
+/// Writes what is held, each reply to its client, and lets it go.
+fn put_told<W: Sink>(alloc: Global, writer: &mut W, desk: &mut Desk) -> Result<(), Unwritten>
+    requires unbroken { (W.out writer.old).broken ≡ false }
+    requires each { length desk.old.askers.items ≡ length desk.old.open_group.replies.items }
+    ensures puts { Puts result (W.out writer.old) (W.out writer.new) (spelled_frames (all_frames (told_at desk.old))) }
+    ensures cleared { ClearsDesk desk.old desk.new }
+{
+    let put = put_all(alloc, writer, &desk.askers, &desk.open_group.replies);
+    clear(desk);
+    put
+}
+
+/// Lets go of what is held.
+fn clear(desk: &mut Desk)
+    ensures { ClearsDesk desk.old desk.new }
+{
+    desk.askers.clear();
+    desk.open_group.replies.clear();
+}
+
+/// Writes replies one after another, each to its client.
+fn put_all<W: Sink>(
+    alloc: Global,
+    writer: &mut W,
+    askers: &[Asker],
+    replies: &[Reply],
+) -> Result<(), Unwritten>
+    requires unbroken { (W.out writer.old).broken ≡ false }
+    requires each { length askers.now ≡ length replies.now }
+    ensures { Puts result (W.out writer.old) (W.out writer.new) (spelled_frames (all_frames (told_to askers.now replies.now))) }
+{
+    'replies: for i in 0..replies.len() {
+        let asker = asker_of(askers, i);
+        put_one(alloc, writer, asker, &replies[i])?;
+    }
+    Ok(())
+}
+
+/// Whose a reply is.
+fn asker_of(askers: &[Asker], i: usize) -> Asker
+    requires { i < length askers.now }
+    ensures { get_or askers.now i result ≡ result }
+{
+    askers[i]
+}
+
+/// Writes what one client is told.
+fn put_one<W: Sink>(
+    alloc: Global,
+    writer: &mut W,
+    asker: Asker,
+    reply: &Reply,
+) -> Result<(), Unwritten>
+    requires { (W.out writer.old).broken ≡ false }
+    ensures { Puts result (W.out writer.old) (W.out writer.new) (spelled_frames (frames_of (told_with asker.client asker.why reply.now))) }
+{
+    match asker.why {
+        None => put_reply_of(writer, asker.client, &reply.head(), reply.body()),
+        Some(why) => put_end(alloc, writer, asker.client, why),
+    }
+}
+
+/// Writes that a client has ended: behind a record that was cut or too long bad stub data, with tag 0, and then that it has had its last.
+fn put_end<W: Sink>(alloc: Global, writer: &mut W, client: u32, why: End) -> Result<(), Unwritten>
+    requires { (W.out writer.old).broken ≡ false }
+    ensures { Puts result (W.out writer.old) (W.out writer.new) (spelled_frames (frames_of (ALeave client why))) }
+{
+    if !is_answered(why) {
+        return put_last_of(writer, client);
+    }
+    let stub = Reply::bare(alloc, 0, HResult::BAD_STUB_DATA, None).head();
+    put_reply_of(writer, client, &stub, &[])?;
+    put_last_of(writer, client)
+}
+
+/// Whether an end is answered.
+fn is_answered(why: End) -> bool
+    ensures { result ≡ is_answered why }
+{
+    match why {
+        End::Cut | End::TooLong => true,
+        _ => false,
+    }
+}

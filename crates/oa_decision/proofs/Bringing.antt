@@ -1,5 +1,5 @@
 -- An INVOKE that brings no more than a put's new value, of a property without parameters.
-use Rattle.std.proofs.Common.{◌≡◌, inl, inr, ℕ, [], ◌∷◌, Option, Some, None, IfSome, Result, Ok, Err, refl, sym, ◌∙◌}
+use Rattle.std.proofs.Common.{◌≡◌, inl, inr, ℕ, [], ◌∷◌, Option, Some, None, IfSome, is_ok, Result, Ok, Err, refl, sym, ap, ◌∙◌}
 use Rattle.std.specs.Result.{result_ok}
 use Rattle.oa_bind.specs.Bindings.{bound_call}
 use Rattle.oa_bind.specs.Given.{given_call, argument_index, new_value_id}
@@ -59,7 +59,7 @@ module _ (state : State) (head : CallHead) (interface : InterfaceValue) (declare
   pub plans_get : (tag : ℕ) (plan : Plan) → IsKeyless interface head.dispid (Flags head.flags) declared forms.Get
       → PlansGet state tag cell declared plan → PlansValue state tag (Invoke (bringing head None)) plan
   plans_get tag (Answered reply) is (inl says) = inl (_, decided_get is, says)
-  plans_get tag (Answered reply) is (inr wants) = inr (refl, wants)
+  plans_get tag (Answered reply) is (inr wants) = inr (inl (inr (ap is_ok (decided_get is))), wants)
   plans_get tag (Change planned) is none = absurd none
 
   plans_put : (tag : ℕ) (argument : Variant) (plan : Plan) → IsKeyless interface head.dispid (Flags head.flags) declared forms.Put

@@ -4,6 +4,7 @@ pub mod Keys
 mod Named
 mod Zeros
 mod Reached
+mod Refusing
 mod Disconnected
 mod Added
 mod Bringing

@@ -1,9 +1,9 @@
 -- The cell of a property that a call names, or the first refusal (MS-OAUT section 3.1.4.4; the order of the refusals is this project's
 -- choice). What an INVOKE reads or puts is such a cell, and so is what a request on an array's elements or locks is about.
-use Rattle.std.specs.Prelude.{◌≡◌, ℕ, ℤ, ◌==◌, if◌then◌else◌, List, [], Result, Ok, Err}
+use Rattle.std.specs.Prelude.{◌≡◌, ℕ, ℤ, ◌==◌, ◌&&◌, is_none, if◌then◌else◌, List, [], Result, Ok, Err}
 use Rattle.oa_model.specs.Codes.{e_outofmemory}
 use Rattle.oa_bind.specs.declared.fault.BindFault.{BindFault}
-use Rattle.oa_bind.specs.Bindings.{bound_to}
+use Rattle.oa_bind.specs.Bindings.{BindingTakesMemory, bound_to}
 use Rattle.oa_bind.specs.Calls.{BoundCallValue}
 use Rattle.oa_idl.specs.Values.{InterfaceValue}
 use Rattle.oa_model.specs.declared.var_type.ValueType.{ValueType}
@@ -54,9 +54,9 @@ abbrev pub call_found : Result BoundCallValue BindFault → Result BoundCallValu
 call_found (Ok bound) = Ok bound
 call_found (Err fault) = Err (as_refusal fault)
 
--- binding tells want of memory by a code, of which nothing is decided
+-- binding tells want of memory by a code and no index, of which nothing is decided
 abbrev pub undecided : BindFault → Undecided
-undecided fault = if fault.code.0 == e_outofmemory.0 then OutOfMemory else Refused (as_refusal fault)
+undecided fault = if fault.code.0 == e_outofmemory.0 && is_none fault.index then OutOfMemory else Refused (as_refusal fault)
 
 abbrev pub place_of : List ℕ → CallHead → BoundCallValue → PlaceValue
 place_of interface head bound = record { interface = interface; dispid = head.dispid; key = bound.key }
@@ -72,8 +72,17 @@ cell_called state call access = do
   bound ← call_found (bound_to found.0 (bound_as access found.1) (record { named = call.named; arguments = call.arguments }))
   Ok (record { name = called_cell interface.guid call.head bound; declared = found.0.value_type; value = bound.value })
 
--- What is found is what is due, or memory was wanted.
-abbrev pub FindsDue : {A : Type 0} → Result A Refusal → Result A Undecided → Type 0
-FindsDue due (Ok found) = due ≡ Ok found
-FindsDue due (Err (Refused refusal)) = due ≡ Err refusal
-FindsDue due (Err OutOfMemory) = Unit {0}
+-- Memory is taken to find a cell where arguments are bound that need some: the object, its interface, riid and the member are found.
+pub record FindingTakesMemory (state : State) (call : Call) (access : Access) : Type 0 where
+  pub interface : InterfaceValue
+  pub member : MemberValue
+  pub form : Kind
+  pub reached : interface_found state call.head.object call.head.interface call.head.riid ≡ Ok interface
+  pub found : member_found (member_in interface call.head.dispid access) ≡ Ok (member, form)
+  pub binding : BindingTakesMemory member.parameters member.value_type (bound_as access form) (record { named = call.named; arguments = call.arguments })
+
+-- What is found is what is due, or memory was wanted where some is taken.
+abbrev pub FindsDue : {A : Type 0} → Result A Refusal → Type 0 → Result A Undecided → Type 0
+FindsDue due takes (Ok found) = due ≡ Ok found
+FindsDue due takes (Err (Refused refusal)) = due ≡ Err refusal
+FindsDue due takes (Err OutOfMemory) = takes

@@ -1,11 +1,14 @@
 -- What is decided of a request: the answer, the change that it calls for, or why it is refused. (This project's choice.)
-use Rattle.std.specs.Prelude.{ℕ, Bool, true, false, is_ok, [], Option, Result}
+use Rattle.std.specs.Prelude.{◌⊎◌, ℕ, IsOk, [], Option, Result, Ok, Err}
 use Rattle.oa_model.specs.declared.hresult.HResult.{HResult}
 use Rattle.oa_record.specs.declared.request.Request.{Request}
 use Rattle.oa_record.specs.declared.request.Request.TheVariants as requests
 use Rattle.oa_record.specs.Replies.{ReplyValue}
+use Rattle.oa_typelib.specs.declared.access.Access.TheVariants.{Flags, Get, Put}
 use Rattle.oa_decision.specs.declared.decision.Decision.{Decision}
+use Rattle.oa_decision.specs.declared.decision.Decision.TheVariants.{Answer, Change, Relock}
 use Rattle.oa_decision.specs.declared.refusal.Refusal.{Refusal}
+use Rattle.oa_decision.specs.Cells.{FindingTakesMemory}
 use Rattle.oa_decision.specs.Create.{creation}
 use Rattle.oa_decision.specs.GetElement.{element_got}
 use Rattle.oa_decision.specs.Invoke.{invocation}
@@ -14,10 +17,9 @@ use Rattle.oa_decision.specs.Listing.{listing}
 use Rattle.oa_decision.specs.Lock.{locking}
 use Rattle.oa_decision.specs.LookUps.{look_up}
 use Rattle.oa_decision.specs.PutElement.{element_put}
-use Rattle.oa_decision.specs.Redimension.{redimension}
+use Rattle.oa_decision.specs.Redimension.{IsOfNeverPut, redimension}
 use Rattle.oa_decision.specs.Release.{ending}
 use Rattle.oa_decision.specs.States.{State}
-use Rattle.oa_table.specs.declared.event.Event.TheVariants.{Release}
 use Rattle.oa_decision.specs.TypeInfo.{information}
 use Rattle.oa_decision.specs.Unlock.{unlocking}
 
@@ -39,21 +41,28 @@ decided state requests.Objects = listing state
 abbrev pub refusal : ℕ → HResult → Option ℕ → ReplyValue
 refusal tag code index = record { tag = tag; code = code; index = index; body = [] }
 
--- whether want of memory may be answered: not in place of a refused CREATE, RELEASE or TYPEINFO
-abbrev pub may_want_memory : State → Request → Bool
-may_want_memory state (requests.Create class) = is_ok (creation state class)
-may_want_memory state (requests.Release number) = is_ok (allowed state.bank (Release number) state.table)
-may_want_memory state (requests.GetIds call) = true
-may_want_memory state (requests.Invoke call) = true
-may_want_memory state (requests.GetElement call indices) = true
-may_want_memory state (requests.PutElement call indices value) = true
-may_want_memory state (requests.Redimension call bound) = true
-may_want_memory state (requests.Lock call) = true
-may_want_memory state (requests.Unlock call) = true
-may_want_memory state (requests.TypeInfo index) = is_ok (information state index)
-may_want_memory state requests.Objects = true
+-- What a request is decided with that takes memory: the arguments of a call, where they are bound; the fields of an answer, where there is
+-- one; the zero array of a cell that was never put, which a REDIM changes.
+abbrev pub DecidingTakesMemory : State → Request → Type 0
+DecidingTakesMemory state (requests.Create class) = IsOk (creation state class)
+DecidingTakesMemory state (requests.Release number) = ⊥
+DecidingTakesMemory state (requests.GetIds call) = IsOk (look_up state call)
+DecidingTakesMemory state (requests.Invoke call) = FindingTakesMemory state call (Flags call.head.flags) ⊎ IsOk (invocation state call)
+DecidingTakesMemory state (requests.GetElement call indices) = FindingTakesMemory state call Get ⊎ IsOk (element_got state call indices)
+DecidingTakesMemory state (requests.PutElement call indices value) = FindingTakesMemory state call Put
+DecidingTakesMemory state (requests.Redimension call bound) = FindingTakesMemory state call Put ⊎ IsOfNeverPut state call
+DecidingTakesMemory state (requests.Lock call) = FindingTakesMemory state call Get ⊎ IsOk (locking state call)
+DecidingTakesMemory state (requests.Unlock call) = FindingTakesMemory state call Get ⊎ IsOk (unlocking state call)
+DecidingTakesMemory state (requests.TypeInfo index) = IsOk (information state index)
+DecidingTakesMemory state requests.Objects = IsOk (listing state)
 
--- the same of what is decided alone: a RELEASE is decided without memory (a store that keeps its event takes some)
-abbrev pub deciding_takes_memory : State → Request → Bool
-deciding_takes_memory state (requests.Release number) = false
-deciding_takes_memory state request = may_want_memory state request
+-- a change takes memory where the table may be changed so
+abbrev pub ChangingTakesMemory : State → Result Decision Refusal → Type 0
+ChangingTakesMemory state (Ok (Change event fields)) = IsOk (allowed state.bank event state.table)
+ChangingTakesMemory state (Ok (Answer code fields)) = ⊥
+ChangingTakesMemory state (Ok (Relock change fields)) = ⊥
+ChangingTakesMemory state (Err refusal) = ⊥
+
+-- a request takes memory to be decided, or for its change: where want of memory may be answered
+abbrev pub RequestTakesMemory : State → Request → Type 0
+RequestTakesMemory state request = DecidingTakesMemory state request ⊎ ChangingTakesMemory state (decided state request)

@@ -1,5 +1,5 @@
 -- What becomes of a request that is looked at: a decision, which only reads. (This project's choice.)
-use Rattle.std.specs.Prelude.{◌≡◌, Bool, true, Result, Ok, Err}
+use Rattle.std.specs.Prelude.{◌≡◌, Result, Ok, Err}
 use Rattle.oa_table.specs.Events.{BringsNoLocks}
 use Rattle.oa_decision.specs.declared.decision.Decision.{Decision}
 use Rattle.oa_decision.specs.declared.decision.Decision.TheVariants.{Answer, Change, Relock}
@@ -7,11 +7,11 @@ use Rattle.oa_decision.specs.declared.decision.Undecided.{Undecided}
 use Rattle.oa_decision.specs.declared.decision.Undecided.TheVariants.{Refused, OutOfMemory}
 use Rattle.oa_decision.specs.declared.refusal.Refusal.{Refusal}
 
--- A request is decided as is due, or memory was wanted where some may be.
-abbrev pub Decides : Result Decision Refusal → Bool → Result Decision Undecided → Type 0
+-- A request is decided as is due, or memory was wanted where some is taken.
+abbrev pub Decides : Result Decision Refusal → Type 0 → Result Decision Undecided → Type 0
 Decides due takes (Ok decision) = due ≡ Ok decision
 Decides due takes (Err (Refused r)) = due ≡ Err r
-Decides due takes (Err OutOfMemory) = takes ≡ true
+Decides due takes (Err OutOfMemory) = takes
 
 -- no event brings locks: they are of a session
 abbrev pub ChangesNoLocks : Decision → Type 0

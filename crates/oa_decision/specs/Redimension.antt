@@ -1,5 +1,5 @@
 -- REDIM: the array in a cell gets another first listed bound. (This project's choice.)
-use Rattle.std.specs.Prelude.{[], Option, Some, None, Result, Ok}
+use Rattle.std.specs.Prelude.{◌≡◌, [], Option, Some, None, Result, Ok}
 use Rattle.oa_model.specs.declared.bound.Bound.{Bound}
 use Rattle.oa_model.specs.declared.var_type.ValueType.{ValueType}
 use Rattle.oa_variant.specs.declared.variant.Variant.{Variant}
@@ -12,10 +12,17 @@ use Rattle.oa_typelib.specs.declared.access.Access.TheVariants.{Put}
 use Rattle.oa_decision.specs.declared.decision.Decision.{Decision}
 use Rattle.oa_decision.specs.declared.decision.Decision.TheVariants.{Change}
 use Rattle.oa_decision.specs.declared.refusal.Refusal.{Refusal}
+use Rattle.oa_decision.specs.declared.decider.cell.BoundCell.{BoundCell}
 use Rattle.oa_decision.specs.ArrayCells.{as_refused, put_in}
 use Rattle.oa_decision.specs.Cells.{cell_called}
 use Rattle.oa_decision.specs.Refusals.{◌>>=◌}
 use Rattle.oa_decision.specs.States.{State}
+
+-- the call reaches a cell that was never put, whose zero takes memory to make
+pub record IsOfNeverPut (state : State) (call : Call) : Type 0 where
+  pub cell : BoundCell
+  pub reached : cell_called state call Put ≡ Ok cell
+  pub fresh : put_in state cell.name ≡ None
 
 -- the zero of a declared type with another first bound
 abbrev pub zero_with : Bound → ValueType → Result Variant Refusal

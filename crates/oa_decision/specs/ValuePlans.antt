@@ -1,5 +1,5 @@
 -- What is planned of a call that brings no more than a new value. (This project's choice.)
-use Rattle.std.specs.Prelude.{◌≡◌, ◌⊎◌, List, [], ℕ, true, None, Result, Ok}
+use Rattle.std.specs.Prelude.{◌≡◌, ◌⊎◌, List, [], ℕ, None, Result, Ok}
 use Rattle.oa_coerce.specs.declared.fault.CoerceFault.{CoerceFault}
 use Rattle.oa_model.specs.Codes.{e_outofmemory, s_ok}
 use Rattle.oa_model.specs.declared.var_type.ValueType.{ValueType}
@@ -15,7 +15,7 @@ use Rattle.oa_decision.specs.declared.plan.Plan.{Plan}
 use Rattle.oa_decision.specs.declared.plan.Plan.TheVariants.{Answered, Change}
 use Rattle.oa_decision.specs.Invoke.{reply_value}
 use Rattle.oa_decision.specs.States.{State}
-use Rattle.oa_decision.specs.Decided.{decided, refusal, may_want_memory}
+use Rattle.oa_decision.specs.Decided.{RequestTakesMemory, decided, refusal}
 
 -- a reply of S_OK with these fields
 abbrev pub reply_told : ℕ → List ℕ → ReplyValue
@@ -25,7 +25,7 @@ reply_told tag fields = record { tag = tag; code = s_ok; index = None; body = fi
 abbrev pub PlansValue : State → ℕ → Request → Plan → Type 0
 PlansValue state tag request (Answered reply) =
     ((fields : List ℕ) × (decided state request ≡ Ok (decisions.Answer s_ok fields)) × (reply ≡ reply_told tag fields))
-    ⊎ ((may_want_memory state request ≡ true) × (reply ≡ refusal tag e_outofmemory None))
+    ⊎ (RequestTakesMemory state request × (reply ≡ refusal tag e_outofmemory None))
 PlansValue state tag request (Change planned) =
     (decided state request ≡ Ok (decisions.Change planned.event planned.fields)) × (planned.tag ≡ tag) × BringsNoLocks planned.event
 

@@ -1,7 +1,7 @@
 //! What is decided of a request over a library and a table of objects, which are only read.
 ghost use Rattle.std.specs.Prelude.{◌≡◌, IfOk};
 ghost use Rattle.oa_decision.specs.Decisions.{ChangesNoLocks, Decides};
-ghost use Rattle.oa_decision.specs.Decided.{decided, deciding_takes_memory};
+ghost use Rattle.oa_decision.specs.Decided.{DecidingTakesMemory, decided};
 
 use crate::decision::{Decision, Undecided};
 use oa_record::Request;
@@ -58,10 +58,10 @@ impl<'a> Decider<'a> {
     }
 
     /// What becomes of a request: the answer and its fields, or the change that it calls for, which may still be refused. `Refused` with the
-    /// first refusal in the stated order; `OutOfMemory` where memory was wanted, never in place of a refused CREATE or TYPEINFO, and never
-    /// for a RELEASE. Only reads.
+    /// first refusal in the stated order; `OutOfMemory` where memory was wanted: for the arguments of a call that binds some, for the fields of
+    /// an answer that there is, for the zero array of a cell that a REDIM changes and that was never put. Only reads.
     pub fn decide(&self, request: Request) -> Result<Decision, Undecided>
-        ensures decided { Decides (decided self.now request) (deciding_takes_memory self.now request) result }
+        ensures decided { Decides (decided self.now request) (DecidingTakesMemory self.now request) result }
         ensures unlocked { IfOk result ChangesNoLocks }
     {
         match request {

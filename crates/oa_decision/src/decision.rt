@@ -55,7 +55,7 @@ impl From<BindFault> for Undecided {
 
     fn from(fault: BindFault) -> Undecided {
         let BindFault { code, index } = fault;
-        if code == HResult::E_OUTOFMEMORY {
+        if code == HResult::E_OUTOFMEMORY && index.is_none() {
             Undecided::OutOfMemory
         } else {
             Undecided::Refused(Refusal { code, index })

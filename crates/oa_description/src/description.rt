@@ -250,7 +250,7 @@ fn put_description(out: &mut Vec<u8>, description: &Description<'_>) -> Result<(
 ///
 /// An entry of a coclass has the flags u32, 1 for the default interface, and at 4 the index of the interface u32.
 ///
-/// Err where memory is refused, and for a description of more than 4,294,967,279 bytes, which no library has.
+/// Err where memory is refused, and for a description of more than 4,294,967,275 bytes, which no library has.
 pub fn description_field(
     alloc: Global,
     description: &Description<'_>,

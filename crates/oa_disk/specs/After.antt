@@ -14,12 +14,14 @@ pub record AfterWrites {D T : Type 0} (g : Ghosts D) (most : ℕ) (old new : D) 
   pub fault : IfErr result (λ e. e ≡ Write)
   pub calls : IsTrue (g.is_honest old) → g.moment new ≤ g.moment old + 2 * most
 
--- The same of a call that may be refused before the first write. One fault says that a write or a sync has failed.
+-- The same of a call that may be refused before the first write. One fault says that a write or a sync has failed, behind which there
+-- was no call.
 pub record AfterAttempt {D T E : Type 0} (g : Ghosts D) (device : DeviceFault → E) (most : ℕ) (old new : D) (result : Result T E)
     : Type 0 where
   pub size : g.size_of new ≡ g.size_of old
   pub honest : g.is_honest new ≡ g.is_honest old
   pub failures : g.failures_of old ≤ g.failures_of new
+  pub once : g.failures_of new ≤ g.failures_of old + 1
   pub unfailed : OnOk result (g.failures_of new ≡ g.failures_of old)
   pub failed : (fault : DeviceFault) → IsErrOf result (device fault)
       → (fault ≡ Write) × HasCounted (g.failures_of old) (g.failures_of new)

@@ -42,6 +42,7 @@ still_carried {D} {g} only batch held store = record {
   any_moment = λ committed first all. nothing_called g.moment g.image_since store.disk (g.image store.disk) store.bank.shape store.chosen store.bank.gate store.library.items committed (λ c left. only store.disk c all.0 left) all.1;
   each = λ going committed first all. all;
   library = refl;
+  once = λ honest. omega arith;
 }
 
 -- no bytes make no change

@@ -5,6 +5,7 @@ use Rattle.oa_disk.specs.declared.disk.Disk.{Ghosts}
 use Rattle.oa_image.specs.Tables.{FitsBank, is_numbered}
 use Rattle.oa_journal.specs.Replays.{Replays}
 use Rattle.oa_journal.specs.Shapes.{ample_bytes, body_bytes}
+use Rattle.oa_store.specs.Writing.{CallsForOneCheckpoint}
 use Rattle.oa_store.specs.declared.store.Store.{Store}
 use Rattle.oa_table.specs.Tables.{TableValue}
 use Rattle.oa_keeper.specs.Kept.{AllHold, HasRoom, LeavesEither, LeavesTable}
@@ -33,11 +34,12 @@ abbrev pub KeepsCommitted : {D : Type 0} {g : Ghosts D} → List ℕ → TableVa
 KeepsCommitted batch held old new =
     (committed : TableValue) → IsLastCommitted batch held committed → AllHold old committed → AllHold new committed
 
--- What was committed stands throughout a call, under the same library.
+-- What was committed stands throughout a call, under the same library; that makes one checkpoint at most.
 pub record Carries {D : Type 0} {g : Ghosts D} (batch : List ℕ) (held : TableValue) (old new : Store D g) : Type 0 where
   pub any_moment : LeavesCommitted batch held old new
   pub each : new.stopped ≡ false → KeepsCommitted batch held old new
   pub library : new.library.items ≡ old.library.items
+  pub once : CallsForOneCheckpoint old new
 
 -- There is room for a group before its first event. No checkpoint is made for that where the batch has events, nor one that is not due.
 pub record MakesRoom {D T E : Type 0} {g : Ghosts D} (batch : List ℕ) (old new : Store D g) (result : Result T E) : Type 0 where

@@ -1,5 +1,5 @@
 -- Parts of replies, and their lengths.
-use Rattle.std.proofs.Common.{◌≡◌, ◌≤◌, ℕ, zero, suc, ℤ, ◌-◌, ◌*◌, ◌%◌, Bool, true, false, eqb, if◌then◌else◌, List, [], ◌∷◌, ◌++◌, Result}
+use Rattle.std.proofs.Common.{◌≡◌, ◌≤◌, ℕ, zero, suc, ℤ, ◌+◌, ◌-◌, ◌*◌, ◌%◌, Bool, true, false, eqb, if◌then◌else◌, List, [], ◌∷◌, ◌++◌, Result}
 use Rattle.std.proofs.Common.{Ok, Err, OnErr, OnOk, length, replicate, refl, ap, ◌∙◌, append_assoc, arith}
 use Rattle.std.proofs.lemmas.Bool.{eqb-false}
 use Rattle.std.proofs.lemmas.List.{append-nil, length-append, length-replicate}
@@ -33,17 +33,18 @@ positive : (x : ℕ) → (x ≡ 0 → ⊥) → 1 ≤ x
 positive zero n = absurd (n refl)
 positive (suc x) n = omega arith
 
-zeros_below : (x : ℕ) → (if eqb x 0 then 0 else 8 - x) ≤ 7
-zeros_below x = by_test (eqb x 0) refl
+-- the longest value ends at a multiple of 8, so that no shorter one has more padding than leads there
+padded_small : (n : ℕ) → n ≤ max_value_bytes → n + padding 8 n ≤ max_value_bytes
+padded_small n few = by_test (eqb (n % 8) 0) refl
   where
-    by_test : (b : Bool) → eqb x 0 ≡ b → (if b then 0 else 8 - x) ≤ 7
-    by_test true h = omega arith
-    by_test false h = let some = positive x (eqb-false _ _ h) in omega (arith, some)
+    by_test : (b : Bool) → eqb (n % 8) 0 ≡ b → n + (if b then 0 else 8 - n % 8) ≤ max_value_bytes
+    by_test true h = omega (arith, few)
+    by_test false h = let some = positive (n % 8) (eqb-false _ _ h) in omega (arith, few, some)
 
 -- the longest field of a value
 pub value_small : (n : ℕ) (bytes : List ℕ) → length bytes ≤ max_value_bytes → length (number_field n ++ padded bytes) ≤ max_fields_bytes
 value_small n bytes few =
-    omega (arith, few, number_length n, zeros_below (length bytes % 8), length-append (number_field n) (padded bytes), length-append bytes (replicate (padding 8 (length bytes)) 0), length-replicate {A = ℕ} (padding 8 (length bytes)) 0)
+    omega (arith, padded_small (length bytes) few, number_length n, length-append (number_field n) (padded bytes), length-append bytes (replicate (padding 8 (length bytes)) 0), length-replicate {A = ℕ} (padding 8 (length bytes)) 0)
 
 -- and that of DISPIDs
 pub small_field : (n : ℕ) (ids : List ℤ) → length ids ≤ max_names → length (number_field n ++ padded (flat_map signed_word ids)) ≤ max_fields_bytes

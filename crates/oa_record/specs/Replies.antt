@@ -16,7 +16,7 @@ pub record ReplyValue : Type 0 where
 
 -- the most bytes that the fields of a reply have: with the 16 before them, as many as 4 bytes count
 abbrev pub max_fields_bytes : ℕ
-max_fields_bytes = 4294967279
+max_fields_bytes = 4294967275
 
 -- the most bytes of a value that a reply has room for: behind the 8 bytes before it, and with its padding
 abbrev pub max_value_bytes : ℕ

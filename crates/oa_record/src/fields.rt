@@ -22,7 +22,7 @@ use std::mem;
 use uuid::Uuid;
 
 /// The most bytes that the fields of a reply have.
-pub const MAX_FIELDS_BYTES: usize = 4_294_967_279;
+pub const MAX_FIELDS_BYTES: usize = 4_294_967_275;
 
 /// The longest value that a reply has room for, in bytes: behind the 8 bytes before it, and with its padding.
 const MAX_VALUE_BYTES: usize = (MAX_FIELDS_BYTES - 8) / 8 * 8;

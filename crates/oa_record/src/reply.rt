@@ -7,7 +7,7 @@ use std::alloc::Global;
 use std::marker::Model;
 
 /// A reply: the tag of its request, a code, the index in rgvarg of the argument that the code is about, and its fields, which are at most
-/// 4,294,967,279 bytes.
+/// 4,294,967,275 bytes.
 #[derive(Debug, Drop)]
 pub struct Reply {
     tag: u32,
@@ -69,7 +69,7 @@ impl Reply {
         self.index
     }
 
-    /// Its fields, at most 4,294,967,279 bytes.
+    /// Its fields, at most 4,294,967,275 bytes.
     pub fn body(&self) -> &[u8]
         ensures value { result.now ≡ self.now.body }
         ensures small { length result.now ≤ max_fields_bytes }

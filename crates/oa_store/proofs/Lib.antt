@@ -1,5 +1,5 @@
 mod Changed
-mod Counted
+pub mod Counted
 mod LaidDown
 pub mod OneStore
 pub mod Opened

@@ -16,6 +16,10 @@ piece_count library table = div_ceil (1 + first_gate library table) piece_bytes
 abbrev pub checkpoint_calls : List ℕ → TableValue → ℕ
 checkpoint_calls library table = 4 + piece_count library table
 
+-- the most that one makes on banks with bodies of so many bytes, whatever it writes
+abbrev pub most_checkpoint_calls : ℕ → ℕ
+most_checkpoint_calls bank = 4 + div_ceil bank piece_bytes
+
 -- a format: the first byte, a sync, the head, the pieces of the body, the selector, a sync, the first byte and a sync
 abbrev pub format_calls : List ℕ → ℕ
 format_calls library = 7 + piece_count library first_table

@@ -1,5 +1,5 @@
 -- What the calls of an open store that write leave of it. (This project's choice.)
-use Rattle.std.specs.Prelude.{◌≡◌, ◌↔◌, ℕ, ◌+◌, ◌-◌, ◌≤◌, true, false, List, length, Result, OnOk, OnErr, IsErrOf}
+use Rattle.std.specs.Prelude.{◌≡◌, ◌↔◌, ℕ, ◌+◌, ◌*◌, ◌-◌, ◌≤◌, IsTrue, true, false, List, length, Result, OnOk, OnErr, IsErrOf}
 use Rattle.oa_disk.specs.Disk.{HasCounted}
 use Rattle.oa_disk.specs.declared.disk.DeviceFault.{DeviceFault}
 use Rattle.oa_disk.specs.declared.disk.DeviceFault.TheVariants.{Write}
@@ -7,6 +7,7 @@ use Rattle.oa_disk.specs.declared.disk.Disk.{Ghosts}
 use Rattle.oa_journal.specs.Append.{group_of}
 use Rattle.oa_journal.specs.Banks.{first_gate}
 use Rattle.oa_journal.specs.Shapes.{ample_bytes, body_bytes}
+use Rattle.oa_store.specs.Calls.{most_checkpoint_calls}
 use Rattle.oa_store.specs.declared.fault.WriteFault.{WriteFault}
 use Rattle.oa_store.specs.declared.fault.WriteFault.TheVariants as faults
 use Rattle.oa_store.specs.declared.store.Store.{Store}
@@ -17,12 +18,19 @@ pub record Goes {D : Type 0} {g : Ghosts D} (old new : Store D g) : Type 0 where
   pub honest : g.is_honest new.disk ≡ g.is_honest old.disk
   pub size : g.size_of new.disk ≡ g.size_of old.disk
   pub failures : g.failures_of old.disk ≤ g.failures_of new.disk
+  -- no call comes behind one that has failed
+  pub once : g.failures_of new.disk ≤ g.failures_of old.disk + 1
   pub shape : new.bank.shape ≡ old.bank.shape
   -- it stops only where a call has failed, and then for good
   pub stops : old.stopped ≡ false → new.stopped ≡ true → HasCounted (g.failures_of old.disk) (g.failures_of new.disk)
   pub stays : old.stopped ≡ true → (new.stopped ≡ true) × (new.disk ≡ old.disk)
   -- no failed call goes untold
   pub unfailed : new.stopped ≡ false → g.failures_of new.disk ≡ g.failures_of old.disk
+
+-- It makes the calls of one checkpoint at most, whatever that writes.
+abbrev pub CallsForOneCheckpoint : {D : Type 0} {g : Ghosts D} → Store D g → Store D g → Type 0
+CallsForOneCheckpoint {D} {g} old new =
+    IsTrue (g.is_honest old.disk) → g.moment new.disk ≤ g.moment old.disk + 2 * most_checkpoint_calls (body_bytes old.bank.shape)
 
 -- The store goes on exactly where `Ok` is answered. One fault says that it had stopped before, the other that a write has failed.
 pub record StopsAtFault {D T : Type 0} {g : Ghosts D} (old new : Store D g) (result : Result T WriteFault) : Type 0 where

@@ -1,5 +1,5 @@
 -- Turns that make no event. A body that asks nothing is refused, or memory was wanted to read it: a turn that changes nothing.
-use Rattle.std.proofs.Common.{◌≡◌, ℕ, List, true, None, Ok, Err, inl, inr, refl, ◌∙◌}
+use Rattle.std.proofs.Common.{◌≡◌, ℕ, List, None, Ok, Err, inl, inr, refl, ◌∙◌}
 use Rattle.oa_model.specs.Codes.{e_outofmemory}
 use Rattle.oa_model.specs.declared.hresult.HResult.{HResult}
 use Rattle.oa_record.specs.Asks.{Asks, IsRequest, tag_at}
@@ -13,7 +13,7 @@ use Rattle.oa_decision.specs.declared.decision.LockChange.{LockChange}
 use Rattle.oa_decision.specs.declared.refusal.Refusal.{Refusal}
 use Rattle.oa_turn.specs.Steps.{after_outcome, relocked, relocking}
 use Rattle.oa_decision.specs.States.{State}
-use Rattle.oa_decision.specs.Decided.{decided, refusal, may_want_memory}
+use Rattle.oa_decision.specs.Decided.{RequestTakesMemory, decided, refusal}
 use Rattle.oa_turn.specs.Steps.{reply_with}
 use Rattle.oa_turn.specs.Turns.{Ordinary}
 
@@ -37,5 +37,5 @@ module _ (old : State) (body : List ℕ) (request : Request) (asked : Asks body 
       → new ≡ after_outcome old (relocking change fields (relocked change old.table)) → Ordinary old body reply new
   relocks new change fields is says leaves = inl (record { request = request; asked = asked; answers = says ∙ rw is refl; leaves = leaves ∙ rw is refl })
 
-  pub lacks : may_want_memory old request ≡ true → reply ≡ refusal (tag_at body) e_outofmemory None → Ordinary old body reply old
+  pub lacks : RequestTakesMemory old request → reply ≡ refusal (tag_at body) e_outofmemory None → Ordinary old body reply old
   lacks takes says = inr (inr (inr (record { may = inr (record { request = request; asked = asked; takes = takes }); answers = says; leaves = refl })))

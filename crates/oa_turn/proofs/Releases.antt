@@ -1,6 +1,6 @@
 -- A RELEASE takes no memory, so it is not answered with want of it.
 use Rattle.std.proofs.Common.{◌≡◌, ℕ, ◌-◌, ◌≤◌, Bool, true, false, true≢false, if◌then◌else◌, List, length, Option, Some, None, Result, Ok, Err}
-use Rattle.std.proofs.Common.{IfErr, OnErr, refl, sym, ap, ◌∙◌, arith}
+use Rattle.std.proofs.Common.{IfErr, OnErr, refl, sym, ap, subst, ◌∙◌, arith}
 use Rattle.std.specs.Prelude.{nat_lt}
 use Rattle.std.specs.Result.{IsErrAnd, MatchResult}
 use Rattle.std.proofs.lemmas.Bool.{le-ltb}
@@ -29,7 +29,7 @@ use Rattle.oa_table.specs.declared.event.Event.{Event}
 use Rattle.oa_table.specs.declared.event.Event.TheVariants.{Release as ARelease}
 use Rattle.oa_table.specs.declared.fault.TableFault.{TableFault}
 use Rattle.oa_table.specs.declared.fault.TableFault.TheVariants.{NoObject, WrongNumber, NotArray, Array, Memory}
-use Rattle.oa_decision.specs.Decided.{decided, deciding_takes_memory}
+use Rattle.oa_decision.specs.Decided.{DecidingTakesMemory, decided}
 use Rattle.oa_decision.specs.Limits.{allowed, limited}
 use Rattle.oa_decision.specs.States.{State}
 use Rattle.oa_decision.specs.declared.decision.Decision.{Decision}
@@ -121,8 +121,8 @@ module _ (body : List ℕ) (number : ℕ) (of : Asks body (Release number)) wher
     pub changes : (due : Result Decision Refusal) → decided state request ≡ due → is_change due ≡ true
     changes due is = ap is_change (sym is) ∙ ap (λ (q : Request). is_change (decided state q)) same
 
-    pub takes_none : deciding_takes_memory state request ≡ true → ⊥
-    takes_none takes = true≢false (sym takes ∙ ap (deciding_takes_memory state) same)
+    pub takes_none : DecidingTakesMemory state request → ⊥
+    takes_none takes = subst (λ (q : Request). DecidingTakesMemory state q) same takes
 
     pub releases : (event : Event) (fields : List ℕ) → decided state request ≡ Ok (Change event fields) → event ≡ ARelease number
     releases event fields is = let change = sym is ∙ ap (decided state) same in cc

@@ -12,7 +12,7 @@ use Rattle.oa_decision.specs.declared.decision.Decision.{Decision}
 use Rattle.oa_decision.specs.declared.decision.Decision.TheVariants.{Answer, Change, Relock}
 use Rattle.oa_decision.specs.declared.decision.LockChange.{LockChange}
 use Rattle.oa_decision.specs.declared.refusal.Refusal.{Refusal}
-use Rattle.oa_decision.specs.Decided.{decided, may_want_memory}
+use Rattle.oa_decision.specs.Decided.{RequestTakesMemory, decided}
 use Rattle.oa_decision.specs.States.{State}
 use Rattle.oa_turn.specs.Turns.{MayLack}
 
@@ -78,7 +78,7 @@ FindsLock state body (Err e) = MayStarve body ⊎ MayLack state body
 -- the same of a request
 abbrev pub FindsLockBy : {E : Type 0} → State → Request → Result (Option LockChange) E → Type 0
 FindsLockBy state request (Ok found) = found ≡ lock_asked_by state request
-FindsLockBy state request (Err e) = may_want_memory state request ≡ true
+FindsLockBy state request (Err e) = RequestTakesMemory state request
 
 -- the table without a lock that it has, else as it is
 abbrev pub table_or : TableValue → Result TableValue TableFault → TableValue

@@ -8,7 +8,7 @@ use Rattle.oa_record.specs.Replacement.{is_replacement}
 use Rattle.oa_turn.specs.Replacing.{Replacement}
 use Rattle.oa_decision.specs.States.{State}
 use Rattle.oa_turn.specs.Steps.{after, reply_to}
-use Rattle.oa_decision.specs.Decided.{refusal, may_want_memory}
+use Rattle.oa_decision.specs.Decided.{RequestTakesMemory, refusal}
 
 -- the body asks a request, and this is its step
 pub record Steps (old : State) (body : List ℕ) (reply : ReplyValue) (new : State) : Type 0 where
@@ -30,11 +30,11 @@ pub record RefusesType (old : State) (body : List ℕ) (reply : ReplyValue) (new
   pub answers : reply ≡ refusal (tag_at body) disp_e_badvartype index
   pub leaves : new ≡ old
 
--- the body asks a request that takes memory to carry out: any but a CREATE, a RELEASE or a TYPEINFO that is refused
+-- the body asks a request that takes memory to be decided, or to make its change
 pub record MayLack (old : State) (body : List ℕ) : Type 0 where
   pub request : Request
   pub asked : Asks body request
-  pub takes : may_want_memory old request ≡ true
+  pub takes : RequestTakesMemory old request
 
 -- memory was refused, where reading the body or carrying out its request takes some; nothing changes
 pub record LacksMemory (old : State) (body : List ℕ) (reply : ReplyValue) (new : State) : Type 0 where

@@ -8,7 +8,7 @@ ghost use Rattle.oa_decision.specs.Limits.{allowed};
 ghost use Rattle.oa_turn.specs.Plans.{Drafts, HasNoEvent, HoldsSame, IsDrafted, Plans, PlansChange};
 ghost use Rattle.oa_turn.specs.Plans.{PlansWithoutMemory, ReleasesWithoutMemory};
 ghost use Rattle.oa_model.specs.Codes.{e_outofmemory};
-ghost use Rattle.oa_decision.specs.Decided.{decided, deciding_takes_memory};
+ghost use Rattle.oa_decision.specs.Decided.{DecidingTakesMemory, decided};
 ghost use Rattle.oa_turn.specs.Steps.{reply_with};
 ghost use Rattle.oa_turn.specs.Turns.{Ordinary, Run, Turn};
 ghost use Rattle.oa_table.specs.Events.{BringsNoLocks};
@@ -241,7 +241,7 @@ impl Host {
 
     /// What becomes of a request. Only reads.
     fn decide(&self, request: Request) -> Result<Decision, Undecided>
-        ensures decided { Decides (decided self.now request) (deciding_takes_memory self.now request) result }
+        ensures decided { Decides (decided self.now request) (DecidingTakesMemory self.now request) result }
         ensures unlocked { IfOk result ChangesNoLocks }
     {
         self.decider().decide(request)

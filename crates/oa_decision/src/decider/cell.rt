@@ -1,8 +1,8 @@
 //! The cell of a property that a call names.
 ghost use Rattle.std.specs.Prelude.{◌≡◌, ◌≤◌, length, IfOk, Ok, Some};
 ghost use Rattle.oa_model.specs.Limits.{max_key_scalars};
-ghost use Rattle.oa_bind.specs.Bindings.{bound_to};
-ghost use Rattle.oa_decision.specs.Cells.{FindsDue, bound_as, call_found, cell_called, member_found};
+ghost use Rattle.oa_bind.specs.Bindings.{BindingTakesMemory, bound_to};
+ghost use Rattle.oa_decision.specs.Cells.{FindingTakesMemory, FindsDue, bound_as, call_found, cell_called, member_found};
 ghost use Rattle.oa_decision.specs.Interfaces.{interface_found};
 ghost use Rattle.oa_table.specs.Tables.{object_at};
 ghost use Rattle.oa_typelib.specs.Bindable.{IsBindable};
@@ -36,7 +36,7 @@ impl Decider<'_> {
     /// get's for any other access.
     #[tactic(auto, unfolding(crate::specs::Cells::cell_called))]
     pub(super) fn find_cell(&self, call: Call, access: Access) -> Result<BoundCell, Undecided>
-        ensures cell { FindsDue (cell_called self.now call access) result }
+        ensures cell { FindsDue (cell_called self.now call access) (FindingTakesMemory self.now call access) result }
         ensures zero { IfOk result (λ cell. HasZero cell.declared) }
     {
         let object = self.find_object(call.head.object)?;
@@ -52,7 +52,7 @@ impl Decider<'_> {
         access: Access,
     ) -> Result<BoundCell, Undecided>
         requires { object_at call.head.object self.now.table ≡ Some object.now }
-        ensures cell { FindsDue (cell_called self.now call access) result }
+        ensures cell { FindsDue (cell_called self.now call access) (FindingTakesMemory self.now call access) result }
         ensures object { IfOk result (λ cell. cell.name.object ≡ call.head.object) }
         ensures zero { IfOk result (λ cell. HasZero cell.declared) }
     {
@@ -69,7 +69,7 @@ impl Decider<'_> {
         access: Access,
     ) -> Result<BoundCell, Undecided>
         requires { interface_found self.now call.head.object call.head.interface call.head.riid ≡ Ok interface.now }
-        ensures cell { FindsDue (cell_called self.now call access) result }
+        ensures cell { FindsDue (cell_called self.now call access) (FindingTakesMemory self.now call access) result }
         ensures object { IfOk result (λ cell. cell.name.object ≡ call.head.object) }
         ensures zero { IfOk result (λ cell. HasZero cell.declared) }
     {
@@ -99,7 +99,8 @@ impl Decider<'_> {
         named: &Dispids,
     ) -> Result<oa_bind::BoundCall, Undecided>
         requires { IsBindable member.now }
-        ensures call { FindsDue (call_found (bound_to member.now kind (record { named = named.now; arguments = arguments }))) result }
+        ensures call { FindsDue (call_found (bound_to member.now kind (record { named = named.now; arguments = arguments })))
+            (BindingTakesMemory member.now.parameters member.now.value_type kind (record { named = named.now; arguments = arguments })) result }
         ensures few { IfOk result (λ bound. length bound.key ≤ max_key_scalars) }
     {
         let arguments = arguments.into_vec();

@@ -1,5 +1,5 @@
 //! CREATE.
-ghost use Rattle.std.specs.Prelude.{◌≡◌, is_ok, IfOk};
+ghost use Rattle.std.specs.Prelude.{◌≡◌, IfOk, IsOk};
 ghost use Rattle.oa_decision.specs.Create.{class_found, creation, fitting};
 ghost use Rattle.oa_decision.specs.Decisions.{ChangesNoLocks, Decides};
 ghost use Rattle.oa_decision.specs.Limits.{allowed};
@@ -18,7 +18,7 @@ use uuid::Uuid;
 impl Decider<'_> {
     /// Decides a CREATE: a new object with the next number. Memory is wanted only where it can be made.
     pub(super) fn creation(&self, class: Uuid) -> Result<Decision, Undecided>
-        ensures decided { Decides (creation self.now class) (is_ok (creation self.now class)) result }
+        ensures decided { Decides (creation self.now class) (IsOk (creation self.now class)) result }
         ensures unlocked { IfOk result ChangesNoLocks }
     {
         self.find_class(&class)?;

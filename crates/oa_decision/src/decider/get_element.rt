@@ -1,9 +1,11 @@
 //! GETELEM.
-ghost use Rattle.std.specs.Prelude.{◌≡◌, true, IfOk};
+ghost use Rattle.std.specs.Prelude.{◌≡◌, ◌⊎◌, IfOk, IsOk};
 ghost use Rattle.std.specs.Result.{result_map_both};
 ghost use Rattle.oa_decision.specs.ArrayCells.{element_in};
+ghost use Rattle.oa_decision.specs.Cells.{FindingTakesMemory};
 ghost use Rattle.oa_decision.specs.Decisions.{ChangesNoLocks, Decides};
 ghost use Rattle.oa_decision.specs.GetElement.{element_got, reading};
+ghost use Rattle.oa_typelib.specs.declared.access.Access.TheVariants.{Get};
 
 use super::Decider;
 use super::array_cell::{element_of, no_element};
@@ -20,7 +22,7 @@ use oa_variant::Scalar;
 impl Decider<'_> {
     /// Decides a GETELEM: an element of an array is written from where it stands.
     pub(super) fn element_got(&self, call: Call, indices: Indices) -> Result<Decision, Undecided>
-        ensures decided { Decides (element_got self.now call indices) true result }
+        ensures decided { Decides (element_got self.now call indices) (FindingTakesMemory self.now call Get ⊎ IsOk (element_got self.now call indices)) result }
         ensures unlocked { IfOk result ChangesNoLocks }
     {
         let cell = self.find_cell(call, Access::Get)?;
@@ -29,7 +31,7 @@ impl Decider<'_> {
 
     /// Tells the element of a cell at an index list.
     fn element_told(&self, cell: &BoundCell, index: &[i32]) -> Result<Decision, Undecided>
-        ensures decided { Decides (reading self.now index.now cell.now) true result }
+        ensures decided { Decides (reading self.now index.now cell.now) (IsOk (reading self.now index.now cell.now)) result }
         ensures unlocked { IfOk result ChangesNoLocks }
     {
         let element = self.element_in(cell, index)?;

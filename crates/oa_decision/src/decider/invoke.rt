@@ -1,8 +1,10 @@
 //! INVOKE.
-ghost use Rattle.std.specs.Prelude.{◌≡◌, true, IfOk, Ok, Some};
+ghost use Rattle.std.specs.Prelude.{◌≡◌, ◌⊎◌, ⊤, IfOk, IsOk, Ok, Some};
+ghost use Rattle.oa_decision.specs.Cells.{FindingTakesMemory};
 ghost use Rattle.oa_decision.specs.Decisions.{ChangesNoLocks, Decides};
 ghost use Rattle.oa_decision.specs.Invoke.{cell_decided, invocation, reply_value};
 ghost use Rattle.oa_table.specs.Tables.{object_at};
+ghost use Rattle.oa_typelib.specs.declared.access.Access.TheVariants.{Flags};
 ghost use Rattle.oa_variant.specs.Variants.{HasZero};
 
 use super::Decider;
@@ -19,7 +21,7 @@ use std::alloc::AllocError;
 impl Decider<'_> {
     /// Decides an INVOKE: a get tells the value of its cell, a put sets it.
     pub(super) fn invocation(&self, call: Call) -> Result<Decision, Undecided>
-        ensures decided { Decides (invocation self.now call) true result }
+        ensures decided { Decides (invocation self.now call) (FindingTakesMemory self.now call (Flags call.head.flags) ⊎ IsOk (invocation self.now call)) result }
         ensures unlocked { IfOk result ChangesNoLocks }
     {
         let access = Access::Flags(call.head.flags);
@@ -33,7 +35,7 @@ impl Decider<'_> {
     fn cell_decided(&self, object: &LiveObject, cell: BoundCell) -> Result<Decision, Undecided>
         requires object { object_at cell.name.object self.now.table ≡ Some object.now }
         requires zero { HasZero cell.declared }
-        ensures decided { Decides (Ok (cell_decided self.now cell)) true result }
+        ensures decided { Decides (Ok (cell_decided self.now cell)) ⊤ result }
         ensures unlocked { IfOk result ChangesNoLocks }
     {
         let BoundCell {

@@ -1,5 +1,5 @@
 //! LIST.
-ghost use Rattle.std.specs.Prelude.{◌≡◌, ◌+◌, ◌*◌, ◌++◌, length, true, IfOk, OnOk};
+ghost use Rattle.std.specs.Prelude.{◌≡◌, ◌+◌, ◌*◌, ◌++◌, length, IfOk, IsOk, OnOk};
 ghost use Rattle.std.specs.List.{flat_map};
 ghost use Rattle.oa_decision.specs.Decisions.{ChangesNoLocks, Decides};
 ghost use Rattle.oa_decision.specs.Listing.{entry_of, listing, objects_field};
@@ -18,7 +18,7 @@ const MAX_LISTED: usize = (MAX_FIELDS_BYTES - 8) / 24;
 impl Decider<'_> {
     /// Decides a LIST: the live objects by rising number, each with its coclass.
     pub(super) fn listing(&self) -> Result<Decision, Undecided>
-        ensures decided { Decides (listing self.now) true result }
+        ensures decided { Decides (listing self.now) (IsOk (listing self.now)) result }
         ensures unlocked { IfOk result ChangesNoLocks }
     {
         let fields = self.objects_field()?;

@@ -1,7 +1,9 @@
 //! LOCK.
-ghost use Rattle.std.specs.Prelude.{true, IfOk};
+ghost use Rattle.std.specs.Prelude.{◌⊎◌, IfOk, IsOk};
+ghost use Rattle.oa_decision.specs.Cells.{FindingTakesMemory};
 ghost use Rattle.oa_decision.specs.Decisions.{ChangesNoLocks, Decides};
 ghost use Rattle.oa_decision.specs.Lock.{locking};
+ghost use Rattle.oa_typelib.specs.declared.access.Access.TheVariants.{Get};
 
 use super::Decider;
 use crate::decision::{Decision, LockChange, Undecided};
@@ -12,7 +14,7 @@ use oa_typelib::Access;
 impl Decider<'_> {
     /// Decides a LOCK, which adds a lock of the array in a cell. The reply tells how many there are then.
     pub(super) fn locking(&self, call: Call) -> Result<Decision, Undecided>
-        ensures decided { Decides (locking self.now call) true result }
+        ensures decided { Decides (locking self.now call) (FindingTakesMemory self.now call Get ⊎ IsOk (locking self.now call)) result }
         ensures unlocked { IfOk result ChangesNoLocks }
     {
         let cell = self.find_cell(call, Access::Get)?;

@@ -1,5 +1,5 @@
 //! GETIDS.
-ghost use Rattle.std.specs.Prelude.{◌≤◌, length, true, IfOk, Ok};
+ghost use Rattle.std.specs.Prelude.{◌≤◌, length, ⊤, IfOk, IsOk, Ok};
 ghost use Rattle.oa_model.specs.Limits.{max_names};
 ghost use Rattle.oa_decision.specs.Decisions.{ChangesNoLocks, Decides};
 ghost use Rattle.oa_decision.specs.LookUps.{ids_answer, look_up};
@@ -15,7 +15,7 @@ impl Decider<'_> {
     /// Decides a look-up of names.
     #[tactic(auto, unfolding(crate::specs::LookUps::ids_found))]
     pub(super) fn look_up(&self, call: GetIds) -> Result<Decision, Undecided>
-        ensures decided { Decides (look_up self.now call) true result }
+        ensures decided { Decides (look_up self.now call) (IsOk (look_up self.now call)) result }
         ensures unlocked { IfOk result ChangesNoLocks }
     {
         let interface = self.find_interface(call.object, &call.interface, &call.riid)?;
@@ -26,7 +26,7 @@ impl Decider<'_> {
     /// The answer to names; their DISPIDs are told also where not all are known.
     fn ids_answer(&self, found: DispIds) -> Result<Decision, Undecided>
         requires { length found.ids ≤ max_names }
-        ensures decided { Decides (Ok (ids_answer found)) true result }
+        ensures decided { Decides (Ok (ids_answer found)) ⊤ result }
         ensures unlocked { IfOk result ChangesNoLocks }
     {
         let fields = Fields::new(ids_field(self.alloc, found.ids.as_slice())?);

@@ -1,8 +1,10 @@
 //! PUTELEM.
-ghost use Rattle.std.specs.Prelude.{◌≡◌, true, IfOk};
+ghost use Rattle.std.specs.Prelude.{◌≡◌, IfOk};
 ghost use Rattle.oa_decision.specs.ArrayCells.{as_element, element_type_in};
+ghost use Rattle.oa_decision.specs.Cells.{FindingTakesMemory};
 ghost use Rattle.oa_decision.specs.Decisions.{ChangesNoLocks, Decides};
 ghost use Rattle.oa_decision.specs.PutElement.{element_for, element_put};
+ghost use Rattle.oa_typelib.specs.declared.access.Access.TheVariants.{Put};
 
 use super::Decider;
 use super::array_cell::{element_type_of, no_element};
@@ -26,7 +28,7 @@ impl Decider<'_> {
         indices: Indices,
         value: Variant,
     ) -> Result<Decision, Undecided>
-        ensures decided { Decides (element_put self.now call indices value) true result }
+        ensures decided { Decides (element_put self.now call indices value) (FindingTakesMemory self.now call Put) result }
         ensures unlocked { IfOk result ChangesNoLocks }
     {
         let cell = self.find_cell(call, Access::Put)?;

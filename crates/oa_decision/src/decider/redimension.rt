@@ -1,9 +1,10 @@
 //! REDIM.
-ghost use Rattle.std.specs.Prelude.{◌≡◌, true, IfOk};
-ghost use Rattle.oa_decision.specs.Cells.{FindsDue};
+ghost use Rattle.std.specs.Prelude.{◌≡◌, ◌⊎◌, ⊤, IfOk};
+ghost use Rattle.oa_decision.specs.Cells.{FindingTakesMemory, FindsDue};
 ghost use Rattle.oa_decision.specs.Decisions.{ChangesNoLocks, Decides};
-ghost use Rattle.oa_decision.specs.Redimension.{redimension, zero_with};
+ghost use Rattle.oa_decision.specs.Redimension.{IsOfNeverPut, redimension, zero_with};
 ghost use Rattle.oa_table.specs.Elements.{locks_of};
+ghost use Rattle.oa_typelib.specs.declared.access.Access.TheVariants.{Put};
 ghost use Rattle.oa_variant.specs.Variants.{HasZero};
 
 use super::Decider;
@@ -20,7 +21,7 @@ use oa_variant::Variant;
 impl Decider<'_> {
     /// Decides a REDIM: the array in a cell gets another first bound. A cell that was never put is put.
     pub(super) fn redimension(&self, call: Call, bound: Bound) -> Result<Decision, Undecided>
-        ensures decided { Decides (redimension self.now call bound) true result }
+        ensures decided { Decides (redimension self.now call bound) (FindingTakesMemory self.now call Put ⊎ IsOfNeverPut self.now call) result }
         ensures unlocked { IfOk result ChangesNoLocks }
     {
         let cell = self.find_cell(call, Access::Put)?;
@@ -39,7 +40,7 @@ impl Decider<'_> {
     /// The zero of a declared type with another first bound.
     fn zero_with(&self, bound: Bound, declared: ValueType) -> Result<Variant, Undecided>
         requires { HasZero declared }
-        ensures value { FindsDue (zero_with bound declared) result }
+        ensures value { FindsDue (zero_with bound declared) ⊤ result }
         ensures unlocked { IfOk result (λ value. locks_of value ≡ 0) }
     {
         let mut array = match Variant::zero(self.alloc, declared)? {

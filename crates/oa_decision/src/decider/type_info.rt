@@ -1,5 +1,5 @@
 //! TYPEINFO.
-ghost use Rattle.std.specs.Prelude.{is_ok, IfOk};
+ghost use Rattle.std.specs.Prelude.{IfOk, IsOk};
 ghost use Rattle.oa_decision.specs.Decisions.{ChangesNoLocks, Decides};
 ghost use Rattle.oa_decision.specs.TypeInfo.{information};
 
@@ -15,7 +15,7 @@ impl Decider<'_> {
     /// Decides a TYPEINFO: the description of an interface or a coclass of the library. Memory is wanted only where there is one.
     #[tactic(auto, unfolding(crate::specs::TypeInfo::description_of))]
     pub(super) fn information(&self, index: u32) -> Result<Decision, Undecided>
-        ensures decided { Decides (information self.now index) (is_ok (information self.now index)) result }
+        ensures decided { Decides (information self.now index) (IsOk (information self.now index)) result }
         ensures unlocked { IfOk result ChangesNoLocks }
     {
         match self.library.describe(index) {

@@ -1,7 +1,9 @@
 //! UNLOCK.
-ghost use Rattle.std.specs.Prelude.{true, IfOk};
+ghost use Rattle.std.specs.Prelude.{◌⊎◌, IfOk, IsOk};
+ghost use Rattle.oa_decision.specs.Cells.{FindingTakesMemory};
 ghost use Rattle.oa_decision.specs.Decisions.{ChangesNoLocks, Decides};
 ghost use Rattle.oa_decision.specs.Unlock.{unlocking};
+ghost use Rattle.oa_typelib.specs.declared.access.Access.TheVariants.{Get};
 
 use super::Decider;
 use crate::decision::{Decision, LockChange, Undecided};
@@ -12,7 +14,7 @@ use oa_typelib::Access;
 impl Decider<'_> {
     /// Decides an UNLOCK, which takes a lock of the array in a cell away. The reply tells how many there are then.
     pub(super) fn unlocking(&self, call: Call) -> Result<Decision, Undecided>
-        ensures decided { Decides (unlocking self.now call) true result }
+        ensures decided { Decides (unlocking self.now call) (FindingTakesMemory self.now call Get ⊎ IsOk (unlocking self.now call)) result }
         ensures unlocked { IfOk result ChangesNoLocks }
     {
         let cell = self.find_cell(call, Access::Get)?;

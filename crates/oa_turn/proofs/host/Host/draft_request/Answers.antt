@@ -1,9 +1,8 @@
-use Rattle.std.proofs.Common.{Ok, Err, refl, rules, sym, true≢false}
+use Rattle.std.proofs.Common.{Ok, Err, inl, refl, rules, sym, true≢false}
 use Rattle.oa_decision.specs.declared.decision.Decision.TheVariants as decisions
 use Rattle.oa_turn.proofs.Eventless.{eventless, relocked_eventless}
 use Rattle.oa_turn.proofs.Refused.{lacks, refused_turn, relocks, told, told_why}
 use Rattle.oa_turn.proofs.Releases.{changes, is_read, takes_none}
-use Rattle.oa_turn.proofs.Wants.{wanted}
 use Rattle.oa_turn.proofs.host.Host.draft_request.Goals as goal
 
 pub returns-in-Err-clause-drafts : goal.returns-in-Err-clause-drafts
@@ -36,7 +35,7 @@ returns-in-Err-Refused-clause-drafts c = (
 
 pub returns-in-Err-OutOfMemory-clause-drafts : goal.returns-in-Err-OutOfMemory-clause-drafts
 returns-in-Err-OutOfMemory-clause-drafts c = (
-  lacks c.args.self.now c.args.body.now c.in-Ok.request c.in-Ok.ensures c.bare.result (wanted c.args.self.now c.in-Ok.request (rw c.in-Err-OutOfMemory.field-0-is at c.in-Err-OutOfMemory.ensures.decided))
+  lacks c.args.self.now c.args.body.now c.in-Ok.request c.in-Ok.ensures c.bare.result (inl (rw c.in-Err-OutOfMemory.field-0-is at c.in-Err-OutOfMemory.ensures.decided))
       (rw (c.bare.ensures, c.tag_of-tag.ensures) refl),
   record { table = refl; library = refl },
 )

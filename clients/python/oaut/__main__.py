@@ -22,7 +22,9 @@ def parser() -> argparse.ArgumentParser:
     words = made.add_subparsers(dest="command", required=True, metavar="COMMAND")
 
     talk = words.add_parser("talk", help="a prompt over a session of `oaut play LIB`")
-    talk.add_argument("library", metavar="LIB")
+    talk.add_argument(
+        "library", metavar="LIB", nargs="?", help="the library; a store's own where none is named"
+    )
     talk.add_argument(
         "--store", metavar="STORE", help="a store that keeps the objects, by `oaut serve`"
     )
@@ -72,7 +74,10 @@ def parser() -> argparse.ArgumentParser:
 
 def main(words: typing.Optional[typing.Sequence[str]] = None) -> int:
     """`python3 -m oaut`. Gives the exit status."""
-    given = parser().parse_args(words)
+    made = parser()
+    given = made.parse_args(words)
+    if given.command == "talk" and given.library is None and given.store is None:
+        made.error("talk takes LIB, or --store STORE")
     try:
         if given.command == "talk":
             from . import talk
@@ -103,12 +108,24 @@ def main(words: typing.Optional[typing.Sequence[str]] = None) -> int:
         _no_output()
         return 141
     except (Fault, OSError, ValueError) as error:
-        print(f"python3 -m oaut: {error}", file=sys.stderr)
+        print(f"python3 -m oaut: {_told(error)}", file=sys.stderr)
         try:
             sys.stdout.flush()
         except OSError:
             _no_output()
         return 1
+
+
+def _told(error: Exception) -> str:
+    """What is wrong, of a file by its name and in the words of the system."""
+    if isinstance(error, Fault) or not isinstance(error, OSError) or not error.strerror:
+        return str(error)
+    name = error.filename
+    return (
+        f"{os.fsdecode(name)}: {error.strerror}"
+        if isinstance(name, (str, bytes))
+        else error.strerror
+    )
 
 
 def _no_output() -> None:

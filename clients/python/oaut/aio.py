@@ -21,6 +21,7 @@ import types
 import typing
 
 from . import objects, opening, programs
+from .connection import WAIT_FOR_LAST
 from .faults import Fault, LibraryDiffers, Malformed, Refused, Stopped, TimedOut
 from .framing import FRAMING, FRAMINGS
 from .library import Library, Which
@@ -193,8 +194,8 @@ class Batch(Collected):
         if self._room is not None:
             self._room.add(request, self._server.library)
         later = None if read is read_nothing else Later()
-        self.collect(request, read, arguments, act, later)
-        if self._room is None and len(self.requests) >= self._size:
+        self.asked.append((request, read, arguments, later, act))
+        if self._room is None and len(self.asked) >= self._size:
             await self.send()
         return later
 
@@ -460,6 +461,13 @@ class Server:
         status than 0."""
         self._flush()
         open_still = self._end is None
+        if self._child is None and open_still and self._due:
+            # (who answers END would else find nobody)
+            tag, future = self._due.pop()
+            future = future or asyncio.get_running_loop().create_future()
+            future.add_done_callback(_looked_at)
+            self._due.append((tag, future))
+            await asyncio.wait({future}, timeout=WAIT_FOR_LAST)
         with contextlib.suppress(OSError):
             if self._writer.can_write_eof():
                 self._writer.write_eof()
@@ -638,6 +646,7 @@ async def _start(
     try:
         await _described(server)
     except Stopped as end:
+        end.may_stand = False
         raise programs.of_library(end, library) from None
     return server
 

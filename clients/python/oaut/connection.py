@@ -9,6 +9,7 @@ import os
 import select
 import socket
 import subprocess
+import time
 import typing
 
 from .faults import Malformed
@@ -17,8 +18,14 @@ from .framing import FRAMINGS
 # what a pipe takes at once where nothing waits in it, whoever reads it
 AT_ONCE = 4_096
 _READ = 65_536
+# a page of a pipe, of which a record that waits there takes one; and more than such a record has
+_PAGE, _RECORD = 4_096, 64
+# so many reads are joined anew after each; a longer reply is joined once
+_FEW = 4
 _GET_PIPE_SIZE = 1_032
 _WAIT_AT_END = 10.0
+# the seconds that END's reply is waited for before a socket is closed
+WAIT_FOR_LAST = 1.0
 
 Stream = typing.Union[typing.BinaryIO, io.RawIOBase]
 # the bytes of some records, how many they are, what was written of them, and for a thread its leave
@@ -39,10 +46,10 @@ class Connection:
 
     An interrupt (KeyboardInterrupt, or what else a handler of signals raises) may come between
     any two steps of Python, and must not leave half a record or a reply that nobody counts. So
-    what has to happen together is one step of C: `extend` of a `map` makes a call of the system
-    and notes its result, and all that is known otherwise is one tuple, replaced as a whole: the
-    bytes that were read, how far they were used, how many replies are due, what was read since,
-    and what is being written.
+    what has to happen together is one step of C: a `map` that is added to a list makes a call of
+    the system and notes its result, and all that is known otherwise is one tuple, replaced as a
+    whole: the bytes that were read, how far they were used, how many replies are due, what was read
+    since, and what is being written.
     """
 
     def __init__(
@@ -63,6 +70,7 @@ class Connection:
         # who began the child: a process that was forked from it ends nothing
         self.process = os.getpid()
         self.closed = False
+        self._split = self.framing.split
         self._state: _State = (b"", 0, 0, [], None)
         # held by the thread that writes
         self._writing = _thread.allocate_lock()
@@ -71,7 +79,8 @@ class Connection:
         self._exact = False
         self._take: typing.Callable[[int], bytes]
         self._give: typing.Callable[[bytes], int]
-        self._room = AT_ONCE
+        # what is taken at once, and what beside the one record that may be left there
+        self._room, self._rest = AT_ONCE, AT_ONCE
         if isinstance(reader, socket.socket):
             if timeout is not None:
                 reader.settimeout(timeout)
@@ -84,6 +93,7 @@ class Connection:
             self._give = typing.cast(typing.Callable[[bytes], int], writer.write)
             if isinstance(writer, io.FileIO):
                 self._room = _room(writer.fileno())
+                self._rest = self._room - (_PAGE if self._room > _PAGE else _RECORD)
             else:
                 self._flush = writer.flush
 
@@ -104,20 +114,49 @@ class Connection:
         sending = self._state[4]
         return self._state[2] + (0 if sending is None else sending[1])
 
-    def exchange(self, bodies: typing.Sequence[bytes], behind: int = 0) -> typing.List[bytes]:
-        """Sends records, and gives the bodies of their replies but for those of the last `behind`
-        ones, which are read with the next exchange. What was due before is read first, and
-        dropped. Raises Ended, Late or Malformed."""
-        self.drop()
-        data = self.framing.pack(bodies)
-        if len(data) <= self._room:
-            counts: typing.List[int] = []
-            self._state = (*self._state[:4], (data, len(bodies), counts, None))
+    def exchange(self, data: bytes, count: int, behind: int = 0) -> typing.List[bytes]:
+        """Sends the bytes of so many records, and gives the bodies of their replies but for those
+        of the last `behind` ones, which are read with the next exchange. What was due before is
+        dropped: one reply is read with these, more of them before anything is sent. Raises Ended,
+        Late or Malformed."""
+        held, at, due, chunks, sending = self._state
+        if sending is not None or due > 1 or len(data) > self._rest:
+            self.drop()
+            held, at, due, chunks, _ = self._state
+        if len(data) > (self._rest if due else self._room):
+            self._send_beside(data, count)
+            return self._replies(count - behind)
+        counts: typing.List[int] = []
+        # from here on an interrupt leaves what the next exchange goes on with
+        self._state = (held, at, due, chunks, (data, count, counts, None))
+        try:
+            counts += map(self._give, (data,))
+        except (TimeoutError, socket.timeout):
+            raise Late from None
+        except (OSError, ValueError):
+            raise Ended from None
+        if counts[0] != len(data) or self._flush is not None:
             self._push(data, counts)
-            self._settle()
-        else:
-            self._send_beside(data, len(bodies))
-        return self._replies(len(bodies) - behind)
+        wanted, old = count - behind, due
+        if due and at < len(held):
+            # (while the other side is at work)
+            whole, at = self._split(held, at, due)
+            due -= len(whole)
+        end = due + wanted
+        while not self._exact:
+            self._read(chunks, _READ)
+            some = chunks[0]
+            if at < len(held) or len(chunks) > 1:
+                some = b"".join((held[at:], *chunks))
+            whole, place = self._split(some, 0, end)
+            if len(whole) == end:
+                self._state = (some, place, behind, [], None)
+                return whole[due:] if due else whole
+            if not chunks[-1] or len(chunks) > _FEW:
+                break
+        # what is long, or has ended, is read step by step
+        self._settle()
+        return self._replies(old + wanted)[old:]
 
     def drop(self) -> None:
         """Reads what is due, which nobody waits for."""
@@ -130,10 +169,9 @@ class Connection:
     def _replies(self, count: int) -> typing.List[bytes]:
         """The bodies of the next replies."""
         found: typing.List[bytes] = []
-        split = self.framing.split
         while True:
             data, at, due, chunks, sending = self._state
-            whole, at = split(data, at, count - len(found))
+            whole, at = self._split(data, at, count - len(found))
             found += whole
             self._state = (data, at, due - len(whole), chunks, sending)
             if len(found) == count:
@@ -147,20 +185,24 @@ class Connection:
         more = sum(map(len, chunks))
         while more < missing:
             left = missing - more
-            if self._wait is not None and not _ready(self._wait, self.timeout):
-                raise Late
-            try:
-                chunks.extend(map(self._take, (left if self._exact else max(left, _READ),)))
-            except (TimeoutError, socket.timeout):
-                raise Late from None
-            except (OSError, ValueError):
-                chunks.append(b"")
+            self._read(chunks, left if self._exact else max(left, _READ))
             if not chunks[-1]:
                 if more or at < len(data):
                     raise Malformed("the stream ends inside a reply")
                 raise Ended
             more += len(chunks[-1])
         self._state = (data[at:] + b"".join(chunks), 0, due, [], sending)
+
+    def _read(self, chunks: typing.List[bytes], most: int) -> None:
+        """Adds what there is, as soon as there is something: nothing at the end."""
+        if self._wait is not None and not _ready(self._wait, self.timeout):
+            raise Late
+        try:
+            chunks += map(self._take, (most,))
+        except (TimeoutError, socket.timeout):
+            raise Late from None
+        except (OSError, ValueError):
+            chunks.append(b"")
 
     def at_end(self) -> bool:
         """Whether nothing follows."""
@@ -263,6 +305,8 @@ class Connection:
             return None
         self.closed = True
         self._revoke()
+        if not late:
+            self._read_last()
         if late and self.child is not None:
             self.child.kill()
         if late and isinstance(self.reader, socket.socket):
@@ -283,6 +327,30 @@ class Connection:
         said = self.errors.read()
         self.errors.close()
         return status, said
+
+    def _read_last(self) -> None:
+        """Reads the one reply that is due over a socket, for a while: who writes it would else find
+        nobody, and the next one to use that socket would find it."""
+        held, at, due, chunks, sending = self._state
+        if due != 1 or sending is not None or not isinstance(self.reader, socket.socket):
+            return
+        some, until = b"".join((held[at:], *chunks)), time.monotonic() + WAIT_FOR_LAST
+        with contextlib.suppress(OSError, ValueError):
+            while not self._split(some, 0, 1)[0]:
+                if not _ready(self.reader.fileno(), max(0.0, until - time.monotonic())):
+                    break
+                more = self.reader.recv(_READ)
+                if not more:
+                    break
+                some += more
+
+    def read_out(self, until: float) -> None:
+        """Reads what a child writes until it ends, or that time comes: it would else find nobody,
+        and end by a fault."""
+        with contextlib.suppress(OSError, ValueError):
+            while _ready(self.reader.fileno(), max(0.0, until - time.monotonic())):
+                if not self._take(_READ):
+                    break
 
     def _revoke(self) -> None:
         """Keeps a thread from writing that was interrupted before it began."""
@@ -315,13 +383,16 @@ def let_go(connection: Connection) -> None:
         return
     connection.closed = True
     connection.end_writing()
+    until = time.monotonic() + _WAIT_AT_END
     for it in (connection.writer, connection.reader):
+        if it is connection.reader and connection.child is not None:
+            connection.read_out(until)
         if not isinstance(it, socket.socket) or connection.owned:
             with contextlib.suppress(OSError, ValueError):
                 it.close()
     if connection.child is not None:
         try:
-            connection.child.wait(_WAIT_AT_END)
+            connection.child.wait(max(0.1, until - time.monotonic()))
         except subprocess.TimeoutExpired:
             connection.child.kill()
             connection.child.wait()

@@ -8,6 +8,12 @@ import typing
 from .faults import Malformed
 
 Bodies = typing.List[bytes]
+# a length, or a tag; and both
+_NUMBER = struct.Struct("<I")
+_HEAD = struct.Struct("<II")
+_number_at, _head = _NUMBER.unpack_from, _HEAD.pack
+# so many bodies are more quickly told apart together, where they have one length
+_MANY = 4
 
 
 class Framing(typing.Protocol):
@@ -18,6 +24,12 @@ class Framing(typing.Protocol):
     @staticmethod
     def pack(bodies: typing.Iterable[bytes]) -> bytes:
         """The bytes of some bodies."""
+
+    @staticmethod
+    def tagged(
+        tags: typing.Sequence[int], requests: typing.Sequence[bytes], behind: bytes
+    ) -> bytes:
+        """The bytes of some requests, each behind its tag, and then these."""
 
     @staticmethod
     def split(data: bytes, at: int, count: int) -> typing.Tuple[Bodies, int]:
@@ -41,6 +53,13 @@ class Lines:
     def pack(bodies: typing.Iterable[bytes]) -> bytes:
         """The lines of some bodies."""
         return ("\n".join([body.hex() for body in bodies]) + "\n").encode()
+
+    @staticmethod
+    def tagged(
+        tags: typing.Sequence[int], requests: typing.Sequence[bytes], behind: bytes
+    ) -> bytes:
+        """The lines of some requests, each behind its tag, and then these bytes."""
+        return Lines.pack([_NUMBER.pack(tag) + it for tag, it in zip(tags, requests)]) + behind
 
     @staticmethod
     def split(data: bytes, at: int, count: int) -> typing.Tuple[Bodies, int]:
@@ -71,9 +90,6 @@ class Lines:
         return Lines.split(line.rstrip(b"\n") + b"\n", 0, 1)[0][0] if line else None
 
 
-_LENGTH = struct.Struct("<I")
-
-
 class Raw:
     """Each body behind its length, a u32."""
 
@@ -82,19 +98,44 @@ class Raw:
     @staticmethod
     def pack(bodies: typing.Iterable[bytes]) -> bytes:
         """The records of some bodies."""
-        return b"".join([part for body in bodies for part in (_LENGTH.pack(len(body)), body)])
+        return b"".join([part for body in bodies for part in (_NUMBER.pack(len(body)), body)])
+
+    @staticmethod
+    def tagged(
+        tags: typing.Sequence[int], requests: typing.Sequence[bytes], behind: bytes
+    ) -> bytes:
+        """The records of some requests, each behind its tag, and then these bytes."""
+        if len(requests) == 1:
+            (request,) = requests
+            return _head(len(request) + 4, tags[0]) + request + behind
+        parts = [behind] * (2 * len(requests) + 1)
+        parts[:-1:2] = [_head(len(it) + 4, tag) for tag, it in zip(tags, requests)]
+        parts[1::2] = requests
+        return b"".join(parts)
 
     @staticmethod
     def split(data: bytes, at: int, count: int) -> typing.Tuple[Bodies, int]:
         """At most `count` whole bodies from the place `at` on, and the place behind them."""
         bodies: Bodies = []
-        last = len(data) - 4
-        while at <= last and len(bodies) < count:
-            end = at + 4 + _LENGTH.unpack_from(data, at)[0]
-            if end > last + 4:
+        end, before = len(data), -1
+        while len(bodies) < count and at + 4 <= end:
+            (length,) = _number_at(data, at)
+            if length == before:
+                size = 4 + length
+                alike = min(count - len(bodies), (end - at) // size)
+                if alike >= _MANY:
+                    rest = memoryview(data)[at : at + alike * size]
+                    for other, body in struct.iter_unpack(f"<I{length}s", rest):
+                        if other != length:
+                            break
+                        bodies.append(body)
+                        at += size
+                    continue
+            after = at + 4 + length
+            if after > end:
                 break
-            bodies.append(data[at + 4 : end])
-            at = end
+            bodies.append(data[at + 4 : after])
+            at, before = after, length
         return bodies, at
 
     @staticmethod
@@ -103,7 +144,7 @@ class Raw:
         there = len(data) - at
         if there < 4:
             return 4 - there
-        return max(1, 4 + int(_LENGTH.unpack_from(data, at)[0]) - there)
+        return max(1, 4 + int(_NUMBER.unpack_from(data, at)[0]) - there)
 
     @staticmethod
     def read(reader: typing.BinaryIO) -> typing.Optional[bytes]:

@@ -48,6 +48,8 @@ _TYPE_WORDS = {
 _SHOWN = 200
 
 Which = typing.Union[str, uuid.UUID]
+# what packs a request, the bytes of it between an object's number and the value, and the range
+QuickPut = typing.Tuple[typing.Callable[..., bytes], bytes, int, int]
 
 
 def type_word(vt: int) -> str:
@@ -159,8 +161,11 @@ class Member:
         "is_method",
         "can_get",
         "can_put",
+        "is_plain",
         "read",
         "told",
+        "gets",
+        "puts",
     )
 
     def __init__(self, forms: typing.Sequence[Form], interface: Interface) -> None:
@@ -175,8 +180,13 @@ class Member:
         )
         self.vt = put.parameters[-1].vt if put is first else first.vt
         self.parameters = first.parameters[:-1] if first is put else first.parameters
+        # whether its name alone asks for its value
+        self.is_plain = not (self.is_method or self.parameters or self.vt & ARRAY)
         of_text = self.vt in (VT_BSTR, ARRAY + VT_BSTR)
         self.read: typing.Callable[[bytes], typing.Any] = read_text_value if of_text else read_value
+        # of the wire form of an interface's GUID what a get, or a put of a whole number, is made by
+        self.gets: typing.Dict[bytes, bytes] = {}
+        self.puts: typing.Dict[bytes, QuickPut] = {}
         names = [it.name for it in self.parameters]
         # what stands where in rgvarg, by whether there is a new value, and how many are positional
         self.told = {
@@ -238,6 +248,7 @@ class Library:
         self.interfaces = [it for it in descriptions if isinstance(it, Interface)]
         self.coclasses = [it for it in descriptions if isinstance(it, Coclass)]
         self._members: typing.Dict[str, typing.Dict[str, Member]] = {}
+        self._spelled: typing.Dict[str, typing.Dict[str, Member]] = {}
         parameters = [
             it
             for interface in self.interfaces
@@ -304,6 +315,16 @@ class Library:
                 name: Member(them, interface) for name, them in forms.items()
             }
         return self._members[interface.name]
+
+    def spelled(self, interface: Interface, but: typing.Container[str]) -> typing.Dict[str, Member]:
+        """The members by their names as the library spells them, but for these names and those that
+        begin with two low lines."""
+        if interface.name not in self._spelled:
+            members = self.members(interface).values()
+            self._spelled[interface.name] = {
+                it.name: it for it in members if it.name not in but and it.name[:2] != "__"
+            }
+        return self._spelled[interface.name]
 
     def words_of(self, guid: uuid.UUID, dispid: typing.Optional[int]) -> str:
         """A member of an interface, or a whole interface or coclass, in words: `Item.Cell of DItem,

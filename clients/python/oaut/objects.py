@@ -5,7 +5,17 @@ import struct
 import typing
 
 from .faults import BadParamCount, MediumFull, MemberNotFound, ParamNotOptional, Unexpected
-from .library import HAS_DEFAULT, OPTIONAL, Coclass, Library, Member, Which, close_to, fold
+from .library import (
+    HAS_DEFAULT,
+    OPTIONAL,
+    Coclass,
+    Library,
+    Member,
+    QuickPut,
+    Which,
+    close_to,
+    fold,
+)
 from .protocol import FULL, Asker, Later
 from .records import (
     CALL,
@@ -43,13 +53,23 @@ class Object:
     `item.Count`, `item.Count = 7`, `item.Cell[5, "k"]`, `item.Grid[0, 7]`. A member whose name is
     one of this class's own words is reached by another case of it."""
 
-    __slots__ = ("_server", "_number", "_coclass", "_interface", "_library", "_members", "_guid")
+    __slots__ = (
+        "_server",
+        "_number",
+        "_coclass",
+        "_interface",
+        "_library",
+        "_members",
+        "_spelled",
+        "_guid",
+    )
     _server: Asker
     _number: int
     _coclass: Coclass
     _guid: bytes
     _library: Library
     _members: typing.Dict[str, Member]
+    _spelled: typing.Dict[str, Member]
     _interface: typing.Optional[Which]
 
     def __init__(
@@ -70,6 +90,7 @@ class Object:
         found = library.interface(self._coclass, which)
         own(self, "_interface", None if which is None else found.guid)
         own(self, "_members", library.members(found))
+        own(self, "_spelled", library.spelled(found, OWN_WORDS))
         own(self, "_guid", DEFAULT if which is None else found.guid.bytes_le)
         own(self, "_library", library)
 
@@ -107,22 +128,30 @@ class Object:
         return ArrayProperty(self, member_of(self, name), positional, named)
 
     def __getattr__(self, name: str) -> typing.Any:
-        if name in OWN_WORDS or name.startswith("__"):
+        if name in OWN_WORDS:
             raise AttributeError(name)
-        member = member_of(self, name)
+        # (what most uses need is looked up here, a call less)
+        member = self._spelled.get(name) if self._library is self._server.described else None
+        if member is None:
+            if name.startswith("__"):
+                raise AttributeError(name)
+            member = member_of(self, name)
+        if member.is_plain:
+            return get_of(self, member)
         if member.is_method:
             return Method(self, member)
         if member.parameters:
             return Property(self, member)
-        if member.vt & ARRAY:
-            return ArrayProperty(self, member, (), {})
-        return get_of(self, member)
+        return ArrayProperty(self, member, (), {})
 
     def __setattr__(self, name: str, value: typing.Any) -> None:
-        if name in OWN_WORDS:
-            told = "is no member; where the library has one of this name, write it in another case"
-            raise AttributeError(f"{name} {told}")
-        put_of(self, member_of(self, name), value)
+        member = self._spelled.get(name) if self._library is self._server.described else None
+        if member is None:
+            if name in OWN_WORDS:
+                told = "is no member; where the library has one of this name, write it in another"
+                raise AttributeError(f"{name} {told} case")
+            member = member_of(self, name)
+        put_of(self, member, value)
 
     def __dir__(self) -> typing.List[str]:
         return sorted({*object.__dir__(self), *(it.name for it in self._members.values())})
@@ -162,19 +191,26 @@ _NEW = ("the new value",)
 _NEW_NAMED = struct.pack("<i4x", NEW_VALUE)
 
 
-def _quick(vt: int) -> typing.Tuple[typing.Callable[..., bytes], bytes, int, int]:
-    """How a put of a number is packed, what stands before the number in its variant field, and the
-    type's range."""
-    form, before = number_layout(vt)
-    return (
-        struct.Struct(f"{CALL.format}i4x{form}").pack,
-        before,
-        INTEGERS[vt].low,
-        INTEGERS[vt].high,
-    )
+# a request: its opcode, the object's number, and all that follows
+_ASK = struct.Struct(f"<II{CALL.size - 8}s").pack
 
 
-_QUICK = {vt: _quick(vt) for vt in INTEGERS}
+def _quick_get(member: Member, guid: bytes) -> bytes:
+    """What a get without arguments has behind the object's number."""
+    head = CALL.pack(INVOKE, 0, 0, member.dispid, guid, 0, PROPERTYGET, 0, 0, 0)
+    return member.gets.setdefault(guid, head[8:])
+
+
+def _quick_put(member: Member, guid: bytes) -> QuickPut:
+    """How a put of a whole number is packed; where the member takes none the range is empty."""
+    if member.vt not in INTEGERS:
+        return member.puts.setdefault(guid, (_ASK, b"", 1, 0))
+    form, before = number_layout(member.vt)
+    head = CALL.pack(INVOKE, 0, 0, member.dispid, guid, 0, PROPERTYPUT, 0, 1, 1)
+    rest = head[8:] + _NEW_NAMED + before
+    pack = struct.Struct(f"<II{len(rest)}s{form[form.index('s') + 1:]}").pack
+    of = INTEGERS[member.vt]
+    return member.puts.setdefault(guid, (pack, rest, of.low, of.high))
 
 
 # --- what is asked of an object, and of a member: what comes of it is what its session gives
@@ -224,8 +260,11 @@ def get_of(
 ) -> typing.Any:
     """Asks for a property's value, an array whole."""
     act = (_called, "get", item, member, positional, named)
+    if not positional and not named:
+        rest = member.gets.get(item._guid) or _quick_get(member, item._guid)
+        # the same bytes as below, in one step
+        return item._server.ask(_ASK(INVOKE, item._number, rest), member.read, (), act)
     fields, told = _bound(act, member, positional, named)
-    # (struct and places written out: most of what a client does)
     head = CALL.pack(
         INVOKE, 0, item._number, member.dispid, item._guid, 0, PROPERTYGET, 0, len(told), len(named)
     )
@@ -240,29 +279,14 @@ def put_of(
     named: Named = _NONE,
 ) -> typing.Any:
     """Puts a property's value."""
-    act = (_called, "put", item, member, positional, named, value)
-    number, dispid, guid = item._number, member.dispid, item._guid
-    if not positional and not named:
-        if type(value) is int and member.vt in _QUICK:
-            pack, before, low, high = _QUICK[member.vt]
-            if low <= value <= high:
-                # the same bytes as below, in one step
-                request = pack(
-                    INVOKE,
-                    0,
-                    number,
-                    dispid,
-                    guid,
-                    0,
-                    PROPERTYPUT,
-                    0,
-                    1,
-                    1,
-                    NEW_VALUE,
-                    before,
-                    value,
-                )
-                return item._server.ask(request, read_nothing, _NEW, act)
+    act, guid = (_called, "put", item, member, positional, named, value), item._guid
+    if type(value) is int and not positional and not named:
+        pack, rest, low, high = member.puts.get(guid) or _quick_put(member, guid)
+        if low <= value <= high:
+            # the same bytes as below, in one step
+            request = pack(INVOKE, item._number, rest, value)
+            return item._server.ask(request, read_nothing, _NEW, act)
+    number, dispid = item._number, member.dispid
     fields, told = _bound(act, member, positional, named, (value,))
     head = CALL.pack(INVOKE, 0, number, dispid, guid, 0, PROPERTYPUT, 0, len(told), len(named) + 1)
     return item._server.ask(head + fields, read_nothing, told, act)

@@ -191,7 +191,7 @@ def _patiently(
             sock = dialled(address, max(0.1, min(_TRY, left)))
             connection = Connection(sock, sock, framing, max(0.1, left), owned=True)
             try:
-                connection.exchange([END])
+                connection.exchange(connection.framing.pack([END]), 1)
             except BaseException:
                 connection.close(late=True)
                 raise
@@ -388,6 +388,8 @@ def _start(
         server.library
     except Stopped as end:
         server.__exit__(Fault)
+        # nothing was asked but what the library says
+        end.may_stand = False
         raise of_library(end, library) from None
     except BaseException:
         server.__exit__(Fault)

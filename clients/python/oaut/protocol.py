@@ -27,8 +27,11 @@ from .records import (
     REPLACE,
     ask_type_info,
     read_lost,
+    read_nothing,
     read_reply,
+    read_value,
 )
+from .wire import WHOLE_NUMBERS
 
 # what STG_E_MEDIUMFULL means
 FULL = (
@@ -41,6 +44,12 @@ GROUP_BYTES = 524_288
 # a REPLACE LIBRARY without a text: it comes alone, so whatever is open before it is committed and
 # answered first; it calls no device, changes nothing and is answered by bad stub data
 END = struct.pack("<IHH", 0xFFFF_FFFF, REPLACE, 0)
+# of a reply with a whole number, by its bytes between the tag and the number, what reads that
+_WHOLE_NUMBERS = {
+    DONE
+    + before: (struct.Struct(f"<16x{form}").unpack, struct.calcsize(f"<16x{form}"), int.__new__, of)
+    for before, (form, of) in WHOLE_NUMBERS.items()
+}
 # the largest cell that a REDIM makes, as an image
 _CELL = 8
 _FIXED = 64
@@ -56,30 +65,36 @@ Answered = typing.Callable[[typing.List[bytes]], None]
 Steps = typing.Generator[typing.List[bytes], typing.List[bytes], Library]
 
 
+# what stands where a Later has no answer
+_UNSENT, _FAILED = object(), object()
+
+
 class Later:
     """The answer of a request in a batch: `value` once the batch was sent, which raises the refusal
     where it was refused."""
 
     __slots__ = ("_value", "_failure")
+    _failure: Exception
 
     def __init__(self) -> None:
-        self._value: typing.Any = None
-        self._failure: typing.Optional[Exception] = RuntimeError("the batch was not sent yet")
+        self._value: typing.Any = _UNSENT
 
     @property
     def value(self) -> typing.Any:
         """The answer."""
-        if self._failure is not None:
+        if self._value is _UNSENT:
+            raise RuntimeError("the batch was not sent yet")
+        if self._value is _FAILED:
             raise self._failure
         return self._value
 
     def answer(self, value: typing.Any) -> None:
         """Gives it its answer."""
-        self._value, self._failure = value, None
+        self._value = value
 
     def fail(self, failure: Exception) -> None:
         """Gives it its refusal."""
-        self._failure = failure
+        self._failure, self._value = failure, _FAILED
 
 
 class Asker(typing.Protocol):
@@ -104,6 +119,13 @@ class Asker(typing.Protocol):
 
 def judge(body: bytes, read: Read, arguments: typing.Sequence[str], act: Act) -> typing.Any:
     """What a reply's fields say, or its refusal."""
+    # (most replies by far are known at a glance, up to their number)
+    if read is read_value:
+        quick = _WHOLE_NUMBERS.get(body[4:44])
+        if quick is not None and len(body) == quick[1]:
+            return quick[2](quick[3], quick[0](body)[0])
+    elif read is read_nothing and body[4:] == DONE:
+        return None
     if body[4:8] == b"\0\0\0\0" and len(body) >= 16:
         return read(body[16:])
     _, code, index, fields = read_reply(body)
@@ -116,33 +138,23 @@ class Collected:
     """Requests that are to be sent together, and what becomes of their replies."""
 
     def __init__(self) -> None:
-        self.requests: typing.List[bytes] = []
-        self._asked: typing.List[
-            typing.Tuple[Read, typing.Sequence[str], typing.Optional[Later], Act]
+        # each request, how its reply is read, and who has its answer
+        self.asked: typing.List[
+            typing.Tuple[bytes, Read, typing.Sequence[str], typing.Optional[Later], Act]
         ] = []
         self._sent = 0
         self.failures: typing.List[typing.Tuple[int, Fault]] = []
 
-    def collect(
-        self,
-        request: bytes,
-        read: Read,
-        arguments: typing.Sequence[str],
-        act: Act,
-        later: typing.Optional[Later],
-    ) -> None:
-        """Adds a request."""
-        self.requests.append(request)
-        self._asked.append((read, arguments, later, act))
-
     def taken(self) -> typing.Tuple[typing.List[bytes], Answered]:
         """The requests, which are then to be sent, and what takes their replies."""
-        requests, asked, place = self.requests, self._asked, self._sent
-        self.requests, self._asked = [], []
-        self._sent += len(requests)
+        asked, place = self.asked, self._sent
+        self.asked = []
+        self._sent += len(asked)
 
         def answered(bodies: typing.List[bytes]) -> None:
-            for at, (body, (read, arguments, later, act)) in enumerate(zip(bodies, asked), place):
+            for at, (body, (_, read, arguments, later, act)) in enumerate(
+                zip(bodies, asked), place
+            ):
                 if later is None and body[4:] == DONE:
                     continue
                 try:
@@ -154,7 +166,7 @@ class Collected:
                     if later is not None:
                         later.fail(failure)
 
-        return requests, answered
+        return [it[0] for it in asked], answered
 
 
 class GroupRoom:

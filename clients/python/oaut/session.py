@@ -4,10 +4,12 @@ from __future__ import annotations
 
 import os
 import re
+import struct
 import threading
 import types
 import typing
 import weakref
+from threading import get_ident
 
 from .connection import Connection, Ended, Late, let_go
 from .faults import (
@@ -50,6 +52,8 @@ from .values import plain
 
 BATCH = 1_024
 _TAGS = 0xFFFF_FFFF
+# the bytes that a request may have behind its tag
+_LONGEST = BODY_LIMIT - 4
 _S = typing.TypeVar("_S", bound="Server")
 _B = typing.TypeVar("_B", bound="Batch")
 
@@ -66,7 +70,7 @@ class Batch(Collected):
         self._thread = 0
 
     def __enter__(self: _B) -> _B:
-        self._thread = threading.get_ident()
+        self._thread = get_ident()
         self._server.begin(self)
         return self
 
@@ -83,11 +87,12 @@ class Batch(Collected):
         self, request: bytes, read: Read, arguments: typing.Sequence[str], act: Act
     ) -> typing.Optional[Later]:
         """Adds a request, and gives what will have its answer: None where it has none."""
-        if threading.get_ident() != self._thread:
+        if get_ident() != self._thread:
             raise SessionInUse("another thread has a batch of this session")
         later = None if read is read_nothing else Later()
-        self.collect(request, read, arguments, act, later)
-        if len(self.requests) >= self._size:
+        asked = self.asked
+        asked.append((request, read, arguments, later, act))
+        if len(asked) >= self._size:
             self.send()
         return later
 
@@ -143,7 +148,9 @@ class Server:
         why the text of a file was refused."""
         self._connection = connection
         self._group, self._what, self._dial, self._explain = group, what, dial, explain
-        self._behind = [END] if ends else []
+        # what ends each exchange, and how many replies it has
+        self._behind = connection.framing.pack([END]) if ends else b""
+        self._ends = int(ends)
         self._tag = 1
         self._lock = threading.Lock()
         self._thread = 0
@@ -295,43 +302,48 @@ class Server:
         fields; in a batch a Later, or None where it reads nothing. `arguments` are words for the
         places in rgvarg, `act` says what was asked where it is refused: a function of the code and
         the further arguments."""
-        if len(request) + 4 > BODY_LIMIT:
+        if len(request) > _LONGEST:
             told = f"{act[0](0, *act[1:])[0]}: " if act else ""
             size = len(request) + 4
             raise ValueError(f"{told}a request has at most {BODY_LIMIT} bytes, this has {size}")
         if self._batch is not None:
             return self._batch.add(request, read, arguments, act)
-        return judge(self.exchange([request])[0], read, arguments, act)
+        return judge(self.exchange((request,))[0], read, arguments, act)
 
-    def exchange(self, requests: typing.List[bytes]) -> typing.List[bytes]:
+    def exchange(self, requests: typing.Sequence[bytes]) -> typing.List[bytes]:
         """Sends requests together, and gives the bodies of their replies. An interrupt leaves a
         session that goes on: what was sent is answered, and those replies are dropped."""
         if self._end is not None:
             raise self._end
-        thread = threading.get_ident()
-        if self._lock.locked():
+        thread, lock = get_ident(), self._lock
+        if lock.locked():
             other = "another thread uses this session"
             own = "a request of this session is under way in this thread"
             raise SessionInUse(own if self._thread == thread else other)
-        with self._lock:
+        with lock:
             self._thread = thread
             if self._dial is not None:
                 self._dial_again(self._dial)
             return self._exchange(requests)
 
-    def _exchange(self, requests: typing.List[bytes]) -> typing.List[bytes]:
-        first = self._tag
-        self._tag = first + len(requests) & _TAGS
-        tags = [(it & _TAGS).to_bytes(4, "little") for it in range(first, first + len(requests))]
-        bodies = [tag + request for tag, request in zip(tags, requests)]
+    def _exchange(self, requests: typing.Sequence[bytes]) -> typing.List[bytes]:
+        count, first, connection = len(requests), self._tag, self._connection
+        tags: typing.Sequence[int] = range(first, first + count)
+        if first + count > _TAGS:
+            tags = [it & _TAGS for it in tags]
+        self._tag = first + count & _TAGS
         if self.trace is not None:
-            for body in bodies:
-                self.trace(">", body)
+            for tag, request in zip(tags, requests):
+                self.trace(">", tag.to_bytes(4, "little") + request)
         try:
-            replies = self._connection.exchange(bodies + self._behind, len(self._behind))
-            for tag, reply in zip(tags, replies):
-                if reply[:4] != tag:
-                    self._wrong_tag(reply)
+            data = connection.framing.tagged(tags, requests, self._behind)
+            replies = connection.exchange(data, count + self._ends, self._ends)
+            if count == 1:
+                if not replies[0].startswith(first.to_bytes(4, "little")):
+                    self._wrong_tag(replies[0])
+            elif b"".join([it[:4] for it in replies]) != struct.pack(f"<{count}I", *tags):
+                told = zip(tags, replies)
+                self._wrong_tag(next(it for tag, it in told if it[:4] != tag.to_bytes(4, "little")))
         except Ended:
             self._end = self._finish()
             self._end.may_stand = True
@@ -358,7 +370,7 @@ class Server:
         """Makes the connection anew where the server has let this one go. What was sent and not
         answered is never behind that: then the session has ended."""
         # what was not answered is at most END, which asks for nothing
-        answered = self._connection.due <= len(self._behind)
+        answered = self._connection.due <= self._ends
         try:
             self._connection.drop()
             gone = self._connection.gone()

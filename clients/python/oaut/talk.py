@@ -299,17 +299,17 @@ def _closing(text: str, start: int) -> int:
 
 
 def run(
-    library: str,
+    library: typing.Optional[str],
     store: typing.Optional[str],
     program: Program,
     framing: str,
     batch: typing.Optional[str],
     verbose: bool,
 ) -> int:
-    """The prompt. Gives the program's exit status: 1 where a command of a file fails, which ends
-    it."""
-    with play(library, program, framing) if store is None else serve(
-        store, library, None, program, framing
+    """The prompt, over a library or a store. Gives the exit status: 1 where a command of a
+    file fails, which ends it."""
+    with serve(store, library, None, program, framing) if store is not None else play(
+        typing.cast(str, library), program, framing
     ) as server:
         talk = Talk(server)
         if verbose:

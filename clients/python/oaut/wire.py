@@ -186,6 +186,17 @@ def _quick(
 _QUICK = {vt: _quick(vt, of) for vt, of in INTEGERS.items()}
 
 
+def _whole(
+    vt: int, of: typing.Type[Integer]
+) -> typing.Tuple[bytes, typing.Tuple[str, typing.Type[Integer]]]:
+    form, before = number_layout(vt)
+    return before[:28], (form.replace("s", "x"), of)
+
+
+# of the variant field of a whole number, by its first 28 bytes, how struct reads it, and its class
+WHOLE_NUMBERS = dict(_whole(vt, of) for vt, of in INTEGERS.items())
+
+
 class _Places:
     """A cursor over a field, whose places count from its first byte."""
 

@@ -13,7 +13,7 @@ size_t wanted(const Client *c) {
 static void line_ended(Client *c) {
     uint32_t size = (uint32_t)(c->digits / 2);
     if (!c->digits || c->digits % 2 || c->bad) {
-        c->stage = CLOSED;
+        stop_reading(c);
         return;
     }
     memcpy(c->in.at + c->in.mark, &size, 4);
@@ -31,8 +31,10 @@ static void signs_came(Client *c, const char *signs, size_t size) {
         c->bad |= c->cr || (!digit && *it != '\r');
         c->cr = *it == '\r';
         if (c->cr) continue;
-        if (++c->digits > 2 * BODY) {
-            c->stage = CUT;
+        if (++c->digits > 2 * BODY) { /* as a record it is too long */
+            memset(c->in.at + c->in.mark, 255, 4);
+            c->in.end = c->in.mark + 4;
+            c->stage = CLOSED;
             break;
         }
         if (c->in.end == c->in.mark) c->in.end += 4;
@@ -51,20 +53,25 @@ void bytes_came(Client *c, const char *signs, size_t size) {
     else in->end += size;
     while (c->kind != HEX && c->stage == OPEN && in->end - in->mark >= 4) {
         memcpy(&n, in->at + in->mark, 4);
-        if (!n || n > BODY) c->stage = n ? CUT : CLOSED;
-        else if (in->end - in->mark < 4 + (size_t)n) break;
+        if (!n || n > BODY) {
+            in->end = in->mark + 4;
+            c->stage = CLOSED;
+        } else if (in->end - in->mark < 4 + (size_t)n) break;
         else in->mark += 4 + n;
     }
     if (in->mark > before) c->begun = now;
     look(c);
 }
+/* Nothing more comes: what came of a last record is for the server to refuse. */
 void end_came(Client *c) {
-    if (c->kind == HEX && c->digits) line_ended(c);
-    if (c->stage == OPEN) c->stage = c->kind != HEX && c->in.end > c->in.mark ? CUT : CLOSED;
+    if (c->kind == HEX && c->digits && c->stage == OPEN) line_ended(c);
+    if (c->stage == OPEN) c->stage = CLOSED;
     look(c);
 }
+/* The same, and what came of it is dropped. */
 void stop_reading(Client *c) {
-    if (c->stage == OPEN) c->stage = CLOSED;
+    c->in.end = c->in.mark;
+    c->stage = CLOSED;
     look(c);
 }
 /* Whole replies go to a client. */
@@ -87,11 +94,3 @@ void give(Client *c, const char *replies, size_t size) {
         c->out.at[c->out.end++] = '\n';
     }
 }
-/* A reply that the gateway makes. */
-void refuse(Client *c, uint32_t tag, uint32_t code) {
-    uint32_t reply[] = {HEAD - 4, tag, code, 0xFFFFFFFF, 0};
-    give(c, (const char *)reply, sizeof reply);
-    note(code);
-}
-/* The last request was none. */
-void refuse_stub(Client *c) { refuse(c, 0, 0x800706F7); }

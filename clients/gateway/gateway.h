@@ -1,6 +1,6 @@
 /* What the files of the gateway share. main.c starts it and has the loop; clients.c has the connections, framing.c what stands in their bytes,
- * turns.c whose turn it is, session.c what is asked of the server and whose the replies are, server.c its process. Around them: options.c the
- * command line, sockets.c what is listened on, metrics.c what is told, page.c starts the page, backup.c and probe.c are programs of their own. */
+ * turns.c what is asked of the server and whose the replies are, server.c its process. Around them: options.c the command line, sockets.c what
+ * is listened on, metrics.c what is told, page.c starts the page, backup.c and probe.c are programs of their own. */
 #ifndef GATEWAY_H
 #define GATEWAY_H
 
@@ -36,10 +36,10 @@ typedef enum kind { SHARED, HEX, ALONE, METRICS, CONTROL, KINDS } Kind;
 typedef enum stage {
     OPEN,
     CLOSED,    /* nothing more is read: what has come whole is answered */
-    CUT,       /* the same, and behind it a reply says that the last request is none */
     ANSWERED,  /* replies that it has not taken are all that is left */
     HANGING_UP /* it has taken them: what it still sends is thrown away */
 } Stage;
+typedef enum presence { ABSENT, PRESENT, ENDING } Presence; /* of a client, at the server */
 
 typedef struct client {
     int fd;         /* -1 where the place is free */
@@ -48,12 +48,10 @@ typedef struct client {
     Stage stage;
     uint32_t events;                    /* of epoll, which are waited for */
     bool waits, touched, deaf, starved; /* has a turn to come; was just answered; epoll does not watch it; there is no room to read more of it */
-    unsigned asked, locking;            /* requests, or runs of them, that are with the server; LOCKs among them */
-    uint64_t batch, answered;           /* the last batch that it is part of; the one that was answered, and it has asked nothing since */
-    size_t share, weight;               /* how many requests of it that batch still takes; the bytes of a reply to it, about */
-    struct lock *locks;                 /* session.c: those that it has */
-    size_t lock_bytes;
-    int presence; /* frames.c: whether the server knows it */
+    unsigned asked;                     /* requests that are with the server */
+    Presence presence;
+    uint64_t batch, answered; /* the last batch that it is part of; the one that was answered, and it has asked nothing since */
+    size_t share, weight;     /* how many requests of it that batch still takes; the bytes of a reply to it, about */
     Buffer in, out;
     size_t digits;                   /* HEX: of the line that is coming */
     bool bad, cr;                    /* HEX: it is no pairs of digits; its last sign was a CR */
@@ -93,34 +91,21 @@ void bytes_came(Client *client, const char *signs, size_t size);
 void end_came(Client *client);
 void stop_reading(Client *client);
 void give(Client *client, const char *replies, size_t size);
-void refuse(Client *client, uint32_t tag, uint32_t code);
-void refuse_stub(Client *client);
 
 /* turns.c */
-extern Client *alone, house;    /* who has the server to itself; what is asked for those that have gone */
+extern Client *alone;           /* who has the server to itself */
 extern uint64_t batch;          /* its number */
 extern size_t waiting, awaited; /* those with a turn to come; those just answered, that have asked nothing since */
+extern bool in_flight;          /* a batch is with the server */
+bool has_to_ask(void);
 void enqueue(Client *client);
-void dequeue(Client *client);
 void look(Client *client);
-void was_answered(Client *client);
-void leave(Client *client);
 bool begin_batch(void);
-
-/* session.c, or frames.c: the server's side, and all that depends on how it is asked */
-extern const char *const server_words[]; /* of its command line, before the store and its library */
-void server_came(void);
-void server_lost(void);
+bool hand_out(struct queue *answered);
 void client_came(Client *client);
 void client_gone(Client *client);
+void server_came(void);
 void session_lost(Client *client);
-void settle(Client *client);
-void open_batch(void);
-bool is_full(void);
-bool take_turn(Client *client);
-bool close_batch(void);
-bool in_flight(void);
-bool hand_out(struct queue *answered);
 
 /* server.c */
 extern Buffer to_server, from_server;
@@ -167,7 +152,7 @@ typedef struct histogram {
     uint64_t buckets[BUCKETS + 1];
 } Histogram;
 extern struct counts {
-    uint64_t live, locks, clients, turned_away, stalled, silent, requests, batches, in, out, refused, given_back, starts, holds;
+    uint64_t live, clients, turned_away, stalled, silent, requests, batches, in, out, refused, starts, holds;
     double held; /* seconds that backups kept the server waiting */
     Histogram batch, commit, wait;
     struct code {

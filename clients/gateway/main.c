@@ -77,7 +77,7 @@ static void prepare(void) {
     watch(signalfd(-1, &ends, SFD_CLOEXEC), EPOLL_CTL_ADD, EPOLLIN, SIGNALS);
     now = clock_now();
 }
-static bool goes_on(void) { return !(draining > 0) || (has_server() && (counts.live || waiting || in_flight()) && now < draining + stalled); }
+static bool goes_on(void) { return !(draining > 0) || (has_server() && (counts.live || has_to_ask() || in_flight) && now < draining + stalled); }
 
 int main(int argc, char **argv) {
     if (argc == 4 && !strcmp(argv[1], "backup")) return backup(argv[2], argv[3]);
@@ -89,7 +89,7 @@ int main(int argc, char **argv) {
     struct epoll_event events[EVENTS];
     bool begun = false;
     for (double next_tick = now; goes_on();) {
-        double left = (deadline > now && waiting ? deadline : next_tick) - clock_now();
+        double left = (deadline > now && has_to_ask() ? deadline : next_tick) - clock_now();
         struct timespec pause = {left > 0 ? (time_t)left : 0, left > 0 ? (long)((left - (double)(time_t)left) * 1e9) : 0};
         int n = epoll_pwait2(poller, events, EVENTS, &pause, NULL);
         bool heard = false;

@@ -80,7 +80,6 @@ static void tell(FILE *to) {
     } all[] = {
         {"gauge", "clients", "Clients that are connected.", (double)counts.live},
         {"gauge", "clients_waiting", "Clients with requests that are not with the server yet.", (double)waiting},
-        {"gauge", "locks", "Locks that clients hold or ask for.", (double)counts.locks},
         {"gauge", "buffer_bytes", "Bytes of the clients' buffers.", (double)(in_bytes + out_bytes)},
         {"gauge", "kept_waiting", "Whether one that has the server alone, or a backup, keeps the others waiting.", (double)kept_waiting()},
         {"gauge", "faulted", "Whether the store's device has failed.", counts.faulted},
@@ -92,7 +91,6 @@ static void tell(FILE *to) {
         {"counter", "batches_total", "Batches that went to the server.", (double)counts.batches},
         {"counter", "received_bytes_total", "Bytes of requests.", (double)counts.in},
         {"counter", "sent_bytes_total", "Bytes of replies.", (double)counts.out},
-        {"counter", "locks_given_back_total", "Locks of clients that had gone.", (double)counts.given_back},
         {"counter", "server_starts_total", "How often the server was started.", (double)counts.starts},
         {"counter", "backups_total", "Backups.", (double)counts.holds},
         {"counter", "held_seconds_total", "Seconds that backups kept the server waiting.", counts.held},

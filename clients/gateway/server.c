@@ -24,8 +24,6 @@ bool has_server(void) { return server_fd >= 0; }
 static _Noreturn void become_server(int socket, pid_t gateway) {
     int file = open(store, O_RDWR | O_CLOEXEC), library = memfd_create("library", 0), end = 0;
     char name[40];
-    const char *words[8] = {program};
-    size_t count = 1;
     sigset_t none;
     sigemptyset(&none);
     sigprocmask(SIG_SETMASK, &none, NULL);
@@ -49,10 +47,7 @@ static _Noreturn void become_server(int socket, pid_t gateway) {
     snprintf(name, sizeof name, "/proc/self/fd/%d", library);
     dup2(socket, 0);
     dup2(socket, 1);
-    for (; server_words[count - 1]; count++) words[count] = server_words[count - 1];
-    words[count++] = store;
-    words[count] = name;
-    execvp(program, (char *const *)words);
+    execlp(program, program, "serve", "--shared", "--group", "1024", store, name, (char *)NULL);
     _exit(CANNOT_RUN);
 }
 void start_server(void) {
@@ -77,7 +72,6 @@ static void server_ended(void) {
     is_up = false;
     to_server.start = to_server.end = from_server.start = from_server.end = 0;
     while (waitpid(server, &end, 0) < 0 && errno == EINTR) {}
-    server_lost();
     all_lost();
     int code = WIFEXITED(end) ? WEXITSTATUS(end) : 0;
     if (code == CANNOT_RUN) fail(1, "cannot run %s", program);
@@ -92,7 +86,7 @@ static void server_ended(void) {
 int end_server(void) {
     int end = 0;
     if (!has_server()) return 0;
-    if (in_flight()) close(server_fd);
+    if (in_flight) close(server_fd);
     else shutdown(server_fd, SHUT_WR);
     waitpid(server, &end, 0);
     return end;
@@ -118,10 +112,12 @@ static void answer(void) {
         speak(c);
     }
     give_room_back(&from_server, &server_bytes, false);
-    if (!all || sent < 0) return;
-    if (is_up) observe(&counts.commit, now - sent);
-    took += (now - sent - took) / 8;
-    deadline = clock_now() + (took > 0.008 ? 0.002 : took / 4);
+    if (!all) return;
+    if (is_up && sent > 0) {
+        observe(&counts.commit, now - sent);
+        took += (now - sent - took) / 8;
+        deadline = clock_now() + (took > 0.008 ? 0.002 : took / 4);
+    }
     is_up = true;
 }
 void read_server(void) {
@@ -135,7 +131,7 @@ void read_server(void) {
         }
         from_server.end += got = (size_t)n;
     }
-    if (in_flight()) answer();
+    if (in_flight) answer();
 }
 /* The backup that held the server has ended; gives for how long. */
 double let_go_on(void) {
@@ -146,10 +142,10 @@ double let_go_on(void) {
     return seconds;
 }
 /* Whether one that has the server alone, or a backup, keeps the others waiting: not a server that is slow itself. */
-bool kept_waiting(void) { return (alone || is_held) && !(in_flight() && sent > 0 && now - sent > 5); }
+bool kept_waiting(void) { return (alone || is_held) && !(in_flight && sent > 0 && now - sent > 5); }
 /* The next batch goes out, where there is one and it is its time. */
 void pump(void) {
-    if (!is_up || in_flight()) return;
+    if (!is_up || in_flight) return;
     if (holder && !is_held) {
         is_held = true;
         held_since = now;
@@ -157,11 +153,8 @@ void pump(void) {
         append(&holder->out, &out_bytes, "held\n", 5);
         speak(holder);
     }
-    if (holder || !waiting || (deadline > now && awaited)) return;
+    if (holder || !has_to_ask() || (deadline > now && awaited)) return;
+    uint64_t batches = counts.batches;
     deadline = 0;
-    while (waiting && begin_batch()) {
-        sent = to_server.end ? now : -1;
-        if (sent > 0) break;
-        answer(); /* all of it is answered here */
-    }
+    if (begin_batch()) sent = counts.batches > batches ? now : -1; /* ends alone tell nothing of how long a batch takes */
 }

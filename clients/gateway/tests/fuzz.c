@@ -1,10 +1,10 @@
-/* Drives framing.c, turns.c and session.c, or frames.c, by made-up clients and a made-up server, and aborts where a reply goes astray.
+/* Drives framing.c and turns.c by made-up clients and a made-up server, and aborts where a reply goes astray.
  *
  *     fuzz [COUNT SEED]
  *
  * Without words it reads one input (AFL++ gives many), else it makes so many. An input says, byte by byte, which client sends what, in which
- * pieces it comes, when a batch begins and how much of the server's replies has come. The server counts locks: none is given up that is not
- * held, by none but its client, and none is left once all have gone.
+ * pieces it comes, when a batch begins and how much of the server's replies has come. The server keeps locks by their clients: none is left once
+ * all have gone.
  */
 #include "../gateway.h"
 
@@ -17,9 +17,7 @@
 /* MARK: with whose number it is the highest byte of a tag; it stands in no raw bytes, as the opcodes of locks do not */
 enum { MARK = 0x40, MEN = 5, CELLS = 16, TAGS = 1 << 14, PIPE = 1 << 16 };
 static const uint32_t BAD = 0x800706F7;
-#ifndef FRAMES
-#define FRAMES 0 /* 1 where it is built with frames.c */
-#endif
+static const uint32_t OWN = 0xFFFFFFFE, NOW = 0xFFFFFFFF;
 
 typedef struct man {
     Client *c;
@@ -32,10 +30,12 @@ typedef struct man {
     uint32_t serial;
     bool ends, cut;
     size_t held[CELLS];
+    Buffer there; /* what the server has of a record of it */
+    bool over;    /* the server has told it its end */
 } Man;
 static Man men[MEN];
 static Client places[MEN];
-static size_t seen_bytes, fake_bytes, locks[CELLS];
+static size_t seen_bytes, fake_bytes, there_bytes, locks[CELLS], given_back;
 static Buffer fake; /* replies of the server that have not come yet */
 static const uint8_t *input;
 static size_t left;
@@ -50,7 +50,7 @@ static uint32_t get(const char *at) {
 static void put(char *at, uint32_t v) { memcpy(at, &v, 4); }
 static void add(Buffer *b, size_t *pool, const void *some, size_t n) {
     make_room(b, n, pool, SIZE_MAX);
-    memcpy(b->at + b->end, some, n);
+    if (n) memcpy(b->at + b->end, some, n);
     b->end += n;
 }
 static void expect(Man *m, uint32_t tag) {
@@ -199,22 +199,25 @@ static void leaves(Man *m) {
     *c = (Client){.fd = 7, .visit = visit, .kind = kind};
     client_came(c);
 }
-/* The server answers a request of a client, or of the gateway where there is none. */
-static void serve_one(const char *record, size_t n, Man *from) {
+static void tell(uint32_t number, const char *reply, size_t size) {
+    uint32_t head[2] = {number, (uint32_t)size};
+    add(&fake, &fake_bytes, head, sizeof head);
+    add(&fake, &fake_bytes, reply, size);
+}
+/* The server answers a request of a client. */
+static void serve_one(const char *record, size_t n, Man *of) {
     char reply[1100] = {16};
-    uint32_t tag = n < 12 ? 0 : get(record + 4), code = 0, head[2];
+    uint32_t tag = n < 12 ? 0 : get(record + 4), code = 0;
     size_t more = 0;
-    Man *of = n >= 12 && tag >> 24 >= MARK && tag >> 24 < MARK + MEN ? &men[(tag >> 24) - MARK] : NULL;
-    assert(!from || !of || from == of);
-    if (n >= 68 && (record[8] == 8 || record[8] == 9) && !record[9] && of) {
+    assert(n < 12 || tag >> 24 < MARK || tag >> 24 >= MARK + MEN || of == &men[(tag >> 24) - MARK]);
+    if (n >= 68 && (record[8] == 8 || record[8] == 9) && !record[9]) {
         unsigned cell = (record[12] & 3) | (record[16] & 3) << 2;
         if (record[40] || (record[8] == 8 && (tag & 7) == 7)) code = 0x8002000D;
         else if (record[8] == 8) {
             locks[cell]++;
             of->held[cell]++;
-        } else if (from && !of->held[cell]) code = 0x8000FFFF; /* a server of many knows whose a lock is */
+        } else if (!of->held[cell]) code = 0x8000FFFF;
         else {
-            assert(locks[cell] && of->held[cell]);
             locks[cell]--;
             of->held[cell]--;
         }
@@ -223,46 +226,52 @@ static void serve_one(const char *record, size_t n, Man *from) {
     put(reply, (uint32_t)(16 + more));
     put(reply + 4, tag);
     put(reply + 8, code);
-    head[0] = from ? (uint32_t)(from - men) : 0xFFFFFFFE;
-    head[1] = (uint32_t)(20 + more);
-    if (FRAMES) add(&fake, &fake_bytes, head, sizeof head);
-    add(&fake, &fake_bytes, reply, 20 + more);
+    tell((uint32_t)(of - men), reply, 20 + more);
     /* nobody comes between who has the server alone */
-    if (of && alone == men[2].c && alone_visit == men[2].c->visit + 1 && record[8] != 9) assert(of == &men[2]);
+    if (alone == men[2].c && alone_visit == men[2].c->visit + 1 && record[8] != 9) assert(of == &men[2]);
 }
-/* A server of many is told that a client has gone: its locks are free, and its last reply was told. */
-static void serve_end(Man *from) {
-    uint32_t head[2] = {(uint32_t)(from - men), 0};
+/* A client has its last reply, and its locks are free. */
+static void serve_end(Man *from, bool cut) {
+    char stub[20] = {16};
+    put(stub + 8, BAD);
+    if (cut) tell((uint32_t)(from - men), stub, sizeof stub);
     for (int i = 0; i < CELLS; i++) {
         locks[i] -= from->held[i];
+        given_back += from->held[i];
         from->held[i] = 0;
     }
-    add(&fake, &fake_bytes, head, sizeof head);
+    from->over = true;
+    tell((uint32_t)(from - men), NULL, 0);
+}
+static void serve_bytes(Man *from, const char *some, size_t size) {
+    Buffer *b = &from->there;
+    add(b, &there_bytes, some, size);
+    while (!from->over && b->end - b->start >= 4) {
+        uint32_t n = get(b->at + b->start);
+        if (!n || n > BODY) serve_end(from, n > 0);
+        else if (b->end - b->start < 4 + (size_t)n) break;
+        else serve_one(b->at + b->start, 4 + n, from);
+        b->start += 4 + n;
+    }
+    if (from->over || b->start == b->end) b->start = b->end = 0;
 }
 /* The server answers all that was sent. */
 static void serve(void) {
     while (to_server.end > to_server.start) {
         char *at = to_server.at + to_server.start;
-        size_t left_there = to_server.end - to_server.start, n = 4 + get(at), size = n;
-        Man *from = NULL;
-        if (FRAMES) {
-            assert(left_there >= 8);
-            uint32_t number = get(at);
-            assert(number < MEN || number == 0xFFFFFFFE);
-            from = number < MEN ? &men[number] : NULL;
-            size = get(at + 4);
-            at += 8;
-            to_server.start += 8;
-            left_there -= 8;
+        uint32_t number = get(at), size = get(at + 4);
+        Man *from = number < MEN ? &men[number] : NULL;
+        assert(to_server.end - to_server.start >= 8 + (size_t)size && size <= 1 << 20);
+        assert(from || !size);
+        if (size) serve_bytes(from, at + 8, size);
+        else if (number == OWN) tell(OWN, NULL, 0);
+        else if (number != NOW) {
+            assert(from);
+            if (!from->over) serve_end(from, from->there.end > from->there.start);
+            from->over = false;
+            from->there.start = from->there.end = 0;
         }
-        assert(left_there >= size);
-        if (FRAMES && !size) serve_end(from);
-        for (size_t done = 0; done < size; done += n, at += n) {
-            n = 4 + get(at);
-            assert(n >= 5 && size - done >= n);
-            serve_one(at, n, from);
-        }
-        to_server.start += size;
+        to_server.start += 8 + size;
     }
     to_server.start = to_server.end = 0;
     alone_visit = alone == men[2].c ? men[2].c->visit + 1 : 0;
@@ -270,7 +279,7 @@ static void serve(void) {
 static void hears(size_t most) {
     struct queue answered = TAILQ_HEAD_INITIALIZER(answered);
     size_t n = fake.end - fake.start < most ? fake.end - fake.start : most;
-    if (!n && !in_flight()) return;
+    if (!n && !in_flight) return;
     if (n) add(&from_server, &server_bytes, fake.at + fake.start, n);
     fake.start += n;
     if (fake.start == fake.end) fake.start = fake.end = 0;
@@ -281,11 +290,9 @@ static void hears(size_t most) {
     assert(awaited == due);
 }
 static void begins(void) {
-    if (in_flight()) return;
-    assert(!to_server.end && from_server.start == from_server.end && fake.start == fake.end);
-    if (!begin_batch()) return;
-    if (to_server.end) serve();
-    else hears(0);
+    if (in_flight) return;
+    assert(from_server.start == from_server.end && fake.start == fake.end);
+    if (begin_batch()) serve();
 }
 static void run(const uint8_t *data, size_t size) {
     static const Kind all[MEN] = {SHARED, HEX, ALONE, SHARED, ALONE};
@@ -343,16 +350,16 @@ static void run(const uint8_t *data, size_t size) {
                 comes(m, PIPE);
                 if (m->c->stage == ANSWERED && m->c->kind == ALONE) leaves(m);
             }
-            if (!in_flight() && !waiting) break;
+            if (!in_flight && !has_to_ask()) break;
         }
     }
-    assert(!in_flight() && !waiting);
+    assert(!in_flight && !has_to_ask());
     for (Man *m = men; m < men + MEN; m++) leaves(m);
     for (int i = 0; i < 100; i++) {
         begins();
         hears(SIZE_MAX);
     }
-    assert(!in_flight() && !waiting && !counts.locks && !out_bytes && in_bytes <= 3 * BASE);
+    assert(!in_flight && !has_to_ask() && !out_bytes && !in_bytes);
     for (int i = 0; i < CELLS; i++) assert(!locks[i]);
     for (Man *m = men; m < men + MEN; m++) m->serial = 0;
     alone_visit = 0;
@@ -367,11 +374,9 @@ int main(int argc, char **argv) {
     clients = places;
     end_of_clients = places + MEN;
     for (int i = 0; i < MEN; i++) men[i].c = &places[i];
-    if (FRAMES) { /* session.c wants no answer before the first batch */
-        server_came();
-        serve();
-        hears(SIZE_MAX);
-    }
+    server_came();
+    serve();
+    hears(SIZE_MAX);
 #ifdef __AFL_FUZZ_TESTCASE_LEN
     (void)argc, (void)argv;
     unsigned char *data = __AFL_FUZZ_TESTCASE_BUF;
@@ -388,7 +393,7 @@ int main(int argc, char **argv) {
         for (size_t i = 0; i < size; i++) data[i] = (uint8_t)random();
         run(data, size);
     }
-    printf("%lu requests in %lu batches, %lu locks given back\n", counts.requests, counts.batches, counts.given_back);
+    printf("%lu requests in %lu batches, %lu locks given back\n", counts.requests, counts.batches, given_back);
 #endif
     return 0;
 }

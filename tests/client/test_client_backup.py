@@ -176,7 +176,7 @@ class Backup(ClientCases):
             self.same("copy", command("copy", path, f"{room}/copy"), (0, "", ""))
             with open(path, "rb") as one, open(f"{room}/copy", "rb") as other:
                 self.same("the same bytes", one.read() == other.read(), True)
-            self.same("a file that is there", command("copy", path, f"{room}/copy"), (1, "", f"python3 -m oaut: [Errno 17] File exists: '{room}/copy'\n"))
+            self.same("a file that is there", command("copy", path, f"{room}/copy"), (1, "", f"python3 -m oaut: {room}/copy: File exists\n"))
             with open(path, "r+b") as file:
                 file.seek(33_562_624 + len(TEXT) + 8 + 5)
                 file.write(b"\x09")

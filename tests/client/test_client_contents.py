@@ -181,7 +181,7 @@ class Contents(ClientCases):
                     timeout=300,
                     env=ENVIRONMENT,
                 )
-            self.same("a device that is full", (done.returncode, done.stderr), (1, "python3 -m oaut: [Errno 28] No space left on device\n"))
+            self.same("a device that is full", (done.returncode, done.stderr), (1, "python3 -m oaut: No space left on device\n"))
 
     def test_how_far_it_is(self):
         class Terminal(io.StringIO):

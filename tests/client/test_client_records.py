@@ -1,8 +1,9 @@
 """What the client sends and what it makes of replies, over streams that are given."""
 import io
+import random
 import struct
 
-from clients import ASKED, DONE, K, LIBRARY, SEVEN, ClientCases, Kept, answer, hexed, item_of, oaut, scripted
+from clients import ASKED, DONE, K, LIBRARY, SEVEN, ClientCases, Kept, answer, hexed, item_of, library_of, oaut, play, scripted
 from oaut import I2, I4
 
 STANDARD = """DISP_E_UNKNOWNINTERFACE 80020001 DISP_E_MEMBERNOTFOUND 80020003 DISP_E_PARAMNOTFOUND 80020004 DISP_E_TYPEMISMATCH 80020005
@@ -62,6 +63,38 @@ class Records(ClientCases):
         self.raises("a line that is no digits", oaut.Malformed, lambda: item_of(not_hex).release())
         self.raises("a body too long", ValueError, lambda: setattr(item_of(scripted()), "Any", ["a" * (oaut.TEXT_LIMIT // 2)] * 16))
 
+    def test_records_of_any_lengths(self):
+        """Bodies of one length are told apart together, and others one by one: each is what was written, wherever the bytes are cut."""
+        draw = random.Random(5)
+        for turn in range(200):
+            few = draw.choice(([16], [16, 48], [0, 1, 16, 300], range(1, 40)))
+            bodies = [draw.randbytes(draw.choice(few)) for _ in range(draw.randrange(1, 40))]
+            if turn % 2:
+                bodies.sort(key=len)
+            for framing in (oaut.Lines, oaut.Raw):
+                data, at, found = framing.pack(bodies), 0, []
+                for cut in sorted(draw.choices(range(len(data)), k=3)) + [len(data)]:
+                    some, at = framing.split(data[:cut], at, draw.choice((1, 3, 1_024)))
+                    found += some
+                rest, at = framing.split(data, at, 1_024)
+                if (found + rest, at) != (bodies, len(data)):
+                    self.tell(f"bodies of {framing.__name__}, turn {turn}", False, list(map(len, bodies)))
+                tags = range(turn, turn + len(bodies))
+                tagged = [struct.pack("<I", tag) + it for tag, it in zip(tags, bodies)]
+                if framing.tagged(tags, bodies, b"end") != framing.pack(tagged) + b"end":
+                    self.tell(f"tagged bodies of {framing.__name__}, turn {turn}", False, list(map(len, bodies)))
+        self.tell("bodies of any lengths", True)
+
+    def test_whole_numbers(self):
+        for of in oaut.INTEGERS.values():
+            for number in (of.low, of.high, 5):
+                fields = oaut.variant_field(oaut.spell(of(number)))
+                for body in (bytes(4) + b"\xff" * 4, bytes(8)):
+                    reply = body + bytes(4) + fields
+                    self.same(f"{of.__name__} {number}", item_of(scripted(reply)).Any, of(number))
+                self.raises(f"{of.__name__} {number} where nothing stands", oaut.Malformed, lambda: item_of(scripted(DONE[:12] + fields)).release())
+                self.raises(f"{of.__name__} {number}, cut", oaut.Malformed, lambda: item_of(scripted(DONE + fields[:-1])).Any)
+
     def test_tags(self):
         rising = scripted(DONE, DONE, answer(SEVEN))
         with rising.batch():
@@ -72,6 +105,18 @@ class Records(ClientCases):
         last.described, last._tag = LIBRARY, 0xFFFF_FFFF
         item_of(last).Count = 7
         self.same("tags begin again from 0", item_of(last).Any, I4(7))
+        for right in (True, False):
+            tags = [0xFFFF_FFFE, 0xFFFF_FFFF, 0 if right else 1, 1]
+            told = oaut.Raw.pack([struct.pack("<I", tag) + DONE for tag in tags])
+            last = oaut.connect(io.BytesIO(told), Kept(), group=1)
+            last.described, last._tag = LIBRARY, 0xFFFF_FFFE
+            try:
+                with last.batch():
+                    for number in range(4):
+                        item_of(last).Count = number
+                self.tell("a batch over the last tag", right)
+            except oaut.Malformed:
+                self.tell("a reply of another tag in a batch", not right)
 
     def test_groups(self):
         """Behind each exchange stands what ends a group, whose reply is read with the next exchange."""
@@ -109,4 +154,12 @@ class Records(ClientCases):
         self.raises("no such parameter", TypeError, lambda: item_of(scripted()).Cell(Rwo=1))
         self.raises("a parameter twice", TypeError, lambda: item_of(scripted()).Cell(5, Row=5))
         self.raises("an own word is no member", AttributeError, lambda: setattr(item_of(scripted()), "number", 5))
+        for name in ("Count", "count", "COUNT", "cOuNT"):
+            self.same(f"{name} in its case", getattr(item_of(scripted(answer(SEVEN))), name), I4(7))
+        with library_of("properties: [id(1)] long Number; [id(2)] long release; [id(3)] long __len;") as path, play(path) as server:
+            item = server.create("Item")
+            item.Number, item.Release = 5, 6
+            self.same("own words in another case", (item.Number, item.RELEASE, item.number), (I4(5), I4(6), 1))
+            self.raises("an own word as it is", AttributeError, lambda: setattr(item, "release", 5))
+            self.raises("what Python asks for", AttributeError, lambda: getattr(item, "__len"))
         self.tell("members in dir", {"Count", "Cell", "Clear", "release"} <= set(dir(item_of(scripted()))))

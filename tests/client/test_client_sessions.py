@@ -33,6 +33,21 @@ with oaut.play(sys.argv[1], program=sys.argv[2]) as server:
     time.sleep(0.2)
     print(item.Count)
 """
+# a program of which each reply comes a while behind the one before
+LATE = """
+import os, subprocess, sys, threading, time
+child = subprocess.Popen(sys.argv[1:], stdin=subprocess.PIPE, stdout=subprocess.PIPE, close_fds=False)
+def ask():
+    while data := os.read(0, 65536):
+        child.stdin.write(data)
+        child.stdin.flush()
+    child.stdin.close()
+threading.Thread(target=ask, daemon=True).start()
+while head := child.stdout.read(4):
+    os.write(1, head + child.stdout.read(int.from_bytes(head, "little")))
+    time.sleep(0.2)
+sys.exit(child.wait())
+"""
 NO_LIBRARY = "[uuid(11223344-5566-7788-99AA-BBCCDDEEFF01)]\r\nlibrary Demo {\t/* \u00e9\x01 */ ] }"
 
 
@@ -129,6 +144,16 @@ class Sessions(ClientCases):
             gc.collect()
             self.tell("one that is stuck is killed", child.returncode == -signal.SIGKILL and time.monotonic() - begun < 30, child.returncode)
 
+    def test_a_session_that_is_dropped_while_a_reply_is_late(self):
+        """The program writes each reply a while behind the one before: what ended the group finds a reader, and so its end is no fault."""
+        with stores_of() as path:
+            server = oaut.serve(path, FULL, program=[sys.executable, "-c", LATE, PROGRAM])
+            server.create("Item").Count = 7
+            child = server._connection.child
+            del server
+            gc.collect()
+            self.same("its child has ended", child.returncode, 0)
+
     def test_two_threads(self):
         ours, theirs = socket.socketpair()
         with ours, theirs:
@@ -160,6 +185,26 @@ class Sessions(ClientCases):
                 self.same("a batch of 16 is written at once", item.Count, I4(63))
             finally:
                 oaut.connection._thread.start_new_thread = starts
+
+    def test_a_socket_is_left_empty(self):
+        """Who answers the end of the last group still finds somebody, and who uses the socket next does not find that answer."""
+        ours, theirs = socket.socketpair()
+        with ours, theirs:
+
+            def answer():
+                theirs.recv(1_000)
+                theirs.sendall(oaut.Raw.pack([bytes([1, 0, 0, 0]) + bytes(12)]))
+                time.sleep(0.2)
+                theirs.sendall(oaut.Raw.pack([bytes([255] * 4) + bytes(12)]))
+
+            answering = threading.Thread(target=answer)
+            answering.start()
+            server = oaut.connect(ours)
+            server.exchange([oaut.records.ask_list()])
+            server.close()
+            answering.join(300)
+            theirs.sendall(b"next")
+            self.same("what is read next", ours.recv(100), b"next")
 
     def test_a_group_needs_no_number(self):
         for group in ("1", "5", "1024"):
@@ -419,6 +464,7 @@ class Opening(ClientCases):
             self.raises("no store", FileNotFoundError, lambda: serve(f"{path}.none"))
             self.raises("no store, and no library", FileNotFoundError, lambda: open_(f"{path}.none"))
             self.raises("what is no store", oaut.Stopped, lambda: serve(FULL), fault="oaut: not a store")
+            self.raises("no library, so nothing was asked", oaut.Stopped, lambda: play(f"{path}.none"), cause="No such file or directory", may_stand=False)
 
     def test_opening(self):
         with tempfile.TemporaryDirectory() as room:

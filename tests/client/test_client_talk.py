@@ -133,8 +133,15 @@ class Talking(ClientCases):
             )
         with tempfile.TemporaryDirectory() as room:
             oaut.make_store(f"{room}/it.store", FULL, program=PROGRAM)
-            for given, said in (("create Item\nput 1 Count 7\n", "<Item 1>\n"), ("list\nget 1 Count\n", "<Item 1>\nI4(7)\n")):
-                self.same("a prompt over a store", command(["talk", FULL, "--store", f"{room}/it.store", "--program", PROGRAM], given), (0, said, ""))
+            over = ["--store", f"{room}/it.store", "--program", PROGRAM]
+            for library, given, said in (
+                ([FULL], "create Item\nput 1 Count 7\n", "<Item 1>\n"),
+                ([FULL], "list\nget 1 Count\n", "<Item 1>\nI4(7)\n"),
+                ([], "list\nget 1 Count\n", "<Item 1>\nI4(7)\n"),
+            ):
+                self.same(f"a prompt over a store, library {library}", command(["talk", *library, *over], given), (0, said, ""))
+        status, out, err = command(["talk", "--program", PROGRAM], "")
+        self.tell("a prompt over nothing", (status, out) == (2, "") and err.endswith("talk takes LIB, or --store STORE\n"), (status, out, err))
         for line in ("nothing", "get 5 Count", "get 1 none", "put 1 Count", "put 1 Count )", "get 1 Cell[", "create None", "get x", "get 1"):
             status, out, err = command(["talk", FULL, "--program", PROGRAM], f"create Item\n{line}\n")
             self.tell(

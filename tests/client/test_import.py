@@ -270,7 +270,7 @@ class Text(ClientCases):
         self.same("its status and output", (done.returncode, done.stdout, done.stderr.splitlines()[0]), (0, "", 'import "oaidl.idl": skipped'))
         self.same("its last line", done.stderr.splitlines()[-1], "1 interfaces, 1 coclasses, 4 members kept; 2 lines of what is left out")
         self.tell("the file", "[in, optional, defaultvalue(0)] DECIMAL /* double */ a" in text(f"{self.room}/out.idl"))
-        for words, said in ((("a.idl", "--only", "Y"), "the library has no coclass Y"), (("none.idl",), "[Errno 2] No such file or directory: 'none.idl'")):
+        for words, said in ((("a.idl", "--only", "Y"), "the library has no coclass Y"), (("none.idl",), "none.idl: No such file or directory")):
             done = self.run_it(*words)
             self.same(f"{words}", (done.returncode, done.stdout, done.stderr), (1, "", f"python3 -m oaut: {said}\n"))
 

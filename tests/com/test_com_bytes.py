@@ -1,7 +1,6 @@
 """The COM bridge's reading of bytes, under Linux with sanitizers. What is not installed leaves its tests out, each by its name."""
 import decimal
 import functools
-import glob
 import math
 import os
 import random
@@ -151,18 +150,6 @@ def exact(vt, bits, declared):
 
 class Source(Cases):
     """What is looked at in the sources alone."""
-
-    def test_one_style(self):
-        """As clang-format has it: another version of it may have another mind."""
-        said = built(["clang-format", "--version"])[1] if shutil.which("clang-format") else ""
-        if " 14." not in said:
-            self.skipTest("clang-format 14 not there")
-        files = [it for folder in (COM, TESTS, f"{TESTS}/linux") for it in glob.glob(f"{folder}/*.[ch]")]
-        self.tell(
-            "clang-format",
-            len(files) > 20 and built(["clang-format", "--dry-run", "-Werror", *files]) == (0, ""),
-            built(["clang-format", "--dry-run", "-Werror", *files])[1][:2000],
-        )
 
     def test_the_limit_of_a_request_is_the_servers(self):
         own = re.search(r"^#define MAX_BODY (\w+)u ", text(f"{COM}/wire.h"), re.MULTILINE)[1]

@@ -27,6 +27,7 @@ oaut = wire.oaut
 COM = f"{ROOT}/clients/com"
 TESTS = f"{COM}/tests"
 TIMEOUT = 300
+NOT_STARTED = b"Application could not be started"
 # behind so many seconds what is not begun under Wine is left out, each by its name
 LIMIT, BEGUN = float(os.environ.get("OAUT_COM_SECONDS") or 210), time.monotonic()
 
@@ -220,13 +221,16 @@ class Wine:
         return subprocess.Popen(["wine", *words], env=self.env, cwd=self.room, stdin=subprocess.DEVNULL, stdout=subprocess.PIPE, stderr=subprocess.DEVNULL)
 
     def run(self, *words, given=None):
-        """The status and the output; where it takes too long, None and what came."""
-        try:
-            done = subprocess.run(
-                ["wine", *words], env=self.env, cwd=self.room, input=given or b"", stdout=subprocess.PIPE, stderr=subprocess.DEVNULL, timeout=TIMEOUT
-            )
-        except subprocess.TimeoutExpired as late:
-            return None, plain(late.stdout or b"")
+        """The status and the output; where it takes too long, None and what came. On a busy machine Wine now and then starts nothing of what is asked: it is asked twice."""
+        for _ in range(2):
+            try:
+                done = subprocess.run(
+                    ["wine", *words], env=self.env, cwd=self.room, input=given or b"", stdout=subprocess.PIPE, stderr=subprocess.DEVNULL, timeout=TIMEOUT
+                )
+            except subprocess.TimeoutExpired as late:
+                return None, plain(late.stdout or b"")
+            if not done.stdout.startswith(NOT_STARTED):
+                break
         return done.returncode, plain(done.stdout)
 
     def close(self):

@@ -1,7 +1,4 @@
-"""The gateway, clients/gateway, as its tests have it: built once, with sanitizers where the compiler has them, and started over a store of its own.
-
-Where SIDE is `frames`, as clients/gateway/build.sh has it, its server is the one that shared.py imitates.
-"""
+"""The gateway, clients/gateway, as its tests have it: built once, with sanitizers where the compiler has them, and started over a store of its own."""
 import contextlib
 import functools
 import os
@@ -20,7 +17,6 @@ from running import PROGRAM, ROOT, run_in
 from wire import oaut
 
 GATEWAY = f"{ROOT}/clients/gateway"
-SERVED = f"{ROOT}/tests/gateway/shared.py" if os.environ.get("SIDE") == "frames" else PROGRAM
 FULL = f"{ROOT}/examples/full.idl"
 SANITIZED = "-O1 -g -fsanitize=address,undefined -fno-sanitize-recover=all"
 SECONDS = 180  # of each thing that is waited for
@@ -113,7 +109,7 @@ class Gateway:
         under=(),
         starts=True,
         library=FULL,
-        program=SERVED,
+        program=PROGRAM,
         **variables,
     ):
         self.own = tempfile.TemporaryDirectory(dir=fast_folder()) if room is None else None
@@ -130,9 +126,7 @@ class Gateway:
 
     def start(self, waits=True):
         self.error = open(f"{self.room}/said", "a+b")
-        self.process = subprocess.Popen(
-            self.words, stderr=self.error, env={**os.environ, "OAUT_PROGRAM": PROGRAM, **{name: str(it) for name, it in self.variables.items()}}
-        )
+        self.process = subprocess.Popen(self.words, stderr=self.error, env={**os.environ, **{name: str(it) for name, it in self.variables.items()}})
         if waits:
             self.wait_for(lambda: self.process.poll() is not None or self.answers(), "the gateway does not listen")
         return self
@@ -156,7 +150,11 @@ class Gateway:
     def __enter__(self):
         return self
 
-    def __exit__(self, *_):
+    def __exit__(self, kind, *_):
+        """Ends it. Where a case has failed, what the gateway said until then is printed."""
+        if kind and self.process:
+            with open(f"{self.room}/said", errors="replace") as file:
+                print(f"the gateway's status is {self.process.poll()}; it said:\n{file.read()[-2000:]}", flush=True)
         if self.process and self.process.poll() is None:
             self.process.kill()
             self.process.wait()

@@ -6,11 +6,10 @@ In a round 16 clients ask over all opcodes at once, some in pieces, some by line
 place of netem, which not every kernel has), and hang up in several ways; meanwhile the server, the gateway or both are killed, the device fails, or nothing happens. Between gateway and server stands a program that writes down what goes by in either direction: the order
 in which the server was asked. Behind each round this is looked at:
 
-- each reply of the server is the model's (tests/support/model.py), request by request in that order;
-- each client's requests stand there in its own order, none twice, none that it did not send, and each reply that it got is the one of its own request;
+- each reply of the server is the model's, request by request in that order, and to whom asked it: locks have owners, and end with them (tests/support/sharing.py);
+- each client's requests stand there in its own order and under one number, none twice, none that it did not send, and each reply that it got is the one of its own
+  request;
 - a request that was sent behind the reply to another one stands behind it;
-- an UNLOCK is refused by the gateway only where its client holds no such lock, and none that goes through is of what its client does not hold; the locks of who
-  has gone are given back;
 - nobody comes between two requests of who has the server alone;
 - the store opens to the model's objects behind some first of the requests, all that were answered among them.
 """
@@ -30,17 +29,17 @@ import time
 
 sys.path.append(f"{os.path.dirname(os.path.abspath(__file__))}/../support")
 from asked import REPLACE, Answering, Bytes
-from codes import E_UNEXPECTED, WRITE_FAULT
+from codes import WRITE_FAULT
 from drawn import Session
 from due import dump_of
 from gateways import FAILS, Gateway, library, record
 from kept import changed
 from model import LIBRARY, Refusal
 from running import PROGRAM, run_in
-from wire import oaut
+from sharing import Owned, Sharing, Streams, told_of
 
 CLIENTS = 16
-END = struct.pack("<IHH", 0xFFFF_FFFF, 12, 0)
+OWN = 0xFFFF_FFFE  # the gateway's own number
 E_FAIL = 0x8000_4005
 KILLS = ("nothing", "server", "gateway", "both", "device", "end")
 LIBRARIES = {}
@@ -104,6 +103,14 @@ class Guide(Session):
 class Replay(Answering):
     """The model, which knows the libraries that were made up."""
 
+    def __init__(self):
+        super().__init__()
+        self.model = Owned()
+
+    def forget_locks(self):
+        super().forget_locks()
+        self.model.owned.clear()
+
     def act(self, opcode, body):
         if opcode != REPLACE:
             return super().act(opcode, body)
@@ -116,13 +123,26 @@ class Replay(Answering):
         return self.model.replace(LIBRARIES.get(bytes(new)))
 
 
-def words_of(body):
-    """What tells one lock from another: object, DISPID, interface and arguments."""
-    return body[8:32] + body[56:]
+class Asked(Streams):
+    """What a server was asked, in order: pairs of a client and a body, or of a client and, at its end, whether what came last was no request."""
+
+    def __init__(self, stream):
+        super().__init__()
+        self.all = []
+        self.read(stream)
+
+    def body(self, client, body):
+        self.all.append((client, body))
+
+    def over(self, client, refused):
+        self.all.append((client, refused))
 
 
-def is_lock(body, opcode):
-    return len(body) >= 64 and struct.unpack_from("<H", body, 4)[0] == opcode
+def told_by(answering, client, what):
+    """What the model tells to that."""
+    one = Sharing(answering)
+    one.body(client, what) if isinstance(what, bytes) else one.over(client, what)
+    return one.out
 
 
 def bad_line(sock, seed):
@@ -273,7 +293,7 @@ class Round:
             time.sleep(0.0005)
         if self.gateway.process.poll() is None:
             if not struck or self.kind == "nothing":
-                Gateway.wait_for(lambda: self.gateway.counters().get("oaut_gateway_locks") == 0, "locks are left")
+                Gateway.wait_for(lambda: self.gateway.counters().get("oaut_gateway_clients") == 0, "clients are left")
             self.gateway.process.terminate()
         status = self.gateway.process.wait(60)
         with open(f"{self.gateway.room}/said") as file:
@@ -303,7 +323,7 @@ class Round:
     # --- what is looked at
 
     def sessions(self):
-        """Of each server in turn what it was asked, and what it answered."""
+        """Of each server in turn what it was asked, in order, and what it told."""
         found = []
         for name in sorted(it for it in os.listdir(self.gateway.room) if it.startswith("log.")):
             with open(f"{self.gateway.room}/{name}", "rb") as file:
@@ -313,46 +333,43 @@ class Round:
                 size = int.from_bytes(data[at + 1 : at + 5], "little")
                 streams[data[at : at + 1]] += data[at + 5 : at + 5 + size]
                 at += 5 + size
-            found.append(tuple(whole(bytes(streams[it])) for it in (b"C", b"S")))
+            asked = Asked(bytes(streams[b"C"]))
+            asked.end()
+            found.append((asked.all, told_of(bytes(streams[b"S"]), cut=True)))
         return found
 
     def judge(self):
         visits = {it.number: it for it in self.visits}
-        position, order = {}, []
-        replies = {}
-        for asked, answered in self.sessions():
-            self.states = self.followed(asked, answered)
-            if len(answered) > len(asked):
-                raise Wrong("the server answers what was not asked")
-            for place, body in enumerate(asked):
-                tag = struct.unpack_from("<I", body)[0]
-                if body == END:
+        position, order, replies = {}, [], {}
+        for asked, told in self.sessions():
+            self.states = self.followed(asked, told)
+            there = {}
+            for client, body in asked:
+                if not isinstance(body, bytes):
+                    there.pop(client, None)
                     continue
+                tag = struct.unpack_from("<I", body)[0]
                 visit = visits.get(tag >> 12)
-                if visit is None or (tag & 4095) >= len(visit.bodies):
+                if visit is None or (tag & 4095) >= len(visit.bodies) or body != visit.bodies[tag & 4095]:
                     raise Wrong(f"nobody sent {body.hex()}")
-                own = visit.bodies[tag & 4095]
-                if body != own:
-                    if is_lock(own, oaut.LOCK) and body == own[:4] + bytes([oaut.UNLOCK]) + own[5:]:
-                        continue  # a lock that is given back
-                    raise Wrong(f"{own.hex()} became {body.hex()}")
+                if there.setdefault(client, visit) != visit:
+                    raise Wrong(f"two clients have the number {client}")
                 if tag in position:
                     raise Wrong(f"{body.hex()} was asked twice")
                 position[tag] = len(order)
                 order.append(tag)
-                if place < len(answered):
-                    replies[tag] = answered[place]
+            replies.update((struct.unpack_from("<I", it, 4)[0], it[4:]) for _, it in told if it)
         for visit in self.visits:
             self.judge_visit(visit, position, replies)
         self.judge_time(visits, order)
         self.judge_alone(visits, order)
 
-    def followed(self, asked, answered):
+    def followed(self, asked, told):
         """From each state that the server may have begun with: those that it may have left."""
         found, faults = [], []
         for it in self.states:
             try:
-                found += self.follow(it, asked, answered)
+                found += self.follow(it, asked, told)
             except Wrong as fault:
                 faults.append(fault)
         if not found:
@@ -360,26 +377,15 @@ class Round:
         return found
 
     def judge_visit(self, visit, position, replies):
-        last, held = -1, collections.Counter()
+        last = -1
         for serial, body in enumerate(visit.bodies):
             tag = visit.number << 12 | serial
             got = visit.replies[serial] if serial < len(visit.replies) else None
-            if tag in position:
-                if position[tag] < last:
-                    raise Wrong("a client's requests change their order")
-                last = position[tag]
-                if got is not None and got != replies.get(tag):
-                    raise Wrong(f"the reply to {body.hex()} is {got.hex()}, not {replies.get(tag, b'').hex()}")
-                done = got is not None and struct.unpack_from("<I", got, 4)[0] == 0
-                if is_lock(body, oaut.UNLOCK):
-                    if not held[words_of(body)]:
-                        raise Wrong("a lock is given up that its client does not hold")
-                    held[words_of(body)] -= done
-                elif is_lock(body, oaut.LOCK):
-                    held[words_of(body)] += done
-            elif got is not None:
-                if got != struct.pack("<IIII", tag, E_UNEXPECTED, oaut.NO_INDEX, 0) or not is_lock(body, oaut.UNLOCK) or held[words_of(body)]:
-                    raise Wrong(f"{body.hex()} is answered by the gateway: {got.hex()}")
+            if position.get(tag, len(position)) < last:
+                raise Wrong("a client's requests change their order")
+            last = position.get(tag, len(position))
+            if got is not None and (tag not in position or got != replies.get(tag)):
+                raise Wrong(f"the reply to {body.hex()} is {got.hex()}, not {replies.get(tag, b'').hex()}")
         if self.kind == "nothing" and len(visit.replies) != len(visit.bodies) and visit.half:
             raise Wrong(f"{len(visit.bodies)} requests have {len(visit.replies)} replies")
 
@@ -402,29 +408,37 @@ class Round:
             if those[-1] - those[0] + 1 != len(those):
                 raise Wrong(f"somebody comes between two requests of the visit {number}, which is alone")
 
-    def follow(self, answering, asked, answered):
-        """The model through one server's requests. Gives the states that it may have left: groups that were not answered are kept or not."""
+    def follow(self, answering, asked, told):
+        """The model through what one server was asked. Gives the states that it may have left: a group that was not answered is kept or not."""
         answering.forget_locks()
-        open_requests, place = asked[len(answered) :], len(answered)
-        for place, got in enumerate(answered):
-            body = asked[place]
-            if struct.unpack_from("<I", got, 4)[0] in (WRITE_FAULT, E_FAIL):
-                codes = [struct.unpack_from("<I", it, 4)[0] for it in answered[place:]]
+        place = heard = 0
+        while heard < len(told) and place < len(asked):
+            code = struct.unpack_from("<I", told[heard][1], 8)[0] if told[heard][1] else 0
+            if code in (WRITE_FAULT, E_FAIL):
+                codes = [struct.unpack_from("<I", it, 8)[0] for _, it in told[heard:] if it]
                 faults = codes.count(WRITE_FAULT)
                 if codes != [WRITE_FAULT] * faults + [E_FAIL] * (len(codes) - faults) or not faults:
                     raise Wrong(f"behind a device's fault the codes are {codes}")
-                open_requests = asked[place : place + faults]
-                break
-            due = answering.reply(body)
-            if got != due:
-                raise Wrong(f"{body.hex()} is answered by {got.hex()}, not {due.hex()}")
-        left = [copy.deepcopy(answering)] if open_requests else [answering]
-        for place, body in enumerate(open_requests, 1):
-            apart = struct.unpack_from("<H", body, 4)[0] == REPLACE
-            if apart and place > 1:
+                bodies = [it for it in asked[place:] if isinstance(it[1], bytes)][:faults]
+                return self.left(answering, bodies)
+            due = told_by(answering, *asked[place])
+            if told[heard : heard + len(due)] != due[: len(told) - heard]:
+                raise Wrong(f"to {asked[place]} is told {told[heard : heard + len(due)]}, not {due}")
+            place, heard = place + 1, heard + len(due)
+        if heard < len(told):
+            raise Wrong(f"the server tells what was not asked: {told[heard:]}")
+        return self.left(answering, asked[place:])
+
+    @staticmethod
+    def left(answering, asked):
+        """The states where this was asked and not answered."""
+        left = [copy.deepcopy(answering)]
+        for place, (client, what) in enumerate(asked, 1):
+            apart = isinstance(what, bytes) and struct.unpack_from("<H", what, 4)[0] == REPLACE
+            if apart:
                 left.append(copy.deepcopy(answering))
-            answering.reply(body)
-            if apart or place == len(open_requests):
+            told_by(answering, client, what)
+            if apart or place == len(asked):
                 left.append(copy.deepcopy(answering))
         return left
 
@@ -440,18 +454,6 @@ class Round:
             if dump_of(it.model) == out.decode() and it.model.library.text() == text:
                 return it.model
         raise Wrong(f"the store holds none of the {len(self.states)} states that it may hold")
-
-
-def whole(stream):
-    """The records of a stream, as far as they are whole."""
-    found, at = [], 0
-    while at + 4 <= len(stream):
-        size = struct.unpack_from("<I", stream, at)[0]
-        if at + 4 + size > len(stream):
-            break
-        found.append(stream[at + 4 : at + 4 + size])
-        at += 4 + size
-    return found
 
 
 def rounds(first, count, tells=lambda *_: None):

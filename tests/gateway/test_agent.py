@@ -81,6 +81,7 @@ class Agent:
             "OCF_ROOT": OCF_ROOT,
             "OCF_RESOURCE_INSTANCE": "it",
             "OCF_RESKEY_CRM_meta_timeout": f"{timeout}000",
+            "OCF_RESKEY_CRM_meta_interval": "3000",
             **{f"OCF_RESKEY_{name}": it for name, it in given.items()},
         }
         # (a file, since what it starts keeps the streams that it was given)
@@ -197,10 +198,12 @@ class AgentCases(Cases):
                 for it in range(100):
                     item.Count = it
             self.does("it is not for this host", agent.act("monitor"), INSTALLED, "device has failed here")
+            self.does("a probe has it stopped", agent.act("monitor", CRM_meta_interval="0"), GENERIC, "device has failed here")
             deadline = time.monotonic() + SECONDS
             while not os.path.exists(f"{agent.run}/it.status") and time.monotonic() < deadline:
                 time.sleep(0.1)
             self.does("nor once it has ended", agent.act("monitor"), INSTALLED, "device has failed here")
+            self.does("and a probe finds nothing of it", agent.act("monitor", CRM_meta_interval="0"), NOT_RUNNING)
             self.does("it stops", agent.act("stop"), OK)
             self.does("that is all of it", agent.act("monitor"), NOT_RUNNING)
 

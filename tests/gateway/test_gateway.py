@@ -18,10 +18,10 @@ import unittest
 
 import wire
 from codes import ARRAY_IS_LOCKED, BAD_STUB, E_UNEXPECTED
-from gateways import FAILS, GATEWAY, SECONDS, SERVED, Gateway, bodies_of, built, compiled, hear, left_out, library, record, records, rest
+from gateways import FAILS, GATEWAY, SECONDS, Gateway, bodies_of, built, compiled, hear, left_out, library, record, records, rest
 from preloaded import COMPILER
 from running import FULL as FULL_LIBRARY
-from running import CREATED, ROOT, Cases, run_in
+from running import CREATED, PROGRAM, ROOT, Cases, run_in
 from test_hostile_system import CUT
 from test_sessions import ANSWERED
 from wire import oaut
@@ -96,29 +96,19 @@ class Building(Cases):
             names = re.findall(r"`(.*?)`", names)
             counted += len(names)
             self.tell(f"the lines of {', '.join(names)}", int(count.replace(",", "")) == sum(lines[it] for it in names), sum(lines[it] for it in names))
-        self.tell(
-            "all files but one", counted == len(lines) - 1 and re.search(rf"a lock: {lines['frames.c']} lines", re.sub(r"\s+", " ", text)), (counted, lines)
-        )
-
-    @left_out("clang-format")
-    def test_the_sources_are_formatted(self):
-        done = subprocess.run(["clang-format", "--dry-run", "-Werror", *glob.glob(f"{GATEWAY}/*.[ch]")], capture_output=True, text=True)
-        self.tell("clang-format has nothing to change", done.returncode == 0, done.stderr[:500])
+        self.tell("all files", counted == len(lines), (counted, lines))
 
     def test_no_reply_goes_astray(self):
-        """Made-up clients and a made-up server drive the part that knows of records, with either side of the server."""
+        """Made-up clients and a made-up server drive the part that knows of records and frames."""
         flags = ["-g", "-O1", "-std=gnu11", "-D_GNU_SOURCE", '-DVERSION="0"', "-fsanitize=address,undefined", "-fno-sanitize-recover=all"]
-        for side, other in (("session", "frames"), ("frames", "session")):
-            with tempfile.TemporaryDirectory() as room:
-                sources = [it for it in glob.glob(f"{GATEWAY}/*.c") if not it.endswith(("/main.c", f"/{other}.c"))]
-                done = compiled(["cc", *flags, "-Dmain=gateway_main", "-c", f"{GATEWAY}/main.c", "-o", f"{room}/main.o"], "")
-                self.tell(f"the gateway is compiled, {side}", done == (0, ""), done)
-                done = compiled(
-                    ["cc", *flags, f"-DFRAMES={side == 'frames':d}", f"{GATEWAY}/tests/fuzz.c", *sources, f"{room}/main.o", "-o", f"{room}/fuzz"], ""
-                )
-                self.tell(f"the driver is compiled, {side}", done == (0, ""), done)
-                done = subprocess.run([f"{room}/fuzz", "1000", os.environ.get("OAUT_SEED") or "1"], capture_output=True, text=True)
-                self.tell(f"a thousand inputs, {side}", done.returncode == 0 and " locks given back" in done.stdout, done.stderr[-2000:])
+        with tempfile.TemporaryDirectory() as room:
+            sources = [it for it in glob.glob(f"{GATEWAY}/*.c") if not it.endswith("/main.c")]
+            done = compiled(["cc", *flags, "-Dmain=gateway_main", "-c", f"{GATEWAY}/main.c", "-o", f"{room}/main.o"], "")
+            self.tell("the gateway is compiled", done == (0, ""), done)
+            done = compiled(["cc", *flags, f"{GATEWAY}/tests/fuzz.c", *sources, f"{room}/main.o", "-o", f"{room}/fuzz"], "")
+            self.tell("the driver is compiled", done == (0, ""), done)
+            done = subprocess.run([f"{room}/fuzz", "2000", os.environ.get("OAUT_SEED") or "1"], capture_output=True, text=True)
+            self.tell("two thousand inputs", done.returncode == 0 and " locks given back" in done.stdout, done.stderr[-2000:])
 
 
 @needs_cc
@@ -489,33 +479,35 @@ class Bounds(GatewayCases):
         self.tell("a line tells of clients, requests and batches", True)
 
 
-# a server whose group takes 12 ms, and that answers its end 4 ms behind its requests, when their clients have long asked again; it tells how long behind that the next batch came
+# a server whose group takes 12 ms, and that tells the gateway so 4 ms behind the replies, when their clients have long asked again; it tells how long behind that the next batch came
 LATE = r"""#!/usr/bin/env python3
 import os, struct, sys, time
 if sys.argv[1] == "dump":
     sys.exit(0)
 data, due, ended = b"", [], None
+frame = lambda client, some: struct.pack("<II", client, len(some)) + some
 while some := os.read(0, 65536):
     if ended:
         print(f"{1e3 * (time.monotonic() - ended):.3f} ms", file=sys.stderr, flush=True)
         ended = None
     data += some
-    while len(data) >= 4 and len(data) >= 4 + (size := struct.unpack_from("<I", data)[0]):
-        tag, opcode = struct.unpack_from("<IH", data, 4)
-        data = data[4 + size :]
-        if opcode != 12:
-            due.append(tag)
-            continue
-        time.sleep(0.008 if due else 0)
-        os.write(1, b"".join(struct.pack("<IIIII", 16, it, 0, 0xFFFFFFFF, 0) for it in due))
-        time.sleep(0.004 if due else 0)
-        ended, due = time.monotonic() if due else None, []
-        os.write(1, struct.pack("<IIIII", 16, tag, 0x800706F7, 0xFFFFFFFF, 0))
+    while len(data) >= 8 and len(data) >= 8 + (size := struct.unpack_from("<I", data, 4)[0]):
+        client, given = struct.unpack_from("<I", data)[0], data[8 : 8 + size]
+        data = data[8 + size :]
+        if size:
+            due.append(frame(client, struct.pack("<IIIII", 16, struct.unpack_from("<I", given, 4)[0], 0, 0xFFFFFFFF, 0)))
+        elif client == 0xFFFFFFFE:
+            time.sleep(0.008 if due else 0)
+            os.write(1, b"".join(due))
+            time.sleep(0.004 if due else 0)
+            ended, due = time.monotonic() if due else None, []
+            os.write(1, frame(client, b""))
+        elif client != 0xFFFFFFFF:
+            os.write(1, frame(client, b""))
 """
 
 
 @needs_cc
-@unittest.skipIf(os.environ.get("SIDE") == "frames", "the server that it imitates knows no frames")
 class Waiting(Cases):
     """A batch waits for those that were just answered, 2 ms at most, and for nobody else. (Times are the least of many: a machine may be busy.)"""
 
@@ -600,7 +592,7 @@ class Stops(Cases):
         with tempfile.TemporaryDirectory() as room:
             program = f"{room}/program"
             with open(program, "w") as file:
-                file.write(f'#!/bin/sh\n[ "$1" != serve ] || export LD_PRELOAD="{library("fails", FAILS)[0]}"\nexec "{SERVED}" "$@"\n')
+                file.write(f'#!/bin/sh\n[ "$1" != serve ] || export LD_PRELOAD="{library("fails", FAILS)[0]}"\nexec "{PROGRAM}" "$@"\n')
             os.chmod(program, 0o755)
             self.device_fails(program)
 
@@ -860,16 +852,14 @@ class Noise(Cases):
                     sock.close()
             for it in socks:
                 it.close()
-            with gateway.session() as server:
-                item = server.object(number, "Item")
-                until = time.monotonic() + SECONDS
-                while time.monotonic() < until:  # until the locks of who has gone are given back
-                    with contextlib.suppress(oaut.ArrayIsLocked):
-                        item.Grid = [3]
-                        break
-                    time.sleep(0.01)
-                self.tell("a client is served behind it", list(item.Grid) == [3] and sent > 10, sent)
-            Gateway.wait_for(lambda: gateway.counters()["oaut_gateway_locks"] == 0, "locks are left")
+            served, until = False, time.monotonic() + SECONDS
+            while not served and time.monotonic() < until:  # until who has gone has left its place, and its locks are given back
+                with contextlib.suppress(oaut.Stopped, oaut.ArrayIsLocked), gateway.session() as server:
+                    item = server.object(number, "Item")
+                    item.Grid = [3]
+                    served = list(item.Grid) == [3]
+                time.sleep(0.01)
+            self.tell("a client is served behind it", served and sent > 10, (served, sent))
             status, said = gateway.end()
             self.tell("its end", status == 0 and "Sanitizer" not in said and "runtime error" not in said, said[-2000:])
 

@@ -5,11 +5,13 @@ import os
 import struct
 import unittest
 
+import worked
+from codes import E_UNEXPECTED, WRITE_FAULT
 from gateways import built
-from histories import KILLS, Round, Visit, Wrong, rounds
+from histories import KILLS, Replay, Round, Visit, Wrong, rounds
 from preloaded import COMPILER
 from running import Cases
-from wire import oaut
+from sharing import STUB, oaut
 
 ROUNDS = 20
 
@@ -44,27 +46,60 @@ class Rules(Cases):
             return str(fault)
         return None
 
-    def test_rules(self):
+    def test_rules_of_a_client(self):
         tag = lambda at: 1 << 12 | at
-        call = lambda at, opcode, row: struct.pack("<I", tag(at)) + oaut.ask_call(opcode, 1, 8, oaut.PROPERTYGET, [], [b"%d" % row])
         reply = lambda at, code=0: struct.pack("<IIII", tag(at), code, oaut.NO_INDEX, 0)
         lists = [struct.pack("<IHH", tag(it), 11, 0) for it in range(3)]
         well = [reply(it) for it in range(3)]
         order = [tag(it) for it in range(3)]
-        lock, other, unlock = call(0, oaut.LOCK, 1), call(1, oaut.UNLOCK, 2), call(1, oaut.UNLOCK, 1)
-        refused = reply(1, 0x8000_FFFF)
         rows = [
             ("nothing", (lists, well, order), None),
             ("two change their places", (lists, well, [order[1], order[0], order[2]]), "change their order"),
-            ("a reply that the server did not give", (lists, well, order[:2]), "answered by the gateway"),
-            ("an unlock of what is not held goes through", ([lock, other], well[:2], order[:2]), "does not hold"),
-            ("an unlock of what is held does", ([lock, unlock], well[:2], order[:2]), None),
-            ("an unlock of what is held is refused here", ([lock, unlock], [well[0], refused], order[:1]), "answered by the gateway"),
-            ("an unlock of what is not held is", ([lock, other], [well[0], refused], order[:1]), None),
+            ("one is left out, and one behind it is not", (lists, well[:1], [order[0], order[2]]), "change their order"),
+            ("a reply to what was not asked", (lists, well, order[:2]), "the reply to"),
         ]
         for what, given, says in rows:
             said = self.judged(*given)
             self.tell(what, said is None if says is None else said is not None and says in said, said)
+
+    def test_rules_of_the_server(self):
+        tagged = lambda tag, request: struct.pack("<I", tag) + request
+        call = lambda tag, opcode: tagged(tag, oaut.ask_call(opcode, 1, 8, oaut.PROPERTYGET, [], []))
+        asked = [
+            (3, tagged(1, oaut.ask_create(worked.ITEM))),
+            (3, tagged(2, worked.put(worked.GRID, worked.GRID_1_TO_6))),
+            (5, call(3, oaut.LOCK)),
+            (3, call(4, oaut.UNLOCK)),
+            (5, False),
+            (3, call(5, oaut.LOCK)),
+            (3, True),
+        ]
+        reply = lambda tag, code=0, fields=b"": struct.pack("<IIIII", 16 + len(fields), tag, code, oaut.NO_INDEX, 0) + fields
+        count = struct.pack("<II", 1, 0)
+        told = [(3, reply(1, fields=count)), (3, reply(2)), (5, reply(3, fields=count)), (3, reply(4, E_UNEXPECTED)), (5, b""), (3, reply(5, fields=count))]
+        told += [(3, STUB), (3, b"")]
+        other = lambda place, *them: [*told[:place], *them, *told[place + len(them) :]]
+        rows = [
+            ("all of it", told, None),
+            *((f"the first {count}", told[:count], None) for count in range(len(told))),
+            ("a reply to another client", other(1, (5, told[1][1])), "is told"),
+            ("two replies that change their places", other(0, told[1], told[0]), "is told"),
+            ("another's lock is given up", other(3, (3, reply(4, fields=bytes(8)))), "is told"),
+            ("the lock of who has gone counts", other(5, (3, reply(5, fields=struct.pack("<II", 2, 0)))), "is told"),
+            ("an end before a reply", other(2, (5, b""), (5, told[2][1])), "is told"),
+            ("a cut record that is not refused", [*told[:6], told[7]], "is told"),
+            ("more than was asked", [*told, (3, reply(6))], "was not asked"),
+            ("a fault of the device, then none", other(1, (3, reply(2, WRITE_FAULT))), "behind a device's fault"),
+        ]
+        for what, given, says in rows:
+            try:
+                Round.__new__(Round).follow(Replay(), asked, given)
+                said = None
+            except Wrong as fault:
+                said = str(fault)
+            self.tell(what, said is None if says is None else said is not None and says in said, said)
+
+    def test_rules_of_all(self):
         one, two = (Visit.__new__(Visit) for _ in range(2))
         one.sent_at, one.heard_at, two.sent_at, two.heard_at = [0], [1], [2], [3]
         for what, order, wrong in (

@@ -228,6 +228,8 @@ class Beside(Cases):
         for words, wanted in (
             (["oaut", "se"], ["serve"]),
             (["oaut", "serve", "--g"], ["--group"]),
+            (["oaut", "serve", "--s"], ["--shared"]),
+            (["oaut", "play", "--"], ["--hex", "--shared", "--help"]),
             (["oaut", "check", "--"], ["--where", "--help"]),
             (["oaut", "check", "examples/sm"], ["examples/small.canonical.idl", "examples/small.idl"]),
             (["oaut", "serve", "--group", ""], []),

@@ -202,6 +202,8 @@ TRIED = {
         (GOOD, lambda room: run_in(room, SERVE, given=b"\0\0\n"), 4, [SERVE]),
         (GOOD, lambda room: run_in(room, words(), given=b"\x0c\0\0\0\0"), 4, [SERVE]),
         (GOOD, lambda room: run_in(room, words(), given=put(1, 8)), 4, [SERVE]),
+        (GOOD, lambda room: run_in(room, ["play", "--shared", "lib.idl"], given=b"\7\0\0"), 4, [SERVE]),
+        (GOOD, lambda room: run_in(room, ["play", "--shared", "lib.idl"], given=put(1, 8)), 4, [SERVE]),
         (GOOD, within_little, 5, [SERVE]),
         (GOOD, of_a_failed_device, 0, [SERVE]),
         (GOOD, killed, -9, [SERVE]),

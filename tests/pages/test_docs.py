@@ -66,3 +66,13 @@ class Docs(Cases):
             self.skipTest("black 23.1 is not there")
         done = subprocess.run(["black", "--check", "--quiet", *(f"{ROOT}/{it}" for it in LAID_OUT)], capture_output=True, text=True)
         self.tell("black has nothing to change", done.returncode == 0, done.stderr[-500:])
+
+    @unittest.skipUnless(shutil.which("clang-format"), "clang-format is not there")
+    def test_how_c_is_laid_out(self):
+        """As Debian's clang-format has it, by the .clang-format of each file's folder or of one above it."""
+        said = subprocess.run(["clang-format", "--version"], capture_output=True, text=True).stdout
+        if " 14." not in said:
+            self.skipTest("clang-format 14 is not there")
+        files = sorted(it for of in ("bench", "clients", "tests") for it in glob.glob(f"{ROOT}/{of}/**/*.[ch]", recursive=True))
+        done = subprocess.run(["clang-format", "--dry-run", "-Werror", *files], capture_output=True, text=True)
+        self.tell("clang-format has nothing to change", len(files) > 30 and done.returncode == 0, (len(files), done.stderr[:500]))

@@ -8,6 +8,7 @@ from unittest import mock
 
 import fuzz
 import fuzzed
+import model
 import store
 from model import LIBRARY
 from preloaded import fast_folder
@@ -46,6 +47,8 @@ WRONG_RULES = [
     ),
     ("bytes may be left over", fuzz.records, "asked.Bytes.ends", lambda at: None),
     ("DISPIDs are looked up with their cases", fuzz.records, "model.fold", lambda name: name),
+    ("a lock is anybody's", fuzz.frames, "sharing.Owned.lock", model.Model.lock),
+    ("a client that has gone leaves its locks", fuzz.frames, "sharing.Owned.give_back", lambda model, client: None),
     ("a key is in any order", fuzz.stores, "store.place_order", lambda it: (it[0], it[1], [rank for rank in map(store.scalar_image, it[2])])),
 ]
 
@@ -58,6 +61,9 @@ class Fuzzed(Cases):
 
     def test_records(self):
         self.fuzzed(fuzz.records)
+
+    def test_frames(self):
+        self.fuzzed(fuzz.frames)
 
     def test_libraries(self):
         self.fuzzed(fuzz.libraries)

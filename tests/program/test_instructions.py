@@ -2,6 +2,7 @@
 import unittest
 
 import instructions
+import kinds
 from running import Cases
 
 
@@ -16,8 +17,23 @@ class Instructions(Cases):
         self.tell("a put into an object of 3,000 cells takes at most twice the instructions of one into one of 10", 0 < many <= 2 * few, (few, many))
 
     def test_no_rise_above_what_is_committed(self):
-        for way, committed in instructions.committed().items():
-            found = instructions.of_longs(way)
+        found = {way: instructions.of_longs(way) for way in instructions.LONGS}
+        self.compare(found)
+        for many, one in (("frames", "records"), ("shared", "durable")):
+            self.tell(f"{many}: at most {instructions.MORE} more than {one}", found[many] - found[one] <= instructions.MORE, found)
+
+    def test_no_kind_of_request_is_slow(self):
+        found = kinds.of_kinds()
+        self.compare(found)
+        for name, times in kinds.times_a_put(found, kinds.bytes_of_kinds()).items():
+            most = kinds.SLOWER.get(name, kinds.MOST)
+            self.tell(f"{name}: at most {most} times a put of a long, by the byte, or by the request where it is shorter", 0 < times <= most, times)
+
+    def compare(self, found):
+        committed = instructions.committed()
+        for name, number in found.items():
             self.tell(
-                f"{way}: at most 5 % more instructions a long than in {instructions.TABLE}", 0 < found <= instructions.RISE * committed, (found, committed)
+                f"{name}: at most 5 % more instructions than in {instructions.TABLE}",
+                0 < number <= instructions.RISE * committed[name],
+                (number, committed[name]),
             )

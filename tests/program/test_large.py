@@ -3,6 +3,7 @@ import itertools
 import os
 import struct
 import tempfile
+import unittest
 
 import full
 import store
@@ -18,6 +19,8 @@ from turns import COCLASS
 LARGER, MANY = 67_108_864, 536_870_912  # bytes of a bank
 RESERVED = 5_242_880  # of these, beside a table
 OBJECTS, EACH = 60_000, 8_000
+HUGE = 4_000  # objects with one of the longest texts each
+MEMORY = os.sysconf("SC_PAGE_SIZE") * os.sysconf("SC_PHYS_PAGES")
 TEXT = EACH - 24 - full.CELL - 6  # bytes of the text of an object that has one cell
 
 
@@ -78,6 +81,46 @@ class Large(Cases):
                 (answer, kept, zeros),
             )
             self.tell("upgrade: to the largest banks, what is there", (found.format, found.chosen, "".join(store.lines(found))) == (2, 1, ONE))
+
+    @unittest.skipUnless(MEMORY > 6 << 30, "less than 6 GiB of memory: no table of a gigabyte is read")
+    def test_places_behind_the_second_gigabyte(self):
+        """Bank 1 of the largest banks has the last objects of its table there, and its groups. The file has holes where the texts are of zeros."""
+        head = CLASS + struct.pack("<I", 1) + store.place_image((FACE, full.LAST, ())) + struct.pack("<HI", wire.BSTR, full.LONGEST)
+        last = b"\x61" * full.LONGEST
+        with tempfile.TemporaryDirectory() as room:
+            fill(room, {"lib.idl": full.library(1, "long")})
+            library = run_in(room, ["check", "lib.idl"])[1]
+            table = 8 + HUGE * (4 + len(head) + full.LONGEST)
+            body = store.body_of(2, 1, store.MOST_BANK)
+            with open(f"{room}/it.store", "wb") as file:
+                file.truncate(store.length_of(store.MOST_BANK))
+                for at, bytes_there in (
+                    (0, b"\1"),
+                    (store.SELECTOR, b"\1"),
+                    (store.HEADS[1], store.head_image(2, len(library), table, store.MOST_BANK)),
+                    (body, library),
+                ):
+                    file.seek(at)
+                    file.write(bytes_there)
+                file.write(struct.pack("<II", HUGE + 1, HUGE))
+                for number in range(1, HUGE + 1):
+                    file.write(struct.pack("<I", number) + head)
+                    file.seek(full.LONGEST, os.SEEK_CUR)
+                gate = file.tell()
+                file.seek(-full.LONGEST, os.SEEK_CUR)
+                file.write(last)
+            self.tell("behind the second gigabyte: where the groups begin", gate == body + len(library) + table and 2**31 < gate - full.LONGEST)
+            asked = wire.get(1, HUGE, full.LAST) + wire.put(2, HUGE, full.LAST, wire.scalar(wire.BSTR, b"ab"))
+            told = wire.reply(1, fields=wire.field(wire.scalar(wire.BSTR, last))) + wire.reply(2)
+            answer = run_in(room, words("--hex"), asked)
+            self.tell("behind the second gigabyte: a session", answer == (0, told, b""), (answer[0], answer[1][-100:], answer[2]))
+            with open(f"{room}/it.store", "rb") as file:
+                file.seek(gate)
+                group = file.read(5)
+                file.seek(gate % 2**31)
+                self.tell("behind the second gigabyte: the group stands there, and nowhere else", (group[0], file.read(64)) == (1, bytes(64)), group)
+            again = run_in(room, words("--hex"), wire.get(3, HUGE, full.LAST))
+            self.tell("behind the second gigabyte: another server reads it", again == (0, wire.reply(3, fields=wire.field(wire.scalar(wire.BSTR, b"ab"))), b""))
 
     def test_a_table_as_large_as_larger_banks_take(self):
         limit = LARGER - RESERVED

@@ -10,7 +10,7 @@ import full
 import store
 import wire
 import worked
-from memory import resident_of
+from memory import peak_of, resident_of
 from model import LIBRARY, first_library
 from preloaded import COMPILER, Preloaded, fast_folder
 from refused_growths import LONG, Over, Session
@@ -38,16 +38,27 @@ class Memory(Cases):
                 peak, _ = full.opening(room)
                 self.tell(f"a store without objects in banks of {bank} bytes is opened in less than 8 MiB", 1_024 < peak < 8 * MEBIBYTE, peak)
 
-    def test_cells_with_keys(self):
-        """A cell takes a place, a value, and a block for its key, which has room for what the key has and no more."""
-        taken = []
-        for count, most in ((0, 0), (40_000, 5.0)):
+    def test_small_cells(self):
+        """A cell takes a place, a value, and a block for its key, which has room for what the key has and no more. While a store opens, its cells stand in a list beside the table."""
+        keyed, cells_by_key = full.keyed, full.cells_by_key
+        nothing = 0
+        for what, text, objects, most in (
+            ("no objects", keyed("long", 1), {}, 0),
+            ("longs of three parameters", keyed("long", 3), cells_by_key(30_000, 3), 4.5),
+            ("longs of one parameter", keyed("long", 1), cells_by_key(40_000, 1), 4.5),
+            ("texts of one parameter", keyed("BSTR", 1), cells_by_key(30_000, 1, full.short), 4.5),
+            ("arrays of two longs, of one parameter", keyed("SAFEARRAY(long)", 1), cells_by_key(25_000, 1, full.two_longs), 5.3),
+            ("objects of three longs", keyed("long", 0), full.objects_of(20_000, 3), 4.4),
+            ("objects of one long", keyed("long", 0), full.objects_of(20_000, 1), 4.5),
+        ):
             with tempfile.TemporaryDirectory(dir=fast_folder()) as room:
-                size = full.laid_objects(room, full.keyed("long", 1), full.cells_by_key(count, 1)) / MEBIBYTE
+                size = full.laid_objects(room, text, objects) / MEBIBYTE
                 with full.Serving(room) as session:
-                    session.ask(wire.live_objects(1))
-                    taken.append(resident_of(session.child.pid))
-                self.tell(f"{count} longs of one parameter take at most {most} times their image", taken[-1] - taken[0] <= most * size, (taken, size))
+                    session.ask(wire.type_info(1, 0))
+                    taken, peak = resident_of(session.child.pid), peak_of(session.child.pid)
+            nothing = nothing or taken
+            self.tell(f"{what} take at most {most} times their image", taken - nothing <= most * size, (taken - nothing, size))
+            self.tell(f"{what}: at most twice that while the store opens", peak - nothing <= 2 * most * size, (peak - nothing, size))
 
     def test_a_session_in_little_memory(self):
         body = struct.pack("<I", 1) + oaut.ask_create(worked.ITEM)
@@ -94,7 +105,10 @@ class Stack(Cases):
             b"".join(wire.put(2, 1, 1, it) + wire.get(3, 1, 1) for it in values) + wire.put(4, 1, 2, wire.scalar(wire.BSTR, bytes(2**20))) + wire.get(5, 1, 2)
         )
         objects = (CREATE + b"\n") * 1_000 + wire.live_objects(1)
-        due = oaut.Raw.pack([struct.pack("<I", tag) + it for tag, it in enumerate(DUE_ASKED + worked.REPLACED)])
+        bodies = [struct.pack("<I", tag) + it for tag, it in enumerate(DUE_ASKED + worked.REPLACED)]
+        due = oaut.Raw.pack(bodies)
+        frames = lambda bodies: oaut.frames.join([(it, oaut.Raw.pack([body])) for it, body in enumerate(bodies)])  # (of a client each)
+        values_of_clients = frames([bytes.fromhex(it.decode()) for it in (CREATE + b"\n" + puts).split()]) + oaut.frames.join([(7, bytes(3))])
         for name, words, given, files, status in (
             ("a library of 262,144 bytes", ["check", "lib.idl"], b"", {"lib.idl": long + b" " * (262_144 - len(long))}, 0),
             ("262,144 brackets", ["check", "--where", "lib.idl"], b"", {"lib.idl": b"[" * 262_144}, 2),
@@ -103,6 +117,14 @@ class Stack(Cases):
             ("the longest line", ["play", "--hex", "lib.idl"], b"0" * 2**23 + b"\n", {"lib.idl": library(b"")}, 0),
             ("objects", ["play", "--hex", "lib.idl"], objects, {"lib.idl": SMALL}, 0),
             ("a checkpoint, and REPLACE LIBRARY", ["serve", "--group", "1024", "it.store", "lib.idl"], due, {"lib.idl": LIBRARY, "it.store": nearly_full()}, 0),
+            ("the largest values of many clients", ["play", "--shared", "lib.idl"], values_of_clients, {"lib.idl": library(b"")}, 0),
+            (
+                "these of many clients",
+                ["serve", "--shared", "--group", "1024", "it.store", "lib.idl"],
+                frames(bodies),
+                {"lib.idl": LIBRARY, "it.store": nearly_full()},
+                0,
+            ),
             ("dump", ["dump", "it.store"], b"", {"it.store": nearly_full()}, 0),
             ("a new store", ["format", "it.store", "lib.idl"], b"", {"lib.idl": SMALL}, 0),
             ("upgrade", ["upgrade", "it.store"], b"", {"it.store": OLD}, 0),

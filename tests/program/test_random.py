@@ -1,5 +1,5 @@
 """Random sessions over all opcodes, against a model of the server. Each is held in memory, and again over a store, with a stop behind each quarter: what the store holds is
-compared with the model's objects, too. One of twelve has long texts.
+compared with the model's objects, too. One of twelve has long texts. And each is dealt to several clients of shared sessions.
 
 OAUT_SESSIONS says from which seed and how many ("0 24" where nothing is said): `tools/cases.py random --sessions FIRST COUNT` sets it. What differs is told with its seed.
 """
@@ -7,11 +7,13 @@ import os
 import random
 import tempfile
 
+import dealt
 import store
 from calls import held, text_held
 from drawn import session_of
 from due import dump_of, replies_of
 from model import LIBRARY, Array, first_library
+from playing import new_store
 from running import Cases, fill, run, run_in
 from wire import oaut
 
@@ -67,3 +69,21 @@ class Sessions(Cases):
         for seed in range(FIRST, FIRST + COUNT):
             wrong = stored(seed)
             self.tell(f"seed {seed}, over a store", wrong is None, wrong)
+
+    def test_sessions_of_several_clients(self):
+        for seed in range(FIRST, FIRST + COUNT):
+            session = session_of(seed)
+            turns = [session.turn(tag) for tag in range(1, REQUESTS + 1)]
+            given, out = (oaut.Raw.pack([it[side] for it in turns]) for side in (0, 1))
+            for group, (what, frames, told) in zip(GROUPS[-3:], dealt.sessions(given, out, False, seed)):
+                wrong = dealt.differs(run(["play", "--shared", "lib.idl"], frames, {"lib.idl": LIBRARY}), 0, told)
+                self.tell(f"seed {seed}, {what}", wrong is None, wrong)
+                with tempfile.TemporaryDirectory() as room:
+                    new_store(room, LIBRARY)
+                    wrong = dealt.differs(run_in(room, ["serve", "--shared", "it.store", "lib.idl", "--group", group], frames), 0, told)
+                    dumped = run_in(room, ["dump", "it.store"])[1].decode()
+                self.tell(
+                    f"seed {seed}, {what} over a store",
+                    wrong is None and dumped == dump_of(session.model),
+                    wrong or "the store does not hold the model's objects",
+                )

@@ -16,6 +16,8 @@ class Words(Cases):
             ["check", "lib.idl", "more"],
             ["check", "--where"],
             ["play", "lib.idl", "--hex", "--where"],
+            ["play", "lib.idl", "--hex", "--shared"],
+            ["check", "lib.idl", "--shared"],
             ["serve"],
             ["help"],
         ):
@@ -36,6 +38,10 @@ class Words(Cases):
             ["dump", "--hex", "it.store"],
             ["dump", "it.store", "--bank", "20971520"],
             ["serve", "it.store", "lib.idl", "--bank", "20971520"],
+            ["serve", "--shared", "it.store", "lib.idl", "--hex"],
+            ["serve", "--shared", "--group", "0", "it.store", "lib.idl"],
+            ["serve", "--shared", "lib.idl"],
+            ["dump", "--shared", "it.store"],
         ):
             status, out, err = run(words, files={"lib.idl": SMALL, "it.store": TWO})
             self.tell(f"the words {words} are refused", (status, out, err.startswith(b"error: "), b"--help" in err) == (2, b"", True, True), (status, out, err))
@@ -46,6 +52,8 @@ class Words(Cases):
             (["--help"], b"\n  oaut play examples/small.idl --hex < examples/first.hex\n"),
             (["play", "--help"], b"Usage: " + CALLED + b" play [OPTIONS] <LIB>"),
             (["play", "--help"], b"\n  oaut play examples/small.idl --hex < examples/first.hex\n"),
+            (["play", "--help"], b"\n      --shared  Take the records of many clients in frames"),
+            (["serve", "--help"], b"--shared"),
             (["check", "--help"], b"Usage: " + CALLED + b" check [OPTIONS] <LIB>"),
             (["check", "--help"], b"\n  oaut check examples/full.idl\n  oaut check --where - < examples/full.idl\n"),
             (["--version"], b"oaut 0.1.0"),

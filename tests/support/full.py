@@ -38,9 +38,24 @@ def long(at):
     return wire.I4, struct.pack("<i", at)
 
 
+def short(at):
+    """A text of 8 bytes."""
+    return wire.BSTR, struct.pack("<I", 8) + struct.pack("<II", at, at)
+
+
+def two_longs(at):
+    """An array of them."""
+    return store.Array(wire.I4, [(2, 0)], [long(at)[1], long(at + 1)[1]])
+
+
 def cells_by_key(count, parameters, value=long):
     """An object with so many cells of such a property."""
     return {1: (CLASS, {(FACE, 1, tuple(long(at) for _ in range(parameters))): value(at) for at in range(count)})}
+
+
+def objects_of(count, longs):
+    """So many objects, each with so many longs."""
+    return {it: (CLASS, {(FACE, at, ()): long(at) for at in range(1, longs + 1)}) for it in range(1, count + 1)}
 
 
 def wider(text):

@@ -1,7 +1,7 @@
 #!/usr/bin/env python3
-"""Random bytes for the program, from seeds: records, libraries and stores that are good ones changed at some places.
+"""Random bytes for the program, from seeds: records, frames of many clients, libraries and stores that are good ones changed at some places.
 
-    python3 tests/support/fuzz.py [--program PATH] [--seconds N] [--seed S] [records] [libraries] [stores]
+    python3 tests/support/fuzz.py [--program PATH] [--seconds N] [--seed S] [records] [frames] [libraries] [stores]
 
 PATH is crates/oaut/out/oaut where none is given. Each of the parts takes N seconds, 20 where nothing is said. Each reply to a record is compared with that of the model, which reads the
 bytes by the documents alone (tests/support/asked.py). `check` gives each text the same answer twice: a library that is its own canonical text, or a place inside the text. `dump` and `serve` say of
@@ -29,6 +29,7 @@ if __name__ == "__main__":
 from wire import oaut
 import store
 import worked
+import sharing
 from asked import Answering
 from drawn import Session
 from due import replies_of
@@ -144,6 +145,77 @@ def records(room, seconds, seed, most=5):
                 found.differ.append(f"seed {seed}: the session ends with {status, err}")
         found.tried, found.runs, seed = found.tried + len(asked), found.runs + 1, seed + 1
     return found
+
+
+# --- frames
+
+CLIENTS = (0, 1, 2, 7, 2**31, 2**32 - 2)
+
+
+def stream(dice, shared):
+    """Frames of several clients, and what is told of them before the input ends. Their requests come in parts; clients end, within a record too, and come again; at the end there may be half a
+    frame, or a head that says nothing."""
+    given, told, left = bytearray(), [], {it: b"" for it in CLIENTS}
+
+    def goes(frame):
+        given.extend(frame)
+        told.extend(shared.told(frame, ends=False))
+
+    for body in bodies(dice, shared.answering):
+        client = dice.choice(CLIENTS)
+        left[client] += struct.pack("<I", len(body) if dice.random() < 0.995 else dice.choice((0, 4_194_305, 2**32 - 1))) + body
+        while dice.random() < 0.8:
+            client = dice.choice(CLIENTS)
+            count = dice.choice((1, 3, 4, 5, 8, len(left[client]), len(left[client])))
+            goes(oaut.frames.frames_of(client, left[client][:count]))
+            left[client] = left[client][count:]
+        if dice.random() < 0.02:
+            goes(oaut.frames.NOW)
+        if dice.random() < 0.02:
+            client = dice.choice(CLIENTS)
+            goes(oaut.frames.ended(client))
+            left[client] = b""
+    if dice.random() < 0.3:
+        goes(
+            dice.choice(
+                (b"\1", oaut.frames.head(7, 9), oaut.frames.head(7, 1_048_577), oaut.frames.head(2**32 - 1, 1) + b"\0", oaut.frames.head(0, 9) + b"\0\0")
+            )
+        )
+    return bytes(given), told
+
+
+def frames(room, seconds, seed, most=5):
+    """Sessions of many clients against the model, in memory and over a store."""
+    found, until = Found("requests in frames"), time.monotonic() + seconds
+    while time.monotonic() < until and len(found.differ) < most:
+        dice, shared = Dice(seed), sharing.Sharing()
+        given, due = stream(dice, shared)
+        due += shared.told(b"")
+        words = ["play", "--shared", f"{room}/lib.idl"]
+        if dice.random() < 0.5:
+            run_in(room, ["format", "it.store", "lib.idl"])
+            words = ["serve", "--shared", "it.store", "lib.idl", "--group", dice.choice(("1", "2", "7", "1024"))]
+        wrong = differing(run_in(room, words, given), shared, due)
+        for _, reply in due:
+            found.kind(f"{struct.unpack_from('<I', reply, 8)[0]:08x}" if reply else "end")
+        if wrong:
+            found.differ.append(f"seed {seed}, {words[0]}: {wrong}")
+        found.tried, found.runs, seed = found.tried + len(shared.asked), found.runs + 1, seed + 1
+    return found
+
+
+def differing(got, shared, due):
+    """What is wrong with how a shared session ends, and what it has told; None where nothing is."""
+    status, out, err = got
+    if (status, err) != shared.ends_as:
+        return f"wanted {shared.ends_as}, got {status, err}"
+    try:
+        told = sharing.told_of(out)
+    except ValueError as fault:
+        return str(fault)
+    place = next((at for at, (one, other) in enumerate(zip(due, told)) if one != other), min(len(due), len(told)))
+    at = lambda them: (them[place][0], them[place][1].hex()) if place < len(them) else None
+    return None if due == told else f"what is told {place + 1}th: due {at(due)}, got {at(told)}"
 
 
 # --- libraries
@@ -406,7 +478,7 @@ def stores(room, seconds, seed, most=5):
     return found
 
 
-PARTS = {"records": records, "libraries": libraries, "stores": stores}
+PARTS = {"records": records, "frames": frames, "libraries": libraries, "stores": stores}
 
 
 def main():

@@ -1,8 +1,9 @@
-"""Inputs that AFL++ has kept (bench/with_afl.py), and what the program has to say of each: a stream of records for `play`, a text for `check`, a store's parts for `dump` and `serve`."""
+"""Inputs that AFL++ has kept (bench/with_afl.py), and what the program has to say of each: a stream of records for `play`, one of frames for `play --shared`, a text for `check`, a store's parts for `dump` and `serve`."""
 import io
 import struct
 
 import fuzz
+import sharing
 import store
 from asked import Answering
 from codes import BAD_STUB
@@ -56,6 +57,19 @@ def judge_records(room, stream):
     return None if got == wanted else f"wanted {wanted[0], wanted[1].hex(), wanted[2]}, got {got[0], got[1].hex(), got[2]}"
 
 
+# --- frames
+
+
+def judge_frames(room, stream):
+    shared = sharing.Sharing()
+    due = shared.told(stream)
+    if any(map(fuzz.may_replace, shared.asked)):
+        return None
+    fill(room, {"lib.idl": LIBRARY, "given": stream})
+    status, _ = spawned([PROGRAM, "play", "--shared", f"{room}/lib.idl"], f"{room}/given", f"{room}/out", f"{room}/err")
+    return fuzz.differing((status, read(f"{room}/out"), read(f"{room}/err")), shared, due)
+
+
 # --- libraries
 
 
@@ -97,4 +111,4 @@ def judge_store(room, parts):
     return fuzz.judged_store(room, laid(room, parts), TEXT)[1]
 
 
-JUDGES = {"records": judge_records, "libraries": judge_text, "stores": judge_store}
+JUDGES = {"records": judge_records, "frames": judge_frames, "libraries": judge_text, "stores": judge_store}

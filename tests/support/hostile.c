@@ -37,7 +37,8 @@ ssize_t __pread64(int file, void *into, size_t size, off64_t at);
 ssize_t __pwrite64(int file, const void *from, size_t size, off64_t at);
 
 static int counts;
-static long calls, blocks, reads, writes, larges, refused, refused_from, interrupted, times, in_a_row, blocked, after, rising, lacking, cut, moved, bytes, held;
+static long calls, blocks, reads, writes, larges, refused, refused_from, interrupted, times, in_a_row, blocked, after, rising, lacking, cut, moved,
+    bytes, held;
 static size_t most = (size_t)-1, large = (size_t)-1;
 
 static long number(const char *name) {
@@ -183,8 +184,10 @@ static int counted(int count, char **words, char **variables) {
     return status;
 }
 
-int __libc_start_main(int (*main)(int, char **, char **), int count, char **words, void (*start)(void), void (*end)(void), void (*unload)(void), void *stack) {
-    int (*real)(int (*)(int, char **, char **), int, char **, void (*)(void), void (*)(void), void (*)(void), void *) = dlsym(RTLD_NEXT, "__libc_start_main");
+int __libc_start_main(int (*main)(int, char **, char **), int count, char **words, void (*start)(void), void (*end)(void), void (*unload)(void),
+                      void *stack) {
+    int (*real)(int (*)(int, char **, char **), int, char **, void (*)(void), void (*)(void), void (*)(void), void *) =
+        dlsym(RTLD_NEXT, "__libc_start_main");
     program = main;
     return real(counted, count, words, start, end, unload, stack);
 }

@@ -7,6 +7,7 @@ import tempfile
 
 from wire import oaut
 import worked
+from oaut.frames import frames_of
 from model import LIBRARY
 from preloaded import fast_folder
 from running import PROGRAM, fill, rows_of
@@ -21,16 +22,29 @@ REQUESTS = {
     "names": lambda of: oaut.ask_ids(of, ["Cell", "Key"]),
 }
 # the ways of a session of longs, by the words behind `oaut play` or, over a store, behind `oaut serve`; and its objects and its requests
-LONGS = {"lines": ("play", "--hex"), "records": ("play",), "durable": ("serve", "--group", "1024")}
+LONGS = {
+    "lines": ("play", "--hex"),
+    "records": ("play",),
+    "frames": ("play", "--shared"),
+    "durable": ("serve", "--group", "1024"),
+    "shared": ("serve", "--shared", "--group", "1024"),
+}
 OBJECTS, REPEATED = 1_000, 20_000
-GETS = {"lines", "records"}
+GETS = {"lines", "records", "frames"}
 # what is committed of them, and how far above it they may come
 TABLE = "instructions.txt"
 RISE = 1.05
+# how far a request of many clients may come above one of a single client, each in a frame of its own, of another client than the one before
+MORE = 150
 
 
-def spelled(bodies, hexed):
-    return b"".join(it.hex().encode() + b"\n" for it in bodies) if hexed else oaut.Raw.pack(bodies)
+def spelled(bodies, way):
+    """Bodies as a session takes them; as frames each with one record, of 16 clients in turn."""
+    if "--hex" in way:
+        return b"".join(it.hex().encode() + b"\n" for it in bodies)
+    if "--shared" in way:
+        return b"".join([frames_of(at % 16, oaut.Raw.pack([it])) for at, it in enumerate(bodies)])
+    return oaut.Raw.pack(bodies)
 
 
 def of_program(words, given, room):
@@ -46,14 +60,14 @@ def tagged(requests):
     return [struct.pack("<I", tag) + it for tag, it in enumerate(requests, 1)]
 
 
-def of_session(requests, way=("play",)):
+def of_session(requests, way=("play",), library=LIBRARY):
     """The instructions of a session: in memory, or over a new store."""
     with tempfile.TemporaryDirectory(dir=fast_folder()) as room:
-        fill(room, {"lib.idl": LIBRARY})
+        fill(room, {"lib.idl": library})
         store = ["it.store"] if "serve" in way else []
         for it in store:
             subprocess.run([PROGRAM, "format", it, "lib.idl"], cwd=room, stdout=subprocess.DEVNULL, check=True)
-        return of_program([PROGRAM, *way, *store, "lib.idl"], spelled(tagged(requests), "--hex" in way), room)
+        return of_program([PROGRAM, *way, *store, "lib.idl"], spelled(tagged(requests), way), room)
 
 
 def of_requests(objects, names=tuple(REQUESTS)):

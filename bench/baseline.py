@@ -29,7 +29,7 @@ with tempfile.TemporaryDirectory() as room:
     subprocess.run(["rustc", *FLAGS, f"{ROOT}/bench/baseline/server.rs", "-o", server], check=True)
     fill(room, {"lib.idl": LIBRARY})
     for way, (_, *flags) in ((it, instructions.LONGS[it]) for it in ("lines", "records")):
-        spelled = lambda requests: instructions.spelled(instructions.tagged(requests), "--hex" in flags)
+        spelled = lambda requests: instructions.spelled(instructions.tagged(requests), flags)
         front = [instructions.oaut.ask_create(instructions.worked.ITEM)]
         given = spelled(front + [instructions.REQUESTS[it](1) for it in ("get", "put", "get")])
         replies = [

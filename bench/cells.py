@@ -7,7 +7,6 @@ Printed of each table: the MiB of its image, those that are resident of a server
 without objects, as so many times the image.
 """
 import os
-import struct
 import sys
 import tempfile
 
@@ -17,23 +16,18 @@ if len(sys.argv) > 1:
     os.environ["OAUT_PROGRAM"] = os.path.abspath(sys.argv[1])
 FOLDER = sys.argv[2] if len(sys.argv) > 2 else "."
 import full
-import store
 import wire
-from full import cells_by_key, keyed, long
+from full import cells_by_key, keyed, objects_of, short, two_longs
 from memory import peak_of, resident_of
-from stores import CLASS, FACE
-
-SHORT = lambda at: (wire.BSTR, struct.pack("<I", 8) + struct.pack("<II", at, at))
-ARRAY = lambda at: store.Array(wire.I4, [(2, 0)], [long(at)[1], long(at + 1)[1]])
 
 TABLES = (
     ("no objects", keyed("long", 0), {}),
     ("300,000 longs of three parameters", keyed("long", 3), cells_by_key(300_000, 3)),
     ("400,000 longs of one parameter", keyed("long", 1), cells_by_key(400_000, 1)),
-    ("300,000 texts of 8 bytes, of one parameter", keyed("BSTR", 1), cells_by_key(300_000, 1, SHORT)),
-    ("250,000 arrays of two longs, of one parameter", keyed("SAFEARRAY(long)", 1), cells_by_key(250_000, 1, ARRAY)),
-    ("65,536 objects of three longs", keyed("long", 0), {it: (CLASS, {(FACE, at, ()): long(at) for at in (1, 2, 3)}) for it in range(1, 65_537)}),
-    ("65,536 objects of one long", keyed("long", 0), {it: (CLASS, {(FACE, 1, ()): long(it)}) for it in range(1, 65_537)}),
+    ("300,000 texts of 8 bytes, of one parameter", keyed("BSTR", 1), cells_by_key(300_000, 1, short)),
+    ("250,000 arrays of two longs, of one parameter", keyed("SAFEARRAY(long)", 1), cells_by_key(250_000, 1, two_longs)),
+    ("65,536 objects of three longs", keyed("long", 0), objects_of(65_536, 3)),
+    ("65,536 objects of one long", keyed("long", 0), objects_of(65_536, 1)),
 )
 
 with tempfile.TemporaryDirectory(dir=FOLDER) as room:
@@ -41,7 +35,7 @@ with tempfile.TemporaryDirectory(dir=FOLDER) as room:
     for what, text, objects in TABLES:
         size = full.laid_objects(room, text, objects) / 1024
         with full.Serving(room) as session:
-            session.ask(wire.live_objects(1))
+            session.ask(wire.type_info(1, 0))
             now, most = resident_of(session.child.pid), peak_of(session.child.pid)
         dumped, _ = full.peak_of_run("dump", f"{room}/it.store")
         nothing = nothing or now

@@ -1,6 +1,7 @@
-// What any server that keeps what it is given has to move of long records: reads by 8,192 bytes, the record put together in one buffer (of a line its bytes in
-// another), four texts each copied into a block of its own, the blocks of before given back; for a get the texts together in one reply, which is written. No byte is
-// looked at but for a line's end and its digits. bench/large.py compares the program with it, since what long records cost is what memory behind the caches does.
+// What any server that keeps what it is given has to move of long records: reads by 8,192 bytes, the record put together in one buffer (of a line its
+// bytes in another), four texts each copied into a block of its own, the blocks of before given back; for a get the texts together in one reply,
+// which is written. No byte is looked at but for a line's end and its digits. bench/large.py compares the program with it, since what long records
+// cost is what memory behind the caches does.
 //
 //     copies raw|lines < INPUT > OUTPUT        (INPUT as bench/large.py writes it: a record below 1,000 bytes is a get)
 #include <malloc.h>

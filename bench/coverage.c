@@ -1,10 +1,11 @@
-/* Coverage for AFL++ of a program that was built without its instrumentation, behind LD_PRELOAD: a fork server in front of `main`, and a breakpoint at each place of a list, which
-   is taken away where it is hit, so that each run tells once of each block that it reached. Blocks that half of the seeds reach are not watched, which makes runs quick.
+/* Coverage for AFL++ of a program that was built without its instrumentation, behind LD_PRELOAD: a fork server in front of `main`, and a breakpoint
+   at each place of a list, which is taken away where it is hit, so that each run tells once of each block that it reached. Blocks that half of the
+   seeds reach are not watched, which makes runs quick.
 
    BLOCKS    the file of the places, each 8 bytes, as they stand in the program's file
    SEEDS     the folder of the seeds, whose names are 0, 1 and so on
-   STORE     where it is set, standard input is no input of the program but what a file holds that it reads by places: a byte for place 0, a byte for place 4,096, two heads of
-             32 bytes for 8,192 and 16,785,408, and the body of the bank that the selector names. All other places hold zeros
+   STORE     where it is set, standard input is no input of the program but what a file holds that it reads by places: a byte for place 0, a byte for
+   place 4,096, two heads of 32 bytes for 8,192 and 16,785,408, and the body of the bank that the selector names. All other places hold zeros
 
    A status above 5 counts as a crash. */
 #define _GNU_SOURCE
@@ -152,8 +153,10 @@ static int served(int count, char **words, char **variables) {
     _exit(0);
 }
 
-int __libc_start_main(int (*main)(int, char **, char **), int count, char **words, void (*start)(void), void (*end)(void), void (*unload)(void), void *stack) {
-    int (*real)(int (*)(int, char **, char **), int, char **, void (*)(void), void (*)(void), void (*)(void), void *) = dlsym(RTLD_NEXT, "__libc_start_main");
+int __libc_start_main(int (*main)(int, char **, char **), int count, char **words, void (*start)(void), void (*end)(void), void (*unload)(void),
+                      void *stack) {
+    int (*real)(int (*)(int, char **, char **), int, char **, void (*)(void), void (*)(void), void (*)(void), void *) =
+        dlsym(RTLD_NEXT, "__libc_start_main");
     program = main;
     return real(getenv("BLOCKS") ? served : main, count, words, start, end, unload, stack);
 }

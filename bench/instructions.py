@@ -4,7 +4,9 @@
     python3 bench/instructions.py [PROGRAM]      PROGRAM is crates/oaut/out/oaut where none is given
 
 First requests in tables of 10, 1,000 and 60,000 objects. Then what all of the program does for a put or a get of a long, over lines and as
-records, and for a put in groups of 1,024 over a store: in the form of tests/tables/instructions.txt, with which the gate compares it.
+records and as frames of 16 clients, and for a put in groups of 1,024 over a store, and for a request of each kind as a record in memory: in the
+form of tests/tables/instructions.txt, with which the gate compares it. At last the bytes of each kind, with its reply, and how many times a put of
+a long it takes, by the byte, or by the request where it has fewer bytes.
 """
 import os
 import sys
@@ -15,6 +17,7 @@ ROOT = os.path.dirname(os.path.dirname(os.path.abspath(__file__)))
 sys.path.insert(0, f"{ROOT}/tests/support")  # before this folder, which has a script of that name
 (os.environ["OAUT_PROGRAM"],) = words(__doc__)
 import instructions
+import kinds
 
 if instructions.VALGRIND is None:
     sys.exit("valgrind is not there")
@@ -23,3 +26,8 @@ for objects in (10, 1_000, 60_000):
     print(f"{objects:7} " + " ".join(f"{it:8,}" for it in instructions.of_requests(objects).values()), flush=True)
 for way in instructions.LONGS:
     print(f"{way} {instructions.of_longs(way)}", flush=True)
+found, lengths = kinds.of_kinds(), kinds.bytes_of_kinds()
+for name, number in found.items():
+    print(f"{name} {number}")
+for name, times in kinds.times_a_put(found, lengths).items():
+    print(f"# {name}: {lengths[name]:,} bytes, {times:.2f} times a put")

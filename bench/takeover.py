@@ -1,13 +1,15 @@
 #!/usr/bin/env python3
-"""Makes a cluster of three hosts from nothing, breaks it while clients put and get through its address, and counts what was lost and how long they waited.
+"""Makes clusters of three hosts from nothing, breaks them while clients put and get through their address, and counts what was lost and how long they waited.
 
-    python3 bench/takeover.py [--program PATH] [--gateway PATH] [--rounds N] [--until HH:MM] [--without lock|fencing].. [--two] [--keep] [ROUND ..]
+    python3 bench/takeover.py [--program PATH] [--gateway PATH] [--rounds N] [--clusters N] [--until HH:MM] [--without lock|fencing].. [--two] [--log FILE] [ROUND ..]
+    python3 bench/takeover.py --summary FILE..
 
 As root, by hand, with Debian's pacemaker, corosync, crmsh, resource-agents, glusterfs-server, glusterfs-client, attr, socat, iproute2, a C compiler and /dev/fuse.
-PATH is crates/oaut/out/oaut and what clients/gateway/build.sh makes where none is given, N is 5; no round begins behind HH:MM. A host is a set of namespaces
-(network, mount, process, host name, IPC) over an overlay of this machine's files, with its own Corosync, Pacemaker, glusterd, brick and mount. Four networks
-join them: clients, cluster, storage and power. By the last one `fence_switch` of a host asks this program to cut another host's links and to end its processes.
-What is started here ends with this program, however that ends.
+PATH is crates/oaut/out/oaut and what clients/gateway/build.sh makes where none is given. Of each kind 5 rounds are made, on one cluster, where nothing is said; no
+round begins behind HH:MM. A host is a set of namespaces (network, mount, process, host name, IPC) over an overlay of this machine's files, with its own Corosync,
+Pacemaker, glusterd, brick and mount. Four networks join them: clients, cluster, storage and power. By the last one `fence_switch` of a host asks this program to cut
+another host's links and to end its processes. Each cluster has a network, processes and a folder of its own, so that several know nothing of each other; they take
+their rounds from one row, in which the kinds take turns. What is started here ends with this program, however that ends.
 
     server    the server's process is killed; the gateway starts it again
     gateway   the gateway and its server are killed
@@ -21,15 +23,18 @@ What is started here ends with this program, however that ends.
     device    each sync of that host's server fails from now on
 
 `--without lock` has a program that takes no lock of the file, `--without fencing` a cluster that goes on without it; `--two` leaves the third host out of
-Corosync, as a brick alone. The last round's host comes back and all replicas are healed before the next one begins.
+Corosync, as a brick alone. The last round's host comes back and all replicas are healed before the next one begins. `--log` adds a line of JSON to a file as a round
+ends, and `--summary` prints what such files have.
 """
 import argparse
 import contextlib
 import datetime
 import glob
+import hashlib
 import json
 import os
 import random
+import re
 import shutil
 import signal
 import socket
@@ -57,6 +62,8 @@ ITEM = uuid.UUID("11223344-5566-7788-99aa-bbccddeeff03")  # of examples/small.id
 CLIENTS = 4  # through the address; each host has one more of its own
 WRITE_FAULT, FAILED = 0x8003_001D, 0x8000_4005
 SECONDS = 90  # for whatever is waited for
+MOST = (1 << 31) - 1  # of a long
+WORD = 8  # letters of a round's name in the row of rounds
 
 VOLUME = {
     "client.strict-locks": "on",
@@ -191,7 +198,7 @@ def did(*words, **how):
     """Runs a program, and answers its status and what it wrote."""
     with contextlib.suppress(subprocess.TimeoutExpired):
         done = subprocess.run(
-            [str(it) for it in words], stdout=subprocess.PIPE, stderr=subprocess.STDOUT, stdin=subprocess.DEVNULL, text=True, **{"timeout": SECONDS, **how}
+            [str(it) for it in words], stdout=subprocess.PIPE, stderr=subprocess.STDOUT, text=True, **{"input": "", "timeout": SECONDS, **how}
         )
         return done.returncode, done.stdout
     return -1, "late"
@@ -204,12 +211,12 @@ def must(*words, **how):
     return said
 
 
-def wait_for(what, is_so, seconds=SECONDS):
+def wait_for(what, is_so, seconds=SECONDS, every=0.2):
     until = time.monotonic() + seconds
     while not is_so():
         if time.monotonic() > until:
             raise TimeoutError(f"waited {seconds} s for {what}")
-        time.sleep(0.2)
+        time.sleep(every)
 
 
 # ---- clients
@@ -232,7 +239,7 @@ class Client:
 
     def __init__(self, number, dial):
         self.number, self.dial, self.tag = number, dial, 0
-        self.sent = self.acknowledged = 0
+        self.sent = self.acknowledged = self.looked = 0
         self.acks, self.lost, self.codes, self.comes = [], [], {}, 0
         self.is_paused = self.is_anew = lambda: False
 
@@ -258,13 +265,13 @@ class Client:
         if not self.acknowledged <= value <= self.sent:
             self.lost.append((time.monotonic(), self.acknowledged, self.sent, value))
             self.sent = max(value, self.sent)
-        self.acknowledged = value
+        self.acknowledged, self.looked = value, time.monotonic()
 
     def run(self):
         while True:
             while self.is_paused():
                 if self.is_anew():
-                    self.sent = self.acknowledged = self.comes = 0
+                    self.sent = self.acknowledged = self.comes = self.looked = 0
                 time.sleep(0.05)
             with contextlib.suppress(OSError), contextlib.closing(self.dial()) as sock:
                 sock.settimeout(3)
@@ -308,10 +315,11 @@ class HostClient(Client):
 
     def look(self, sock):
         # behind a boot it knows of nothing
-        if self.comes == 1:
-            self.acknowledged, self.sent = 0, 1 << 30
+        is_new = not self.looked
+        if is_new:
+            self.acknowledged, self.sent = 0, MOST
         super().look(sock)
-        self.sent = self.acknowledged if self.comes == 1 else self.sent
+        self.sent = self.acknowledged if is_new else self.sent
         for it in self.lost:
             self.file.write(f"{it[0]:.4f} lost {it[1:]}\n")
         self.lost = []
@@ -332,6 +340,8 @@ class Host:
             with open(path) as file:
                 self.write(path, "".join(it for it in file if not it.startswith("oaut:")) + line)
         self.write("/usr/sbin/fence_switch", FENCE_SWITCH, 0o755)
+        # geo-replication is not used, and glusterd asks for it a dozen times as it starts
+        self.write("/usr/lib/x86_64-linux-gnu/glusterfs/gsyncd", "#!/bin/sh\necho gsyncd 10.3\n", 0o755)
         self.copy(f"{ROOT}/dist/lib/rewrite", "/usr/lib/oaut/rewrite")
         self.copy(f"{ROOT}/dist/ocf/gateway", "/usr/lib/ocf/resource.d/oaut/gateway")
         self.copy(site.gateway, "/usr/bin/oaut-gateway")
@@ -372,38 +382,25 @@ class Host:
                 return file.read().startswith(b"python3")
 
         wait_for(f"{self.name} to begin", is_up)
-        for n, it in enumerate(NETWORKS):
-            did("ip", "link", "del", f"{self.name}-{it}")
-            must(
-                "ip",
-                "link",
-                "add",
-                f"{self.name}-{it}",
-                "type",
-                "veth",
-                "peer",
-                "name",
-                it,
-                "address",
-                f"02:00:00:00:{self.number:02x}:{n:02x}",
-                "netns",
-                self.pid,
-            )
-            must("ip", "link", "set", f"{self.name}-{it}", "master", it, "up")
-            self.ip("addr", "add", f"10.78.{n}.{self.number}/24", "dev", it)
-            self.ip("link", "set", it, "up")
-        if self.site.without_lock:
-            self.must("touch", "/run/no-lock")
+        ends = [(f"{self.name}-{it}", it, f"02:00:00:00:{self.number:02x}:{n:02x}") for n, it in enumerate(NETWORKS)]
+        did("ip", "-force", "-batch", "-", input="".join(f"link del {end}\n" for end, _, _ in ends))
+        links = [f"link add {end} type veth peer name {it} address {own} netns {self.pid}\nlink set {end} master {it} up\n" for end, it, own in ends]
+        must("ip", "-batch", "-", input="".join(links))
+        inside = [f"addr add 10.78.{n}.{self.number}/24 dev {it}\nlink set {it} up\n" for n, it in enumerate(NETWORKS)]
+        must("nsenter", "-t", self.pid, "-n", "ip", "-batch", "-", input="".join(inside))
+        self.cut, self.stopped, self.deaf = set(), False, False
+        self.mark("no-lock", self.site.without_lock)
 
-    def boot(self):
-        """What starts as it boots."""
+    def boot(self, paused=False):
+        """What starts as it boots. `paused`: its client waits."""
         self.power_on()
-        self.must("glusterd")
-        self.start("socat", f"TCP-LISTEN:{PORT},fork,reuseaddr,nodelay,keepalive", "UNIX-CONNECT:/run/oaut/server.sock")
-        self.start("python3", f"{ROOT}/bench/takeover.py", "--within", str(CLIENTS + self.number), "/run/oaut/server.sock", "/var/acks")
+        self.mark("pause", paused)
         if self.number <= self.site.members:
             self.must("corosync")
             self.start("pacemakerd")
+        self.start("glusterd")
+        self.start("socat", f"TCP-LISTEN:{PORT},fork,reuseaddr,nodelay,keepalive", "UNIX-CONNECT:/run/oaut/server.sock")
+        self.start("python3", f"{ROOT}/bench/takeover.py", "--within", str(CLIENTS + self.number), "/run/oaut/server.sock", "/var/acks")
 
     def power_off(self):
         """All its processes end, and its links with them."""
@@ -411,12 +408,51 @@ class Host:
             os.kill(self.pid, signal.SIGKILL)
         self.process.wait()
 
-    def links(self, how, *networks):
-        for it in networks or NETWORKS:
-            did("ip", "link", "set", f"{self.name}-{it}", how)
+    def mark(self, name, is_there):
+        """Makes a file in its /run, or takes it away."""
+        path = f"/proc/{self.pid}/root/run/{name}"
+        with contextlib.suppress(FileNotFoundError):
+            if is_there:
+                open(path, "w").close()
+            else:
+                os.unlink(path)
 
-    def ip(self, *words):
-        return must("nsenter", "-t", self.pid, "-n", "ip", *words)
+    def links(self, how, *networks):
+        some = {*(networks or NETWORKS)} if how == "down" else {*(networks or self.cut)}
+        self.cut = self.cut | some if how == "down" else self.cut - some
+        if some:
+            did("ip", "-force", "-batch", "-", input="".join(f"link set {self.name}-{it} {how}\n" for it in some))
+
+    def stop_cluster(self):
+        self.stopped = True
+        self.kill(*CLUSTER, how=signal.SIGSTOP)
+
+    def hear_not(self, other):
+        self.deaf = True
+        self.run("ip", "route", "add", "blackhole", f"10.78.1.{other.number}/32")
+
+    def undo(self):
+        """All its links are up, nothing of it stands still, and its device serves."""
+        self.links("up")
+        if self.stopped:
+            self.kill(*CLUSTER, how=signal.SIGCONT)
+        if self.deaf:
+            self.run("ip", "route", "flush", "type", "blackhole")
+        self.stopped = self.deaf = False
+        self.mark("device-fails", False)
+
+    @property
+    def has_mounted(self):
+        """Whether the store's file system is there."""
+        with open(f"/proc/{self.pid}/mounts") as file:
+            return any(line.split()[1].endswith("/srv/stores") for line in file)
+
+    @property
+    def has_address(self):
+        """Whether clients reach it."""
+        with contextlib.suppress(OSError), open(f"/proc/{self.pid}/net/fib_trie") as file:
+            return ADDRESS in file.read()
+        return False
 
     def run(self, *words, **how):
         return did("nsenter", "-t", self.pid, "-a", "-r", "-w", *words, **how)
@@ -512,17 +548,17 @@ class Site:
             wait_for("glusterd", lambda: one.run("gluster", "--mode=script", "peer", "probe", f"10.78.2.{it.number}")[0] == 0)
         wait_for("the peers", lambda: gluster("peer", "status").count("Peer in Cluster (Connected)") == 2)
         gluster("volume", "create", "stores", "replica", "3", *(f"10.78.2.{n}:{BRICK}" for n in (1, 2, 3)), "force")
-        for name, value in VOLUME.items():
-            gluster("volume", "set", "stores", name, "off" if self.without_lock and "locks" in name else value)
+        options = {**VOLUME, **({"client.strict-locks": "off"} if self.without_lock else {})}
+        gluster("volume", "set", "stores", *(word for it in options.items() for word in it))
         gluster("volume", "start", "stores")
         self.make_store(one)
-        wait_for("the cluster", lambda: self.status().count('online="true"') == self.members)
+        wait_for("the cluster", lambda: self.status().count('online="true"') == self.members, every=0.5)
         config = PACEMAKER % ("false" if self.without_fencing else "true")
         if not self.without_fencing:
             config += "".join(FENCE.format(it.name, 2 if self.members == 2 and it is one else 0) for it in self.in_cluster)
         with open(f"{self.room}/one/root-config", "w") as file:
             file.write(config)
-        one.must("crm", "-F", "configure", "load", "update", f"{self.room}/one/root-config")
+        one.must("crm", "-F", "configure", "load", "update", f"{self.room}/one/root-config", timeout=4 * SECONDS)
         self.clients = [Client(n, lambda: socket.create_connection((ADDRESS, PORT), 1)) for n in range(1, CLIENTS + 1)]
         for it in self.clients:
             it.is_paused, it.is_anew = lambda: self.paused, lambda: self.anew
@@ -533,7 +569,7 @@ class Site:
         self.paused = paused
         for it in self.hosts:
             if it.is_on:
-                it.run("touch" if paused else "rm", *([] if paused else ["-f"]), "/run/pause")
+                it.mark("pause", paused)
 
     def make_store(self, host):
         """A store with an object for each client."""
@@ -556,14 +592,11 @@ class Site:
         self.pause(True)
         for it in self.hosts:
             if not it.is_on:
-                it.boot()
-                it.must("touch", "/run/pause")
-            it.links("up")
-            it.kill(*CLUSTER, how=signal.SIGCONT)
-            it.run("rm", "-f", "/run/device-fails")
-            it.run("touch", "/run/anew")
+                it.boot(paused=True)
+            it.undo()
+            it.mark("anew", True)
         self.anew = True
-        wait_for("the cluster", lambda: self.status().count('online="true"') == self.members)
+        wait_for("the cluster", lambda: self.status().count('online="true"') == self.members, every=0.5)
         some = self.some()
         some.run("crm_attribute", "-n", "maintenance-mode", "-D")
         some.run("crm_resource", "-r", "stores", "--meta", "-p", "target-role", "-v", "Stopped")
@@ -572,12 +605,12 @@ class Site:
         def is_unmounted():
             for it in self.hosts:
                 it.kill("oaut-gateway", "oaut")
-            return not any(it.run("mountpoint", "-q", "/srv/stores")[0] == 0 for it in self.hosts)
+            return not any(it.has_mounted for it in self.hosts)
 
         wait_for("the group to stop", is_unmounted)
         self.make_store(some)
         for it in self.hosts:
-            it.run("rm", "-f", "/run/anew")
+            it.mark("anew", False)
         self.anew = False
         some.run("crm_resource", "-r", "stores", "--meta", "-d", "target-role")
         some.run("crm_resource", "--cleanup")
@@ -600,7 +633,7 @@ class Site:
 
     def active(self):
         """The host that has the address."""
-        found = [it for it in self.in_cluster if it.is_on and ADDRESS in it.run("ip", "-o", "addr")[1]]
+        found = [it for it in self.in_cluster if it.is_on and it.has_address]
         return found[0] if len(found) == 1 else None
 
     def are_served(self, since, seconds=2.0):
@@ -613,58 +646,64 @@ class Site:
                 return False
         return True
 
-    def are_equal(self):
-        """Whether no replica has a mark against another one. (Those of writes that are under way are there while clients put.)"""
+    def behind(self):
+        """The hosts against whose replicas the others have a mark. (Those of writes that are under way are there while clients put.)"""
         status, marks = did("getfattr", "-d", "-m", "trusted.afr.stores", "-e", "hex", *(f"{it.home}/brick/stores/items.store" for it in self.hosts))
-        return status == 0 and "0x" not in marks.replace("0x" + 24 * "0", "")
+        found = {self.hosts[int(n)] for n in re.findall(r"stores-client-(\d)=0x(?!0{24})", marks)}
+        return found or (set(self.hosts) if status else set())
 
     def mend(self, renewed=False):
         """All hosts are on and joined, all is healed, and the clients are served. `renewed`: the store is opened anew."""
+        times = [time.monotonic()]
         for it in self.hosts:
             if it.is_on:
-                it.links("up")
-                it.kill(*CLUSTER, how=signal.SIGCONT)
-                it.run("rm", "-f", "/run/device-fails")
-                for other in self.hosts:
-                    it.run("ip", "route", "del", "blackhole", f"10.78.1.{other.number}/32")
+                it.undo()
         self.pause(True)
-        for it in self.hosts:
-            if not it.is_on:
-                it.boot()
-                it.must("touch", "/run/pause")
-        wait_for(
-            "the cluster",
-            lambda: self.status().count('online="true" standby="false" standby_onfail="false" maintenance="false" pending="false" unclean="false"')
-            == self.members,
-        )
+        booted = [it for it in self.hosts if not it.is_on]
+        for it in booted:
+            it.boot(paused=True)
+        well = 'online="true" standby="false" standby_onfail="false" maintenance="false" pending="false" unclean="false"'
+        if not all(it.processes("glusterfsd") for it in self.hosts if it not in booted):
+            self.some().run("gluster", "--mode=script", "volume", "start", "stores", "force")
+        is_well = lambda: not self.behind() and self.status().count(well) == self.members
+        try:
+            wait_for("the cluster and healing", is_well, SECONDS / 3, every=0.5)
+        except TimeoutError:
+            # glusterd was seen to know no port of a brick that had begun, so that nobody reached it
+            for it in self.behind():
+                it.kill("glusterfsd")
+            self.some().run("gluster", "--mode=script", "volume", "start", "stores", "force")
+            wait_for("the cluster and healing", is_well, every=0.5)
         self.some().run("crm_resource", "--cleanup")
-        self.some().run("gluster", "--mode=script", "volume", "start", "stores", "force")
-        wait_for("healing", self.are_equal)
+        times.append(time.monotonic())
         if renewed:
             # a brick that was lost is not written to by who has a lock, until it opens the file again
             self.some().run("crm_resource", "--restart", "--resource", "server", "--timeout", "60")
+        times.append(time.monotonic())
         self.pause(False)
-        wait_for("service", lambda: self.active() and self.are_served(0))
+        wait_for("service", lambda: all(it.looked > times[-1] and it.acks and it.acks[-1] > times[-1] for it in self.clients) and self.active())
+        times.append(time.monotonic())
+        self.times = [round(b - a, 1) for a, b in zip(times, times[1:])]
 
 
 ROUNDS = {
-    # what is done, and the least seconds that are looked at behind it
-    "server": 4,
-    "gateway": 6,
-    "host": 10,
-    "cut": 12,
-    "storage": 16,
+    # what is done, and the least seconds that are looked at behind it, where no host is fenced: most end service at once, and are over once it is back
+    "server": 3,
+    "gateway": 3,
+    "host": 3,
+    "cut": 3,
+    "storage": 6,
     "apart": 25,
     "hung": 20,
-    "brick": 14,
-    "both": 4,
-    "device": 8,
+    "brick": 8,
+    "both": 3,
+    "device": 3,
 }
 
 
 class Trial:
     def __init__(self, site):
-        self.site = site
+        self.site, self.is_mended = site, False
 
     def server(self, host):
         host.kill("oaut")
@@ -683,11 +722,11 @@ class Trial:
 
     def apart(self, host):
         other = random.choice([it for it in self.site.in_cluster if it is not host])
-        host.run("ip", "route", "add", "blackhole", f"10.78.1.{other.number}/32")
-        other.run("ip", "route", "add", "blackhole", f"10.78.1.{host.number}/32")
+        host.hear_not(other)
+        other.hear_not(host)
 
     def hung(self, host):
-        host.kill(*CLUSTER, how=signal.SIGSTOP)
+        host.stop_cluster()
 
     def brick(self, _):
         host = random.choice(self.site.hosts)
@@ -698,13 +737,13 @@ class Trial:
         self.site.some().run("gluster", "--mode=script", "volume", "start", "stores", "force")
 
     def device(self, host):
-        host.run("touch", "/run/device-fails")
+        host.mark("device-fails", True)
 
     def both(self, host):
         """The group is stopped; then two hosts mount and start the server in the same moment, by the agent, as two clusters that know nothing of each other would."""
         some, agent = self.site.some(), "/usr/lib/ocf/resource.d/oaut/gateway"
         some.run("crm_resource", "-r", "stores", "--meta", "-p", "target-role", "-v", "Stopped")
-        wait_for("the group to stop", lambda: not any(it.run("mountpoint", "-q", "/srv/stores")[0] == 0 for it in self.site.in_cluster))
+        wait_for("the group to stop", lambda: not any(it.has_mounted for it in self.site.in_cluster))
         some.run("crm_attribute", "-n", "maintenance-mode", "-v", "true")
         self.since = time.monotonic()
         words = f"mount -t glusterfs -o direct-io-mode=enable localhost:/stores /srv/stores && timeout 25 env OCF_ROOT=/usr/lib/ocf OCF_RESOURCE_INSTANCE=server OCF_RESKEY_store={STORE} OCF_RESKEY_CRM_meta_timeout=15000 {agent} "
@@ -740,15 +779,19 @@ class Trial:
             for it in self.site.hosts:
                 acknowledged = max((int(told) for _, name, told in own if name == it.name), default=0)
                 looks = Client(CLIENTS + it.number, None)
-                looks.tag, looks.acknowledged, looks.sent = 1, acknowledged, 1 << 30
+                looks.tag, looks.acknowledged, looks.sent = 1, acknowledged, MOST
                 looks.look(sock)
                 found += [(it.name, *lost[1:]) for lost in looks.lost]
         return found
 
     def round(self, name):
         site = self.site
-        site.mend()
-        host = site.active()
+        if not self.is_mended:
+            site.mend()
+        self.is_mended = False
+        serving = []
+        wait_for("the address", lambda: serving.append(site.active()) or serving[-1])
+        host = serving[-1]
         self.since = self.started = None
         for it in site.clients:
             it.lost, it.codes, it.comes = [], {}, 0
@@ -756,10 +799,14 @@ class Trial:
         begun = time.monotonic()
         self.since = begun
         getattr(self, name)(host)
-        least = begun + ROUNDS[name]
         served = True
+
+        def is_over():
+            fenced = [at for at, _ in site.switch.fenced[fences:]]
+            return (fenced or time.monotonic() > begun + ROUNDS[name]) and site.are_served(max([self.since, *fenced]), 3) and site.active()
+
         try:
-            wait_for("service", lambda: time.monotonic() > least and site.are_served(self.since, 3) and site.active())
+            wait_for("service", is_over)
         except TimeoutError:
             served = False
         over = time.monotonic()
@@ -773,7 +820,12 @@ class Trial:
         to = site.active()
         found = {"round": name, "from": host.name, "to": to and to.name, "served": served, "wait": round(max(gaps), 2), "acknowledged": acknowledged}
         found["fenced"] = [it for _, it in site.switch.fenced[fences:]]
-        site.mend(name in ("host", "cut", "storage", "apart", "hung", "brick"))
+        try:
+            site.mend(bool(found["fenced"]) or name in ("host", "cut", "storage", "brick"))
+        except TimeoutError as late:
+            return {**found, "fault": f"behind the round, {late}"}
+        self.is_mended = True
+        found["seconds"] = [round(over - begun, 1), *site.times]
         own, lost = self.host_acks(begun)
         # one host acknowledges between two acknowledgements of another one that are less than a second apart
         found["two"] = sum(a[1] != b[1] and c[1] == a[1] and c[0] - a[0] < 1 for a, b, c in zip(own, own[1:], own[2:]))
@@ -786,38 +838,63 @@ class Trial:
 
 
 def inside(given):
+    """Makes rounds on one cluster until the row that they are taken from is empty."""
     site = Site(given.inside, given)
     site.up()
     trial = Trial(site)
     until = given.until and datetime.datetime.combine(datetime.date.today(), datetime.time.fromisoformat(given.until))
-    log = open(given.log, "a") if given.log else None
-    found = {}
-    for _ in range(given.rounds):
-        for name in given.names:
-            if until and datetime.datetime.now() > until:
-                break
+    with open(given.program, "rb") as file:
+        program = hashlib.sha256(file.read()).hexdigest()[:12]
+    while not until or datetime.datetime.now() < until:
+        name = os.read(given.row, WORD).decode().strip()
+        if not name:
+            break
+        told = {"at": f"{datetime.datetime.utcnow():%Y-%m-%d %H:%M:%S}", "cluster": given.number, "program": program}
+        told.update({"load": round(os.getloadavg()[0], 1), "without": given.without, "members": site.members})
+        try:
+            it = trial.round(name)
+        except TimeoutError as late:
+            it = {"round": name, "fault": f"{late}: {site.why_not()}"}
+        line = json.dumps({**told, **it})
+        print(line, flush=True)
+        with open(given.log, "a") as log:
+            log.write(line + "\n")
+        if "fault" in it or it["lost"]:
+            trial.is_mended = False
             try:
-                it = trial.round(name)
+                site.begin_anew()
             except TimeoutError as late:
-                it = {"round": name, "fault": str(late), "said": site.why_not()}
-            found.setdefault(name, []).append(it)
-            print(json.dumps(it), flush=True)
-            if log:
-                log.write(json.dumps({**it, "without": given.without, "hosts in the cluster": site.members}) + "\n")
-                log.flush()
-            if "fault" in it or it["lost"]:
-                try:
-                    site.begin_anew()
-                except TimeoutError as late:
-                    print(f"{late}\n{site.status()}", flush=True)
-                    return
-    print("\n| Round | Rounds | Acknowledged | Lost | By two at once | Fenced | Wait, middle | worst |\n|---|---|---|---|---|---|---|---|")
-    for name, its in found.items():
-        good = [it for it in its if "fault" not in it]
-        waits = [it["wait"] for it in good] or [0]
+                print(f"{late}\n{site.status()}", flush=True)
+                return
+
+
+def summary(paths):
+    """Prints what files have: of each setting a table, and what went wrong."""
+    rounds = []
+    for path in paths:
+        with open(path) as file:
+            rounds += [json.loads(line) for line in file]
+    settings = sorted({(it["program"], it["members"], *it["without"]) for it in rounds})
+    for setting in settings:
+        its = [it for it in rounds if (it["program"], it["members"], *it["without"]) == setting]
+        loads = [it["load"] for it in its]
+        print(f"\nprogram {setting[0]}, {setting[1]} hosts in the cluster, without {' and '.join(setting[2:]) or 'nothing'}:")
+        print(f"{len(its)} rounds, {its[0]['at']} to {its[-1]['at']}, load {min(loads)} to {max(loads)}, {statistics.median(loads)} in the middle\n")
         print(
-            f"| {name} | {len(its)} | {sum(it['acknowledged'] for it in good)} | {sum('fault' in it or bool(it['lost']) for it in its)} | {sum(it['two'] > 0 for it in good)} | {sum(bool(it['fenced']) for it in good)} | {statistics.median(waits):.1f} | {max(waits):.1f} |"
+            "| What is broken | Rounds | Puts acknowledged | Rounds with losses | Served by two at once | Fenced | Not served | Broken off | Seconds, middle | Worst |"
         )
+        print("|---|---|---|---|---|---|---|---|---|---|")
+        for name in ROUNDS:
+            of = [it for it in its if it["round"] == name]
+            good = [it for it in of if "fault" not in it]
+            if of:
+                waits = [it["wait"] for it in good] or [0]
+                counts = [sum(it["acknowledged"] for it in good), *(sum(bool(it[word]) for it in good) for word in ("lost", "two", "fenced"))]
+                counts += [sum(not it["served"] for it in good), len(of) - len(good)]
+                print(f"| {name} | {len(of)} | {' | '.join(f'{it:,}' for it in counts)} | {statistics.median(waits):.1f} | {max(waits):.1f} |")
+        for it in its:
+            if "fault" in it or it["lost"] or it["two"] or not it["served"] or it.get("started", 1) != 1:
+                print(json.dumps(it))
 
 
 def main():
@@ -827,15 +904,20 @@ def main():
     parser = argparse.ArgumentParser(description=__doc__, formatter_class=argparse.RawDescriptionHelpFormatter)
     parser.add_argument("--program", metavar="PATH", default=f"{ROOT}/crates/oaut/out/oaut")
     parser.add_argument("--gateway", metavar="PATH")
-    parser.add_argument("--rounds", metavar="N", type=int, default=5)
+    parser.add_argument("--rounds", metavar="N", type=int, default=5, help="of each kind, 5 where nothing is said")
+    parser.add_argument("--clusters", metavar="N", type=int, default=1, help="side by side")
     parser.add_argument("--until", metavar="HH:MM")
     parser.add_argument("--without", choices=("lock", "fencing"), action="append", default=[])
     parser.add_argument("--two", action="store_true", help="the third host is a brick alone")
     parser.add_argument("--log", metavar="FILE", help="add what each round was, a line of JSON each, to a file")
+    parser.add_argument("--summary", action="store_true", help="print what such files have, and make no rounds")
     parser.add_argument("--keep", action="store_true", help="keep the folder with the logs")
-    parser.add_argument("--inside", help=argparse.SUPPRESS)
+    for it in ("inside", "number", "row"):
+        parser.add_argument(f"--{it}", type=str if it == "inside" else int, help=argparse.SUPPRESS)
     parser.add_argument("names", nargs="*", metavar="ROUND", default=[*ROUNDS])
     given = parser.parse_args()
+    if given.summary:
+        return summary(given.names)
     unknown = {*given.names} - {*ROUNDS}
     if unknown:
         parser.error(f"no round is called {', '.join(sorted(unknown))}")
@@ -843,13 +925,27 @@ def main():
         return inside(given)
     room = tempfile.mkdtemp(prefix="takeover-", dir="/var/tmp")
     print(room, flush=True)
+    given.log = os.path.abspath(given.log or f"{room}/log")
+    # the row of rounds: words of one length, which the clusters take one by one
+    row, end = os.pipe()
+    os.write(end, "".join(f"{it:{WORD}}" for it in given.names * given.rounds).encode())
+    os.close(end)
     words = "unshare --net --mount --pid --uts --ipc --fork --kill-child --mount-proc".split()
-    child = subprocess.Popen([*words, sys.executable, *sys.argv, "--inside", room])
+    children = []
+    signal.signal(signal.SIGTERM, lambda *_: sys.exit(1))
     try:
-        return child.wait()
+        for n in range(1, given.clusters + 1):
+            os.mkdir(f"{room}/{n}")
+            more = ["--inside", f"{room}/{n}", "--log", given.log, "--number", str(n), "--row", str(row)]
+            children.append(subprocess.Popen([*words, sys.executable, *sys.argv, *more], pass_fds=[row]))
+        statuses = [it.wait() for it in children]
+        if os.path.exists(given.log):
+            summary([given.log])
+        return max(statuses)
     finally:
-        child.kill()
-        child.wait()
+        for it in children:
+            it.kill()
+            it.wait()
         time.sleep(1)
         if not given.keep:
             did("rm", "-rf", room)

@@ -1,9 +1,9 @@
 #!/usr/bin/env python3
 """Fuzzes the program by AFL++ for a while, with the coverage that breakpoints tell (bench/coverage.c), and compares all that AFL++ has kept with what the documents say.
 
-    python3 bench/with_afl.py PART SECONDS FOLDER [PROGRAM]      PART is records, libraries or stores; PROGRAM is crates/oaut/out/oaut where none is given
+    python3 bench/with_afl.py PART SECONDS FOLDER [PROGRAM]      PART is records, frames, libraries or stores; PROGRAM is crates/oaut/out/oaut where none is given
 
-By hand, with afl-fuzz, cc and objdump. FOLDER keeps the queue: a second run goes on with it. An input of `records` is what `play` reads, of `libraries` a text for `check -`, of `stores` what
+By hand, with afl-fuzz, cc and objdump. FOLDER keeps the queue: a second run goes on with it. An input of `records` is what `play` reads, of `frames` what `play --shared` does, of `libraries` a text for `check -`, of `stores` what
 bench/coverage.c makes a store's file of, for `dump`. The last lines say how many inputs were tried, what was kept, what crashed or hung, and what differs: of each input that was kept the
 replies are compared with the model's, the text is checked as in tests/support/fuzz.py, and the store is opened by `dump` and `serve` and by tests/support/store.py. FOLDER/rows has then, as rows of
 tests/tables/fuzzed.txt, short inputs that between them reach what the seeds do not.
@@ -21,9 +21,11 @@ ROOT = os.path.dirname(os.path.dirname(os.path.abspath(__file__)))
 sys.path.append(f"{ROOT}/tests/support")
 PART, SECONDS, FOLDER = sys.argv[1], sys.argv[2], os.path.abspath(sys.argv[3])
 PROGRAM = os.environ["OAUT_PROGRAM"] = os.path.abspath(sys.argv[4]) if len(sys.argv) > 4 else f"{ROOT}/crates/oaut/out/oaut"
+import dealt
 import fuzz
 import fuzzed
 import worked
+from sharing import oaut
 from model import LIBRARY
 from running import fill
 
@@ -53,7 +55,7 @@ def blocks():
 
 
 def seeds():
-    if PART == "records":
+    if PART in ("records", "frames"):
         sessions = [
             worked.CREATED + it
             for it in (
@@ -68,6 +70,17 @@ def seeds():
             )
         ]
         sessions += [[worked.EVERY_TYPE[0], *worked.EVERY_TYPE[at : at + 12]] for at in range(1, len(worked.EVERY_TYPE), 12)]
+        if PART == "frames":
+            tagged = [[struct.pack("<I", tag) + it for tag, it in enumerate(them, 1)] for them in sessions]
+            locks = [worked.call(it, worked.GRID) for it in (worked.LOCK, worked.UNLOCK)]
+            asked = [(1, worked.CREATED[0]), (1, worked.put(worked.GRID, worked.GRID_1_TO_6)), *((it, locks[it % 2]) for it in (2, 4, 1, 2, 3, 4))]
+            owned = [(client, fuzzed.pack([it])) for client, it in asked] + [
+                (2, b""),
+                (4, fuzzed.pack([locks[1]])),
+                (2, fuzzed.pack([locks[0]])),
+                (4, b"\x10\0"),
+            ]
+            return [dealt.dealt(it, 1 + at % 3)[0] + oaut.frames.NOW for at, it in enumerate(tagged)] + [oaut.frames.join(owned)]
         return [fuzzed.pack(it) for it in sessions]
     if PART == "libraries":
         return [it for it in fuzz.known_texts() if len(it) < 3_000]
@@ -88,7 +101,12 @@ def main():
     with open(f"{FOLDER}/blocks", "wb") as file:
         file.write(struct.pack(f"<{len(found)}Q", *found))
     fill(FOLDER, {"lib.idl": LIBRARY, **{f"seeds/{number}": it for number, it in enumerate(seeds())}})
-    words = {"records": ["play", f"{FOLDER}/lib.idl"], "libraries": ["check", "-"], "stores": ["dump", f"{FOLDER}/it.store"]}[PART]
+    words = {
+        "records": ["play", f"{FOLDER}/lib.idl"],
+        "frames": ["play", "--shared", f"{FOLDER}/lib.idl"],
+        "libraries": ["check", "-"],
+        "stores": ["dump", f"{FOLDER}/it.store"],
+    }[PART]
     told = {
         "AFL_PRELOAD": f"{FOLDER}/coverage.so",
         "BLOCKS": f"{FOLDER}/blocks",

@@ -8,8 +8,8 @@ _oaut() {
     case $before in --group | --bank) COMPREPLY=() && return ;; esac
     case $command in
     check) options="--where --help" ;;
-    play) options="--hex --help" ;;
-    serve) options="--group --hex --help" ;;
+    play) options="--hex --shared --help" ;;
+    serve) options="--group --hex --shared --help" ;;
     format | upgrade) options="--bank --help" ;;
     dump) options="--library --help" ;;
     esac

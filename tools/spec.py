@@ -26,11 +26,11 @@ SENTENCES = {
     5: ["oa_checks.specs.IsLibrary.IsLibrary"],
     6: ["oa_disk.specs.Disk." + it for it in ("WritesUnsynced", "Syncs", "TakesTime", "FailsAs")],
     7: ["oa_store.specs.Stores.IsStore"],
-    8: ["oa_history.specs.Lived.IsLived", "oa_history.specs.Survived.IsSurvived"],
+    8: ["oa_history.specs.Lived.IsLived", "oa_history.specs.SharedLived.IsSharedLived", "oa_history.specs.Survived.IsSurvived"],
     9: ["oa_keeps.specs.Keeps.KeepsLibrary", "oa_server.specs.Answers.RenewsStore", "oa_store.specs.Changes.IsUpgrade", "oa_store.specs.Faults.IsBrought"],
 }
 # more than this nobody should have to read
-LIMITS = {"Turn": 970, "IsLived": 1_220}
+LIMITS = {"Turn": 980, "IsLived": 1_230}
 
 COLUMNS = "| Sentence | Word | Definitions | Lines | Files | Crates |"
 TABLE = re.compile(rf"^{re.escape(COLUMNS)}\n(?:\|.*\n)*", re.MULTILINE)

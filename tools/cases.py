@@ -5,10 +5,12 @@
 
 PATH is crates/oaut/out/oaut, as `rt ci` leaves it, where none is given. `-k NAME` runs the tests whose names have NAME in them, `PART` those of one
 file; `--list` prints the names. A test whose tools are not installed is left out, with a line that names it and them. Each part gets a line with its
-seconds; the last line counts all cases, and the status is 1 where one failed.
+seconds; the last line counts all cases, and the status is 1 where one failed. A test that takes longer than 15 minutes ends all, with a line for each
+place where one of its threads stands.
 """
 import argparse
 import ctypes
+import faulthandler
 import glob
 import os
 import sys
@@ -17,6 +19,8 @@ import unittest
 
 ROOT = os.path.dirname(os.path.dirname(os.path.abspath(__file__)))
 FOLDERS = sorted(glob.glob(f"{ROOT}/tests/*/"))
+# the seconds that a test may take: the longest takes a fiftieth of them
+LONGEST = 900
 
 
 class Counts(unittest.TestResult):
@@ -30,6 +34,11 @@ class Counts(unittest.TestResult):
     def startTest(self, test):
         super().startTest(test)
         self.within = False
+        faulthandler.dump_traceback_later(LONGEST, exit=True)
+
+    def stopTest(self, test):
+        super().stopTest(test)
+        faulthandler.cancel_dump_traceback_later()
 
     def addSubTest(self, test, subtest, err):
         super().addSubTest(test, subtest, err)

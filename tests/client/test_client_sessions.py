@@ -78,7 +78,8 @@ class Sessions(ClientCases):
         self.same("the session goes on", (done.returncode, done.stdout, done.stderr), (0, "7\n", ""))
 
     def test_an_interrupt_within_a_call(self):
-        """At any moment: what is read then is what was put last."""
+        """At any moment: what is read then is what was put last. (Where the collector of garbage finds an object with a finalizer, Python runs the handler
+        in that, and drops what it raises: the alarm comes again.)"""
         draw, armed = random.Random(7), False
 
         def interrupt(*_):
@@ -94,7 +95,7 @@ class Sessions(ClientCases):
                         kind, count = draw.randrange(4), 0
                         armed = True
                         try:
-                            signal.setitimer(signal.ITIMER_REAL, draw.uniform(0.0001, 0.01))
+                            signal.setitimer(signal.ITIMER_REAL, draw.uniform(0.0001, 0.01), 0.2)
                             while True:
                                 count += 1
                                 if kind == 0:
@@ -134,12 +135,17 @@ class Sessions(ClientCases):
             # large requests, which nobody reads on
             os.kill(server._connection.child.pid, signal.SIGSTOP)
             child, begun = server._connection.child, time.monotonic()
-            threading.Timer(0.2, lambda: os.kill(os.getpid(), signal.SIGUSR1)).start()
-            before = signal.signal(signal.SIGUSR1, lambda *_: (_ for _ in ()).throw(Interrupted()))
+
+            def interrupt(*_):
+                raise Interrupted
+
+            before = signal.signal(signal.SIGALRM, interrupt)
             try:
+                signal.setitimer(signal.ITIMER_REAL, 0.2, 0.2)
                 self.raises("an interrupt", Interrupted, lambda: setattr(server.object(1, "Item"), "Name", "n" * 131_072))
             finally:
-                signal.signal(signal.SIGUSR1, before)
+                signal.setitimer(signal.ITIMER_REAL, 0)
+                signal.signal(signal.SIGALRM, before)
             del server
             gc.collect()
             self.tell("one that is stuck is killed", child.returncode == -signal.SIGKILL and time.monotonic() - begun < 30, child.returncode)
@@ -314,6 +320,7 @@ class Dialled(ClientCases):
                 def take_over():
                     time.sleep(0.3)
                     with socket.socket(socket.AF_UNIX) as sock:
+                        sock.settimeout(60)
                         sock.bind(at)
                         sock.listen()
                         for _ in range(2):

@@ -4,7 +4,7 @@
     python3 tests/wrong_bodies/tool.py
 
 The crates are made in a temporary folder, with a history of their own. The edits are tried as anybody would try them and as the gate does (--gate): there the first crate has
-changed since all were tried, and of the second one part in six is tried.
+changed since all were tried, and of the second one part in eight is tried.
 """
 import collections
 import json
@@ -233,7 +233,9 @@ def choices(root):
     seconds, took = {"steps": 9, "above": 2}, collections.Counter()
     for label, part in parts_of(labels, seconds).items():
         took[part] += seconds[label.partition("/")[0]]
-    tell("the parts take equally long", sorted(took) == [*range(PARTS)] and max(took.values()) - min(took.values()) <= 9, took)
+    # (each of a part's ends is half an edit off at most)
+    equally = max(took.values()) - min(took.values()) <= 2 * max(seconds.values())
+    tell("the parts take equally long", sorted(took) == [*range(PARTS)] and equally, took)
     head = git(root, "rev-parse", "HEAD")
     tried_over(root, seconds, steps=head, above=head)
     tell(
@@ -269,6 +271,15 @@ def choices(root):
         tell(f"a crate with another {path} has changed: {is_counted}", chosen().whole == ({"above"} if is_counted else set()), chosen().why)
         git(root, "checkout", "-q", ".")
         git(root, "clean", "-qfd")
+    write(f"{root}/crates/above/specs/S.antt", "-- one\na : X → Y\na = x\n")
+    tried_over(root, steps=git(root, "rev-parse", "HEAD"), above=commit(root, "a definition"))
+    for name, text, is_counted in (
+        ("in other lines, with another comment", "-- a\n-- comment\na :\n    X\n    → Y\na = x\n", False),
+        ("of other words", "-- one\na : X → Y\na = y\n", True),
+    ):
+        write(f"{root}/crates/above/specs/S.antt", text)
+        tell(f"a definition {name} has changed: {is_counted}", chosen().whole == ({"above"} if is_counted else set()), chosen().why)
+    git(root, "checkout", "-q", ".")
     # each crate by its own line
     older = git(root, "rev-parse", "HEAD")
     write(f"{root}/crates/steps/src/lib.rt", SOURCE + "\n// changed again\n")

@@ -1,6 +1,6 @@
-"""Which wrong bodies the gate tries: all of each crate whose sources, specs, proofs or wrong bodies have changed since all of them were tried, and of the others one part in six.
+"""Which wrong bodies the gate tries: all of each crate whose sources, specs, proofs or wrong bodies have changed since all of them were tried, and of the others one part in eight.
 
-The part is chosen by the commit: its hash says which of six stretches of the list of all edits is tried, so each comes again and again, and none is left out for good. The list is
+The part is chosen by the commit: its hash says which of eight stretches of the list of all edits is tried, so each comes again and again, and none is left out for good. The list is
 by crates, so that a part has few of them: most of what a check costs is read before its first edit. The file wrong-bodies/TRIED names, crate by crate, the commit over which
 all of the crate's edits were tried and refused, and the seconds that this took: by them the stretches take equally long."""
 import datetime
@@ -9,7 +9,7 @@ import os
 import re
 import subprocess
 
-PARTS = 6
+PARTS = 8
 # what of a crate counts; that a crate below it changed does not, since a crate is proved by the contracts of those below it
 SOURCES = ("src", "specs", "proofs")
 FOLDERS = (*SOURCES, "wrong-bodies")
@@ -53,6 +53,17 @@ def seconds_of(tried):
     return {name: int(seconds) / int(count) for name, (_, _, count, seconds) in tried.items()}
 
 
+def says_the_same(root, commit, path):
+    """Returns whether a file of definitions or proofs differs from how it stood in a commit by no more than white space and comments."""
+    before = git(root, "show", f"{commit}:{path}") if path.endswith(".antt") else None
+    if before is None or not os.path.isfile(f"{root}/{path}"):
+        return False
+    with open(f"{root}/{path}", encoding="utf-8") as it:
+        texts = before, it.read()
+    old, new = ("".join(re.sub("(?m)--.*", "", text).split()) for text in texts)
+    return old == new
+
+
 def changed_crates(root, commit, folders=FOLDERS):
     """Returns the crates whose folders differ, committed or not, from how they stood in a commit, or None where it is not in the history."""
     if git(root, "merge-base", "--is-ancestor", commit, "HEAD") is None:
@@ -60,8 +71,12 @@ def changed_crates(root, commit, folders=FOLDERS):
     paths = (git(root, "diff", "--name-only", "-z", commit, "--", "crates") or "") + (
         git(root, "ls-files", "-z", "--others", "--exclude-standard", "crates") or ""
     )
-    parts = [it.split("/") for it in paths.split("\0") if it]
-    return {it[1] for it in parts if len(it) > 3 and it[2] in folders}
+    found = {}
+    for path in filter(None, paths.split("\0")):
+        parts = path.split("/")
+        if len(parts) > 3 and parts[2] in folders:
+            found.setdefault(parts[1], []).append(path)
+    return {name for name, its in found.items() if not all(says_the_same(root, commit, it) for it in its)}
 
 
 class Choice:

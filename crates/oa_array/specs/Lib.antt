@@ -1,4 +1,5 @@
 pub mod Arrays
 pub mod Boxes
 pub mod Faults
+pub mod Heads
 pub mod Within

@@ -16,6 +16,7 @@ ghost use Rattle.oa_model.specs.contracts.bound.BoundEq.TheImpl.Laws.{laws-law a
 
 use crate::cell::Cell;
 use crate::fault::ArrayFault;
+use crate::head::{BoundList, Head};
 use crate::position::{position, size};
 use oa_cells::Cells;
 use oa_model::{Bound, MAX_CELL_LOCKS, MAX_DIMENSIONS, VarType};
@@ -41,20 +42,20 @@ pub fn cell_count(elem: VarType, bounds: &[Bound]) -> Option<usize>
 /// positions.
 #[derive(Drop)]
 pub struct SafeArray<T: Cell> {
-    elem: VarType,
-    bounds: Vec<Bound>,
+    head: Box<Head>,
     cells: Cells<T>,
-    locks: u16,
 }
 
 impl<T: Cell> Model for SafeArray<T> {
     ghost use Rattle.oa_array.specs.Arrays.{ArrayValue, IsArray};
+    ghost use Rattle.oa_array.specs.Heads.{listed};
 
     ghost Value = { ArrayValue T };
 
-    ghost view = { λ a. record { elem = a.elem; bounds = a.bounds.items; cells = a.cells; locks = a.locks } };
+    ghost view = { λ a. record { elem = a.head.value.elem; bounds = listed a.head.value.bounds; cells = a.cells; locks = a.head.value.locks } };
 
-    ghost invariant = { λ a. IsArray T.Fits (record { elem = a.elem; bounds = a.bounds.items; cells = a.cells; locks = a.locks }) };
+    ghost invariant = { λ a. IsArray T.Fits
+        (record { elem = a.head.value.elem; bounds = listed a.head.value.bounds; cells = a.cells; locks = a.head.value.locks }) };
 }
 
 impl<T: Cell> SafeArray<T> {
@@ -71,38 +72,47 @@ impl<T: Cell> SafeArray<T> {
             (λ fault. RefusesCreate elem bounds.now fault) }
     {
         let count = cell_count(elem, bounds).ok_or(ArrayFault::InvalidArgument)?;
-        let bounds = bounds.to_vec(alloc)?;
         let cells = zeros(alloc, elem, count)?;
-        Ok(SafeArray::of_cells(elem, bounds, cells))
+        let array = SafeArray::of_cells(alloc, elem, bounds, cells)?;
+        Ok(array)
     }
 
-    /// An array of given cells, in the order of their positions, without locks.
-    pub fn of_cells(elem: VarType, bounds: Vec<Bound>, cells: Cells<T>) -> SafeArray<T>
-        requires shape { IsArrayShape elem bounds.items }
-        requires count { length cells ≡ box_size bounds.items }
+    /// An array of given cells, in the order of their positions, without locks; an error where no memory is found.
+    pub fn of_cells(
+        alloc: Global,
+        elem: VarType,
+        bounds: &[Bound],
+        cells: Cells<T>,
+    ) -> Result<SafeArray<T>, AllocError>
+        requires shape { IsArrayShape elem bounds.now }
+        requires count { length cells ≡ box_size bounds.now }
         requires fits { All (λ cell. T.Fits cell elem) cells }
-        ensures { result ≡ record { elem = elem; bounds = bounds.items; cells = cells; locks = 0 } }
+        ensures { IfOk result (λ a. a ≡ record { elem = elem; bounds = bounds.now; cells = cells; locks = 0 }) }
     {
-        SafeArray {
-            elem,
-            bounds,
-            cells,
-            locks: 0,
-        }
+        let bounds = BoundList::of_slice(alloc, bounds)?;
+        let head = Box::new(
+            alloc,
+            Head {
+                elem,
+                locks: 0,
+                bounds,
+            },
+        )?;
+        Ok(SafeArray { head, cells })
     }
 
     /// The type of the cells.
     pub fn elem(&self) -> VarType
         ensures { result ≡ self.now.elem }
     {
-        self.elem
+        self.head.elem
     }
 
     /// The bounds, as they were listed.
     pub fn bounds(&self) -> &[Bound]
         ensures { result.now ≡ self.now.bounds }
     {
-        self.bounds.as_slice()
+        self.head.bounds.as_slice()
     }
 
     /// The cells, in the order of their positions.
@@ -117,7 +127,7 @@ impl<T: Cell> SafeArray<T> {
     pub fn locks(&self) -> u16
         ensures { result ≡ self.now.locks }
     {
-        self.locks
+        self.head.locks
     }
 
     /// The cell at an index list, which has one index for each bound, in the same order. BadIndex exactly where it does not lie in
@@ -127,9 +137,7 @@ impl<T: Cell> SafeArray<T> {
             (λ cell. InBounds self.now.bounds index.now × (array_element self.now index.now ≡ Some cell.now))
             (λ fault. (InBounds self.now.bounds index.now → ⊥) × (fault ≡ ArrayFault.BadIndex)) }
     {
-        let place = position(self.bounds.as_slice(), index, self.cells.len()).ok_or(
-            ArrayFault::BadIndex,
-        )?;
+        let place = position(self.bounds(), index, self.cells.len()).ok_or(ArrayFault::BadIndex)?;
         Ok(self.cells.get(place))
     }
 
@@ -143,10 +151,12 @@ impl<T: Cell> SafeArray<T> {
             × (array_element self.old index.now ≡ Some was) × (self.new ≡ with_cell self.old index.now value))
             (λ refused. (refused.0 ≡ value) × RefusesPut T.Fits self.old index.now value refused.1 × (self.new ≡ self.old)) }
     {
-        let Some(place) = position(self.bounds.as_slice(), index, self.cells.len()) else {
+        let count = self.cells.len();
+        let Some(place) = position(self.bounds(), index, count) else {
             return Err((value, ArrayFault::BadIndex));
         };
-        if !value.fits(self.elem) {
+        let elem = self.elem();
+        if !value.fits(elem) {
             return Err((value, ArrayFault::TypeMismatch));
         }
         Ok(self.cells.replace(place, value))
@@ -157,7 +167,7 @@ impl<T: Cell> SafeArray<T> {
         ensures { MatchOption result (max_cells < box_size (with_first bound self.now.bounds))
             (λ n. (n ≡ box_size (with_first bound self.now.bounds)) × (n ≤ max_cells)) }
     {
-        size(bound, &self.bounds[1..])
+        size(bound, &self.head.bounds.as_slice()[1..])
     }
 
     /// Replaces the first listed bound. Each cell stays at its position; new cells hold the zero of the type.
@@ -171,12 +181,12 @@ impl<T: Cell> SafeArray<T> {
             × (self.new ≡ redimensioned (T.zero_of self.old.elem) bound self.old))
             (λ fault. RefusesRedim self.old bound fault × (self.new ≡ self.old)) }
     {
-        if self.locks > 0 {
+        if self.locks() > 0 {
             return Err(ArrayFault::IsLocked);
         }
         let count = self.redim_count(bound).ok_or(ArrayFault::InvalidArgument)?;
-        resize(&mut self.cells, self.elem, count)?;
-        self.bounds[0] = bound;
+        resize(&mut self.cells, self.head.elem, count)?;
+        self.head.bounds.set_first(bound);
         Ok(())
     }
 
@@ -186,11 +196,11 @@ impl<T: Cell> SafeArray<T> {
             (λ count. (self.old.locks < max_cell_locks) × (count ≡ self.old.locks + 1) × (self.new ≡ with_locks self.old count))
             (λ fault. (fault ≡ ArrayFault.Unexpected) × (self.old.locks ≡ max_cell_locks) × (self.new ≡ self.old)) }
     {
-        if self.locks == MAX_CELL_LOCKS {
+        if self.head.locks == MAX_CELL_LOCKS {
             return Err(ArrayFault::Unexpected);
         }
-        self.locks += 1;
-        Ok(self.locks)
+        self.head.locks += 1;
+        Ok(self.head.locks)
     }
 
     /// Takes a lock away and gives the new count. Unexpected exactly where the array has none.
@@ -199,11 +209,11 @@ impl<T: Cell> SafeArray<T> {
             (λ count. (count + 1 ≡ self.old.locks) × (self.new ≡ with_locks self.old count))
             (λ fault. (fault ≡ ArrayFault.Unexpected) × (self.old.locks ≡ 0) × (self.new ≡ self.old)) }
     {
-        if self.locks == 0 {
+        if self.head.locks == 0 {
             return Err(ArrayFault::Unexpected);
         }
-        self.locks -= 1;
-        Ok(self.locks)
+        self.head.locks -= 1;
+        Ok(self.head.locks)
     }
 
     /// The same array without locks.
@@ -211,7 +221,7 @@ impl<T: Cell> SafeArray<T> {
         ensures { result ≡ with_locks self 0 }
     {
         let mut array = self;
-        array.locks = 0;
+        array.head.locks = 0;
         array
     }
 
@@ -219,9 +229,8 @@ impl<T: Cell> SafeArray<T> {
     pub fn copy(&self, alloc: Global) -> Result<SafeArray<T>, AllocError>
         ensures { IfOk result (λ copy. copy ≡ with_locks self.now 0) }
     {
-        let bounds = self.bounds.as_slice().to_vec(alloc)?;
         let cells = copies(alloc, &self.cells)?;
-        Ok(SafeArray::of_cells(self.elem, bounds, cells))
+        SafeArray::of_cells(alloc, self.elem(), self.bounds(), cells)
     }
 }
 
@@ -234,8 +243,8 @@ impl<T: Cell + PartialEq> PartialEq for SafeArray<T> {
         (on_per (λ a. a.cells) (lists_per T.PartialEq.laws)) };
 
     fn eq(&self, other: &SafeArray<T>) -> bool {
-        self.elem == other.elem
-            && self.bounds == other.bounds
+        self.elem() == other.elem()
+            && self.bounds() == other.bounds()
             && self.cells.as_slice() == other.cells.as_slice()
     }
 }
@@ -248,10 +257,10 @@ impl<T: Cell + Eq> Eq for SafeArray<T> {
 impl<T: Cell + fmt::Debug> fmt::Debug for SafeArray<T> {
     fn fmt<W: fmt::Write>(&self, f: &mut fmt::Formatter<W>) -> fmt::Result {
         f.debug_struct("SafeArray")
-            .field("elem", &self.elem)
-            .field("bounds", &self.bounds.as_slice())
+            .field("elem", &self.elem())
+            .field("bounds", &self.bounds())
             .field("cells", &self.cells.as_slice())
-            .field("locks", &self.locks)
+            .field("locks", &self.locks())
             .finish()
     }
 }

@@ -9,6 +9,7 @@
 mod array;
 mod cell;
 mod fault;
+mod head;
 mod indices;
 pub mod laws;
 mod position;

@@ -118,7 +118,8 @@ pub(crate) fn read_array(
 {
     let (bounds, count) = read_bounds(alloc, elem, r)?;
     let cells = read_cells(alloc, elem, count, r)?;
-    Ok(SafeArray::of_cells(elem, bounds, cells))
+    let array = SafeArray::of_cells(alloc, elem, &bounds, cells)?;
+    Ok(array)
 }
 
 fn put_cell(elem: VarType, s: &Scalar, w: &mut Window, out: &mut [u8])

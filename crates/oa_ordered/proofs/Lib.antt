@@ -2,3 +2,4 @@ pub mod Keys
 pub mod Split
 pub mod Joined
 pub mod Places
+pub mod Cut

@@ -8,8 +8,8 @@ ghost use Rattle.std.specs.List.Sorted.{IsStrictlySortedBy};
 
 use crate::iter::Iter;
 use crate::row::Row;
-use crate::rows::{insert_at, place_near, place_of, remove_at};
-use std::alloc::{AllocFailed, Global};
+use crate::rows::{insert_at, place_near, place_of, remove_at, rows_of};
+use std::alloc::{AllocError, AllocFailed, Global};
 use std::iter::IntoIterator;
 use std::marker::Model;
 use std::mem::replace;
@@ -51,6 +51,23 @@ impl<K: Ord, V> OrderedMap<K, V> {
             rows: Vec::new(alloc),
             len: 0,
         }
+    }
+
+    /// The map of entries whose keys rise. It takes memory as the list gives its own back, and has no place to spare. Err where no memory
+    /// is found.
+    pub fn from_sorted(alloc: Global, entries: Vec<(K, V)>) -> Result<OrderedMap<K, V>, AllocError>
+    where
+        K: Drop,
+        V: Drop,
+        requires { IsStrictlySortedBy K.cmp (keys_of entries.items) }
+        ensures { IfOk result (λ map. map ≡ entries.items) }
+    {
+        let len = entries.len();
+        if len > MOST {
+            return Err(AllocError);
+        }
+        let rows = rows_of(alloc, entries)?;
+        Ok(OrderedMap { alloc, rows, len })
     }
 
     /// How many entries there are.

@@ -66,6 +66,15 @@ impl<K, V> Row<K, V> {
         }
     }
 
+    /// The row of these entries, with no place to spare.
+    pub(crate) fn of_entries(entries: Vec<(K, V)>) -> Row<K, V>
+        ensures { result ≡ entries.items }
+    {
+        let mut entries = entries;
+        entries.shrink_to_fit();
+        Row { entries }
+    }
+
     pub(crate) fn len(&self) -> usize
         ensures { result ≡ length self.now }
     {

@@ -187,6 +187,28 @@ pub(crate) fn insert_at<K: Drop, V: Drop>(
     Ok(())
 }
 
+/// The rows of entries in order: full ones, but for the last. The list gives back its memory as they take theirs.
+pub(crate) fn rows_of<K: Drop, V: Drop>(
+    alloc: Global,
+    entries: Vec<(K, V)>,
+) -> Result<Vec<Row<K, V>>, AllocError>
+    ensures same { IfOk result (λ rows. joined rows.items ≡ entries.items) }
+    ensures filled { IfOk result (λ rows. AreFilled rows.items) }
+{
+    // From the last one on, so that what is left has its place.
+    let mut rows = Vec::with_capacity(alloc, entries.len().div_ceil(FULL))?;
+    let mut left = Row::of_entries(entries);
+    'rows: while left.len() > FULL {
+        let row = left.split_off((left.len() - 1) / FULL * FULL)?;
+        rows.push(row)?;
+    }
+    if left.len() > 0 {
+        rows.push(left)?;
+    }
+    rows.reverse();
+    Ok(rows)
+}
+
 /// Takes a row out.
 fn drop_row<K: Drop, V: Drop>(rows: &mut Vec<Row<K, V>>, row: usize)
     requires { row < length rows.old.items }

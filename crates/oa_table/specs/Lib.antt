@@ -8,4 +8,5 @@ pub mod Events
 pub mod Locks
 pub mod Parts
 pub mod Sizes
+pub mod Members
 pub mod Memory

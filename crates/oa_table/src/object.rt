@@ -2,6 +2,7 @@
 ghost use Rattle.std.specs.Prelude.{◌≡◌};
 
 use crate::Place;
+use oa_ordered::OrderedMap;
 use oa_variant::Variant;
 use std::marker::Model;
 use uuid::Uuid;
@@ -12,7 +13,7 @@ use uuid::Uuid;
 pub struct Object {
     number: u32,
     class: Uuid,
-    cells: Vec<(Place, Variant)>,
+    cells: OrderedMap<Place, Variant>,
 }
 
 impl Model for Object {
@@ -21,13 +22,13 @@ impl Model for Object {
 
     ghost Value = { ℕ × ObjectValue };
 
-    ghost view = { λ o. (o.number, record { class = o.class; cells = o.cells.items }) };
+    ghost view = { λ o. (o.number, record { class = o.class; cells = o.cells }) };
 }
 
 impl Object {
     /// The object of these parts.
-    pub fn new(number: u32, class: Uuid, cells: Vec<(Place, Variant)>) -> Object
-        ensures { result ≡ (number, record { class = class; cells = cells.items }) }
+    pub fn new(number: u32, class: Uuid, cells: OrderedMap<Place, Variant>) -> Object
+        ensures { result ≡ (number, record { class = class; cells = cells }) }
     {
         Object {
             number,
@@ -44,8 +45,8 @@ impl Object {
     }
 
     /// These parts.
-    pub fn into_parts(self) -> (u32, Uuid, Vec<(Place, Variant)>)
-        ensures { (result.0, record { class = result.1; cells = result.2.items }) ≡ self }
+    pub fn into_parts(self) -> (u32, Uuid, OrderedMap<Place, Variant>)
+        ensures { (result.0, record { class = result.1; cells = result.2 }) ≡ self }
     {
         (self.number, self.class, self.cells)
     }

@@ -6,29 +6,81 @@ ghost use Rattle.std.specs.Ordering.{as_partial_cmp, eq_by_cmp};
 ghost use Rattle.std.proofs.Common.{rules};
 ghost use Rattle.oa_model.specs.Limits.{max_key_scalars};
 ghost use Rattle.oa_table.specs.Places.{IsPlace, place_cmp, places_total};
+ghost use Rattle.oa_table.specs.Members.{dispid_in, key_in};
 
 use oa_variant::Scalar;
 use std::cmp::Ordering;
 use std::marker::Model;
+use std::slice::from_ref;
 use uuid::Uuid;
 
 /// Where a cell stands in its object: the member of an interface that it belongs to, and the arguments that this was called with. A
 /// key has at most 65,535 arguments.
+///
+/// It takes 48 bytes, in which one argument has its place; more are in a block of their own.
 #[derive(Drop)]
 pub struct Place {
     interface: Uuid,
-    dispid: i32,
-    key: Vec<Scalar>,
+    member: Member,
+}
+
+/// A member with what it was called with. The DISPID stands beside the tag, in one word.
+#[derive(Drop)]
+enum Member {
+    /// No argument.
+    Bare(i32),
+    /// One argument.
+    One(i32, Scalar),
+    /// More.
+    Many(i32, Vec<Scalar>),
 }
 
 impl Model for Place {
     ghost use Rattle.oa_table.specs.Places.{IsPlace, PlaceValue};
+    ghost use Rattle.oa_table.specs.Members.{dispid_in, key_in};
 
     ghost Value = { PlaceValue };
 
-    ghost view = { λ p. record { interface = p.interface; dispid = p.dispid; key = p.key.items } };
+    ghost view = { λ p. record { interface = p.interface; dispid = dispid_in p.member; key = key_in p.member } };
 
-    ghost invariant = { λ p. IsPlace (record { interface = p.interface; dispid = p.dispid; key = p.key.items }) };
+    ghost invariant = { λ p. IsPlace (record { interface = p.interface; dispid = dispid_in p.member; key = key_in p.member }) };
+}
+
+impl Member {
+    /// The member that was called with a list of arguments. Takes no memory.
+    fn of_key(dispid: i32, key: Vec<Scalar>) -> Member
+        ensures dispid { dispid_in result ≡ dispid }
+        ensures key { key_in result ≡ key.items }
+    {
+        if key.len() > 1 {
+            return Member::Many(dispid, key);
+        }
+        let mut key = key;
+        match key.pop() {
+            Some(argument) => Member::One(dispid, argument),
+            None => Member::Bare(dispid),
+        }
+    }
+
+    fn dispid(&self) -> i32
+        ensures { result ≡ dispid_in self.now }
+    {
+        match self {
+            Member::Bare(dispid) => *dispid,
+            Member::One(dispid, _) => *dispid,
+            Member::Many(dispid, _) => *dispid,
+        }
+    }
+
+    fn key(&self) -> &[Scalar]
+        ensures { result.now ≡ key_in self.now }
+    {
+        match self {
+            Member::Bare(_) => &[],
+            Member::One(_, argument) => from_ref(argument),
+            Member::Many(_, key) => key.as_slice(),
+        }
+    }
 }
 
 impl Place {
@@ -41,8 +93,7 @@ impl Place {
         let _ = interface.as_bytes();
         Place {
             interface,
-            dispid,
-            key,
+            member: Member::of_key(dispid, key),
         }
     }
 
@@ -57,7 +108,7 @@ impl Place {
     pub fn dispid(&self) -> i32
         ensures { result ≡ self.now.dispid }
     {
-        self.dispid
+        self.member.dispid()
     }
 
     /// The arguments, in the order of the parameters.
@@ -65,7 +116,7 @@ impl Place {
         ensures value { result.now ≡ self.now.key }
         ensures place { IsPlace self.now }
     {
-        self.key.as_slice()
+        self.member.key()
     }
 }
 
@@ -104,8 +155,8 @@ impl Ord for Place {
     ghost matches_eq = { Prim.search (comparing, rules) };
 
     fn cmp(&self, other: &Place) -> Ordering {
-        let by_key = self.key.cmp(&other.key);
-        let by_member = self.dispid.cmp(&other.dispid).then(by_key);
+        let by_key = self.key().cmp(other.key());
+        let by_member = self.dispid().cmp(&other.dispid()).then(by_key);
         self.interface.cmp(&other.interface).then(by_member)
     }
 }

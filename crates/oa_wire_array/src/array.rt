@@ -210,15 +210,16 @@ fn is_count(elem: VarType, bounds: &[Bound], count: u32) -> bool
 fn cells(
     alloc: Global,
     elem: VarType,
-    bounds: Vec<Bound>,
+    bounds: &[Bound],
     count: u32,
     r: &mut Ndr<'_>,
 ) -> Result<SafeArray<Scalar>, StubFault>
-    requires { is_count elem bounds.items count ≡ true }
-    ensures { ReadsField result r.new (cells_at elem bounds.items count r.old) }
+    requires { is_count elem bounds.now count ≡ true }
+    ensures { ReadsField result r.new (cells_at elem bounds.now count r.old) }
 {
     let cells = elements(alloc, elem, count, r)?;
-    Ok(SafeArray::of_cells(elem, bounds, cells))
+    let array = SafeArray::of_cells(alloc, elem, bounds, cells)?;
+    Ok(array)
 }
 
 /// The bounds, the maximum count of the data, the data.
@@ -235,7 +236,7 @@ fn data(
     let bounds = bounds(alloc, dims, r)?;
     let maximum = r.u32()?;
     if maximum == size && is_count(elem, &bounds, size) {
-        return cells(alloc, elem, bounds, size, r);
+        return cells(alloc, elem, &bounds, size, r);
     }
     Err(StubFault::BadStub)
 }

@@ -1,0 +1,58 @@
+//! What an array has beside its cells.
+ghost use Rattle.std.specs.Prelude.{◌≡◌, ◌<◌, length, slice_set, IfOk};
+ghost use Rattle.oa_array.specs.Heads.{listed};
+
+use oa_model::{Bound, VarType};
+use std::alloc::{AllocError, Global};
+
+/// The bounds of an array. A single one has its place here, and takes no block of its own.
+#[derive(Drop)]
+pub(crate) enum BoundList {
+    /// The only one.
+    One(Bound),
+    /// Any list of them.
+    Many(Box<Vec<Bound>>),
+}
+
+impl BoundList {
+    /// A list of these bounds; an error where no memory is found for more than one.
+    pub(crate) fn of_slice(alloc: Global, bounds: &[Bound]) -> Result<BoundList, AllocError>
+        ensures { IfOk result (λ list. listed list ≡ bounds.now) }
+    {
+        if let [bound] = bounds {
+            return Ok(BoundList::One(*bound));
+        }
+        let all = bounds.to_vec(alloc)?;
+        let boxed = Box::new(alloc, all)?;
+        Ok(BoundList::Many(boxed))
+    }
+
+    /// The bounds in their order.
+    pub(crate) fn as_slice(&self) -> &[Bound]
+        ensures { result.now ≡ listed self.now }
+    {
+        match self {
+            BoundList::One(bound) => std::slice::from_ref(bound),
+            BoundList::Many(all) => all.as_slice(),
+        }
+    }
+
+    /// Replaces the first one.
+    pub(crate) fn set_first(&mut self, bound: Bound)
+        requires { 0 < length (listed self.old) }
+        ensures { listed self.new ≡ slice_set (listed self.old) 0 bound }
+    {
+        match self {
+            BoundList::One(only) => *only = bound,
+            BoundList::Many(all) => all[0] = bound,
+        }
+    }
+}
+
+/// The type of the cells, the count of locks and the bounds.
+#[derive(Drop)]
+pub(crate) struct Head {
+    pub(crate) elem: VarType,
+    pub(crate) locks: u16,
+    pub(crate) bounds: BoundList,
+}

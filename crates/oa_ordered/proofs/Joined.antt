@@ -1,7 +1,7 @@
 -- The entries of rows in turn, on both sides of a place.
 use Rattle.std.proofs.Common.{◌≡◌, ◌∙◌, ◌<◌, ◌≤◌, ◌+◌, ℕ, zero, suc, List, [], ◌∷◌, ◌++◌, Some, Result, Ok, Err, OnErr, length, take, drop, get_or, set, slice_get, refl, sym, ap, subst, ⊎_elim, arith}
 use Rattle.std.specs.List.{insert, remove}
-use Rattle.std.proofs.lemmas.List.{append_assoc, append-nil, take-append-drop, take_all, drop_all, get_or_past, set_split, get_or_default, take-set, drop-set-lt, length-take-le, length-drop, nil_from_length}
+use Rattle.std.proofs.lemmas.List.{append_assoc, append-nil, take-append-drop, take_all, drop_all, get_or_past, set_split, get_or_default, take-set, drop-set-lt, length-append, length-take-le, length-drop, nil_from_length}
 use Rattle.std.proofs.lemmas.List.Concat.{flat_map-append}
 use Rattle.std.proofs.lemmas.Bool.{cases_lt}
 use Rattle.oa_ordered.specs.Rows.{AreFilled, after, before, from, joined, with_value}
@@ -97,7 +97,7 @@ module _ {K X : Type 0} where
       joined_set rows i (remove row at) lt ∙ parted (joined (take i rows)) (take at row) (drop (suc at) row) (joined (drop (suc i) rows))
 
   -- another value, in its row
-  value_at : (es : List (K × X)) (at : ℕ) (e d : K × X) (w : X) → at < length es → e ≡ get_or es at d → with_value es at w ≡ take at es ++ (e.0, w) ∷ drop (suc at) es
+  pub value_at : (es : List (K × X)) (at : ℕ) (e d : K × X) (w : X) → at < length es → e ≡ get_or es at d → with_value es at w ≡ take at es ++ (e.0, w) ∷ drop (suc at) es
   value_at [] at e d w lt is = absurd (omega (arith, lt))
   value_at (f ∷ es) zero e d w lt is = rw is refl
   value_at (f ∷ es) (suc at) e d w lt is = ap (λ rest. f ∷ rest) (value_at es at e d w (omega (arith, lt)) is)
@@ -177,6 +177,28 @@ module _ {K X : Type 0} where
       let upper : 0 < length (drop h row) = omega (arith, length-drop h row, less) in
       rw is (all_append P (take i rows) (take h row ∷ drop h row ∷ drop (suc i) rows) (all_front P (take i rows) (row ∷ drop (suc i) rows) parts)
       (lower, (upper, (all_back P (take i rows) (row ∷ drop (suc i) rows) parts).1)))
+
+  -- there are no entries where there are no rows
+  pub no_rows : (rows : List (List (K × X))) (n : ℕ) → AreFilled rows → n ≡ length rows → (n ≡ 0 → joined rows ≡ []) × (joined rows ≡ [] → n ≡ 0)
+  no_rows [] n filled is = (λ none. refl, λ none. is)
+  no_rows ([] ∷ rows) n filled is = absurd (omega (arith, filled.0))
+  no_rows ((e ∷ es) ∷ rows) n filled is = (λ none. absurd (omega (arith, none, is)), λ none. absurd (omega (arith, ap length none)))
+
+  -- rows in two parts
+  pub parted_rows : (rows lower upper : List (List (K × X))) (at : ℕ) → lower ≡ take at rows → upper ≡ drop at rows → joined lower ++ joined upper ≡ joined rows
+  parted_rows rows lower upper at is cuts = rw (is, cuts) (sym (joined_append (take at rows) (drop at rows)) ∙ ap joined (take-append-drop at rows))
+
+  pub filled_rest : (rows upper : List (List (K × X))) (at : ℕ) → at < length rows → AreFilled rows → upper ≡ drop at rows → 0 < length (joined upper)
+  filled_rest rows upper at lt filled is = rw (is, drop_next rows at [] lt) (omega (arith, filled_row rows at lt filled, length-append (row_of rows at) (joined (drop (suc at) rows))))
+
+  -- and one of them in two
+  split_there : (rows : List (List (K × X))) (i : ℕ) (lower upper : List (K × X)) → i < length rows → lower ++ upper ≡ row_of rows i → joined (insert (set rows i lower) (suc i) upper) ≡ joined rows
+  split_there [] i lower upper lt is = absurd (omega (arith, lt))
+  split_there (row ∷ rows) zero lower upper lt is = sym (append_assoc lower upper (joined rows)) ∙ ap (λ es. es ++ joined rows) is
+  split_there (row ∷ rows) (suc i) lower upper lt is = ap (λ es. row ++ es) (split_there rows i lower upper (omega (arith, lt)) is)
+
+  pub split_at : (rows : List (List (K × X))) (i next : ℕ) (lower upper : List (K × X)) → next ≡ suc i → i < length rows → lower ++ upper ≡ row_of rows i → joined (insert (set rows i lower) next upper) ≡ joined rows
+  split_at rows i next lower upper behind lt is = rw behind (split_there rows i lower upper lt is)
 
 -- what holds is said of a refusal too
 pub on_err_always : {T E P : Type 0} (r : Result T E) → P → OnErr r P

@@ -169,6 +169,9 @@ module _ {K X : Type 0} (cmp : K → K → Ordering) (total : IsTotalOrder cmp) 
     pub found_insert : (w : X) → joined (set rows row (with_value read at w)) ≡ insert_entry cmp (joined rows) key w
     found_insert w = entry_changed w ∙ sym (rw entry_parts (insert_here cmp key entry.0 (after rows row at) here (before rows row at) w there.below))
 
+    pub filled_changed : AreFilled rows → (w : X) → AreFilled (set rows row (with_value read at w))
+    filled_changed filled w = filled_set rows row (with_value read at w) there.in_rows (rw its_row (omega (arith, length_with_value (row_of rows row) at w, there.in_row))) filled
+
     pub table_changed : (len : ℕ) → IsTable cmp rows len → (w : X) → IsTable cmp (set rows row (with_value read at w)) len
     table_changed len table w =
         let front = before rows row at in

@@ -1,3 +1,4 @@
 pub mod Rows
+pub mod Forms
 pub mod Lending
 pub mod Lends

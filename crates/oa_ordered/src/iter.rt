@@ -1,9 +1,10 @@
 //! The entries of a map, one after another.
-ghost use Rattle.std.specs.Prelude.{◌≡◌, length};
+ghost use Rattle.std.specs.Prelude.{◌≡◌, ◌<◌, ◌++◌, length};
 ghost use Rattle.std.specs.Iterator.{at_most};
 ghost use Rattle.std.specs.Map.Iter.{TakesFirst, deref_pair};
 ghost use Rattle.oa_ordered.specs.Rows.{AreFilled, joined};
 
+use crate::block::Block;
 use crate::row::Row;
 use std::iter::{ExactSizeIterator, Iterator};
 use std::marker::Model;
@@ -13,6 +14,7 @@ use std::marker::Model;
 pub struct Iter<'a, K, V> {
     entries: &'a [(K, V)],
     rows: &'a [Row<K, V>],
+    blocks: &'a [Block<K, V>],
     left: usize,
 }
 
@@ -22,23 +24,49 @@ impl<'a, K, V> Model for Iter<'a, K, V> {
 
     ghost Value = { List (K × V) };
 
-    ghost view = { λ i. i.entries.now ++ joined i.rows.now };
+    ghost view = { λ i. i.entries.now ++ (joined i.rows.now ++ joined i.blocks.now) };
 
-    ghost invariant = { λ i. AreFilled i.rows.now × (i.left ≡ length (i.entries.now ++ joined i.rows.now)) };
+    ghost invariant = { λ i. AreFilled i.rows.now × AreFilled i.blocks.now × (i.left ≡ length (i.entries.now ++ (joined i.rows.now ++ joined i.blocks.now))) };
 }
 
 impl<'a, K, V> Iter<'a, K, V> {
-    pub(crate) fn new(rows: &'a [Row<K, V>], len: usize) -> Iter<'a, K, V>
-        requires filled { AreFilled rows.now }
-        requires count { len ≡ length (joined rows.now) }
-        ensures { result ≡ joined rows.now }
+    /// Those of entries, and then those of blocks, so many together.
+    pub(crate) fn new(
+        entries: &'a [(K, V)],
+        blocks: &'a [Block<K, V>],
+        len: usize,
+    ) -> Iter<'a, K, V>
+        requires filled { AreFilled blocks.now }
+        requires count { len ≡ length (entries.now ++ joined blocks.now) }
+        ensures { result ≡ entries.now ++ joined blocks.now }
     {
         Iter {
-            entries: &[],
-            rows,
+            entries,
+            rows: &[],
+            blocks,
             left: len,
         }
     }
+}
+
+/// The first of rows and of those of blocks, with the others.
+fn next_row<'a, K, V>(
+    rows: &'a [Row<K, V>],
+    blocks: &'a [Block<K, V>],
+) -> (&'a [(K, V)], &'a [Row<K, V>], &'a [Block<K, V>])
+    requires some { 0 < length (joined rows.now ++ joined blocks.now) }
+    requires rows { AreFilled rows.now }
+    requires blocks { AreFilled blocks.now }
+    ensures entries { result.0.now ++ (joined result.1.now ++ joined result.2.now) ≡ joined rows.now ++ joined blocks.now }
+    ensures first { 0 < length result.0.now }
+    ensures rows { AreFilled result.1.now }
+    ensures blocks { AreFilled result.2.now }
+{
+    if rows.is_empty() {
+        let next = blocks[0].rows();
+        return (next[0].as_slice(), &next[1..], &blocks[1..]);
+    }
+    (rows[0].as_slice(), &rows[1..], blocks)
 }
 
 impl<'a, K, V> Iterator for Iter<'a, K, V> {
@@ -54,8 +82,10 @@ impl<'a, K, V> Iterator for Iter<'a, K, V> {
         }
         self.left -= 1;
         if self.entries.is_empty() {
-            self.entries = self.rows[0].as_slice();
-            self.rows = &self.rows[1..];
+            let (entries, rows, blocks) = next_row(self.rows, self.blocks);
+            self.entries = entries;
+            self.rows = rows;
+            self.blocks = blocks;
         }
         let entry = &self.entries[0];
         self.entries = &self.entries[1..];

@@ -6,6 +6,9 @@
 //! What stands on it: oa_table keeps objects and cells in it.
 #![tactic(auto)]
 
+mod block;
+mod blocks;
+mod form;
 mod iter;
 mod map;
 mod row;

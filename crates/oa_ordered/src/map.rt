@@ -1,5 +1,5 @@
 //! The map.
-ghost use Rattle.std.specs.Prelude.{◌≡◌, ◌^◌, ◌<◌, [], length, None, IfOk, IfErr, OnOk, OnErr, option_copied};
+ghost use Rattle.std.specs.Prelude.{◌≡◌, ◌^◌, ◌<◌, ◌-◌, [], length, false, IsTrue, None, IfOk, IfErr, OnOk, OnErr, option_copied};
 ghost use Rattle.std.specs.Option.{option_copied_mut};
 ghost use Rattle.std.specs.Borrow.{sem};
 ghost use Rattle.std.specs.Map.{keys_of, lookup, remove_entry};
@@ -7,36 +7,38 @@ ghost use Rattle.std.specs.BTreeMap.{insert_entry, is_at};
 ghost use Rattle.std.specs.List.Sorted.{IsStrictlySortedBy};
 
 use crate::iter::Iter;
-use crate::row::Row;
-use crate::rows::{insert_at, place_near, place_of, remove_at, rows_of};
+use crate::blocks::{BLOCK_ENTRIES, block_for};
+use crate::form::Form;
+use crate::row::{Row, place_in_near};
 use std::alloc::{AllocError, AllocFailed, Global};
 use std::iter::IntoIterator;
 use std::marker::Model;
-use std::mem::replace;
 
 /// How many entries a map has at most.
 const MOST: usize = usize::MAX / 2;
 
 /// A map that is kept in the order of its keys.
 ///
-/// Its entries lie in rows of up to 64, each an allocation of its own with few places to spare; a row that finds no memory to be split
-/// gets longer. A look-up halves the rows and then one of them; a new entry moves those behind it in its row.
+/// Its entries lie in rows of up to 64, each an allocation of its own with few places to spare, and the rows in blocks of up to 128; a row
+/// or a block that finds no memory to be split gets longer. A look-up halves the blocks, then one of them and then a row of it; a new entry
+/// moves those behind it in its row, and where that is split the rows behind it in its block. Up to 64 entries stand in one row, which
+/// lies in the map itself.
 #[derive(Drop)]
 pub struct OrderedMap<K: Ord, V> {
     alloc: Global,
-    rows: Vec<Row<K, V>>,
+    form: Form<K, V>,
     len: usize,
 }
 
 impl<K: Ord, V> Model for OrderedMap<K, V> {
     ghost use Rattle.std.specs.Prelude.{List};
-    ghost use Rattle.oa_ordered.specs.Rows.{IsTable, joined};
+    ghost use Rattle.oa_ordered.specs.Forms.{IsMap, entries_of};
 
     ghost Value = { List (K × V) };
 
-    ghost view = { λ m. joined m.rows.items };
+    ghost view = { λ m. entries_of m.form };
 
-    ghost invariant = { λ m. IsTable K.cmp m.rows.items m.len };
+    ghost invariant = { λ m. IsMap K.cmp m.form m.len };
 }
 
 impl<K: Ord, V> OrderedMap<K, V> {
@@ -48,7 +50,7 @@ impl<K: Ord, V> OrderedMap<K, V> {
     {
         OrderedMap {
             alloc,
-            rows: Vec::new(alloc),
+            form: Form::One(Row::new(alloc)),
             len: 0,
         }
     }
@@ -66,8 +68,8 @@ impl<K: Ord, V> OrderedMap<K, V> {
         if len > MOST {
             return Err(AllocError);
         }
-        let rows = rows_of(alloc, entries)?;
-        Ok(OrderedMap { alloc, rows, len })
+        let form = Form::of_entries(alloc, entries)?;
+        Ok(OrderedMap { alloc, form, len })
     }
 
     /// How many entries there are.
@@ -91,9 +93,18 @@ impl<K: Ord, V> OrderedMap<K, V> {
     pub fn get_near(&self, key: &K, near: usize) -> Option<&V>
         ensures { option_copied result ≡ lookup (is_at (K.cmp key.now)) self.now }
     {
-        match place_near(&self.rows, key, near) {
-            Ok(place) => Some(&self.rows[place.row].as_slice()[place.at].1),
-            Err(_) => None,
+        match &self.form {
+            Form::One(row) => match place_in_near(row.as_slice(), key, near) {
+                Ok(at) => Some(&row.as_slice()[at].1),
+                Err(_) => None,
+            },
+            Form::Many(blocks) => {
+                let block = block_for(blocks, key, near / BLOCK_ENTRIES);
+                if block == blocks.len() {
+                    return None;
+                }
+                blocks[block].get_near(key, near % BLOCK_ENTRIES)
+            }
         }
     }
 
@@ -110,9 +121,18 @@ impl<K: Ord, V> OrderedMap<K, V> {
         ensures* writes_back { sem 𝓛 (lends_get K.row V.row K.Ord self.entry key.now result) }
         ensures value { option_copied_mut result ≡ lookup (is_at (K.cmp key.now)) self.old }
     {
-        match place_near(&self.rows, key, near) {
-            Ok(place) => Some(self.rows[place.row].value_mut(place.at)),
-            Err(_) => None,
+        match &mut self.form {
+            Form::One(row) => match place_in_near(row.as_slice(), key, near) {
+                Ok(at) => Some(row.value_mut(at)),
+                Err(_) => None,
+            },
+            Form::Many(blocks) => {
+                let block = block_for(blocks, key, near / BLOCK_ENTRIES);
+                if block == blocks.len() {
+                    return None;
+                }
+                blocks[block].get_mut_near(key, near % BLOCK_ENTRIES)
+            }
         }
     }
 
@@ -128,19 +148,27 @@ impl<K: Ord, V> OrderedMap<K, V> {
         ensures absent { OnErr result (lookup (is_at (K.cmp key)) self.old ≡ None) }
         ensures err { OnErr result (self.new ≡ self.old) }
     {
-        match place_of(&self.rows, &key) {
-            Ok(place) => Ok(Some(replace(self.rows[place.row].value_mut(place.at), value))),
-            Err(place) => {
-                if self.len == MOST {
-                    return Err(AllocFailed {
-                        value: (key, value),
-                    });
-                }
-                insert_at(self.alloc, &mut self.rows, place, (key, value))?;
-                self.len += 1;
-                Ok(None)
-            }
+        if !self.has_room_for(&key) {
+            return Err(AllocFailed {
+                value: (key, value),
+            });
         }
+        let old = self.form.insert(self.alloc, key, value)?;
+        if old.is_none() {
+            self.len += 1;
+        }
+        Ok(old)
+    }
+
+    /// Whether the key is there, or is not one too many.
+    fn has_room_for(&self, key: &K) -> bool
+        ensures room { IsTrue result → lookup (is_at (K.cmp key.now)) self.now ≡ None → length self.now < 2 ^ 63 - 1 }
+        ensures none { result ≡ false → lookup (is_at (K.cmp key.now)) self.now ≡ None }
+    {
+        if self.len < MOST {
+            return true;
+        }
+        self.get(key).is_some()
     }
 
     /// Removes a key, and answers its value.
@@ -151,14 +179,9 @@ impl<K: Ord, V> OrderedMap<K, V> {
         ensures value { result ≡ lookup (is_at (K.cmp key.now)) self.old }
         ensures entries { self.new ≡ remove_entry (is_at (K.cmp key.now)) self.old }
     {
-        match place_of(&self.rows, key) {
-            Ok(place) => {
-                let (_key, value) = remove_at(&mut self.rows, place);
-                self.len -= 1;
-                Some(value)
-            }
-            Err(_) => None,
-        }
+        let value = self.form.remove(key)?;
+        self.len -= 1;
+        Some(value)
     }
 
     /// The entries in the order of their keys. Takes no memory.
@@ -167,7 +190,10 @@ impl<K: Ord, V> OrderedMap<K, V> {
         ensures ordered { IsStrictlySortedBy K.cmp (keys_of self.now) }
         ensures fits { length self.now < 2 ^ 63 }
     {
-        Iter::new(&self.rows, self.len)
+        match &self.form {
+            Form::One(row) => Iter::new(row.as_slice(), &[], self.len),
+            Form::Many(blocks) => Iter::new(&[], blocks, self.len),
+        }
     }
 }
 

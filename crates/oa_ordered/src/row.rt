@@ -54,6 +54,24 @@ pub(crate) fn place_in<K: Ord, V>(entries: &[(K, V)], key: &K) -> Result<usize, 
     Err(low)
 }
 
+/// Where the key is among entries in order, or where it would stand. Looks first at a place.
+pub(crate) fn place_in_near<K: Ord, V>(
+    entries: &[(K, V)],
+    key: &K,
+    near: usize,
+) -> Result<usize, usize>
+    requires { IsOrdered K.cmp entries.now }
+    ensures found { IfOk result (λ at. IsFoundIn K.cmp key.now entries.now at) }
+    ensures absent { IfErr result (λ at. IsGapIn K.cmp key.now entries.now at) }
+{
+    if near < entries.len() {
+        if let Ordering::Equal = key.cmp(&entries[near].0) {
+            return Ok(near);
+        }
+    }
+    place_in(entries, key)
+}
+
 impl<K, V> Row<K, V> {
     ghost use Rattle.oa_ordered.specs.Lending.{lends_value};
 

@@ -8,10 +8,10 @@ use std::alloc::{AllocError, AllocFailed, Global};
 use std::cmp::Ordering;
 
 /// How many entries a row takes before it is split.
-const FULL: usize = 64;
+pub(crate) const FULL: usize = 64;
 
 /// How many entries of a full row stay in it where it is split.
-const HALF: usize = FULL / 2;
+pub(crate) const HALF: usize = FULL / 2;
 
 /// A place in rows: the row, and the place in it.
 #[derive(Clone, Copy)]

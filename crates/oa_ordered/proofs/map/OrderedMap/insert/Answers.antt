@@ -1,54 +1,21 @@
-use Rattle.std.proofs.Common.{◌∙◌, ◌≢◌, ◌^◌, ◌-◌, Option, Some, sym, ap}
-use Rattle.oa_ordered.proofs.Joined.{on_err_always}
-use Rattle.oa_ordered.proofs.Places.{found_insert, found_read, gap_insert, gap_lookup, table_changed, table_inserted}
+use Rattle.std.proofs.Common.{◌≡◌, ◌∙◌, ◌<◌, ◌-◌, ◌^◌, None, length, refl, sym, ap, arith}
+use Rattle.std.specs.Map.{lookup}
+use Rattle.std.specs.BTreeMap.{is_at}
+use Rattle.oa_ordered.specs.Forms.{entries_of}
+use Rattle.oa_ordered.proofs.Counted.{map_changed, map_inserted, none_if, some_if}
 use Rattle.oa_ordered.proofs.map.OrderedMap.insert.Goals as goal
 
-abbrev some : {X : Type 0} → X → Option X
-some x = Some x
+pub invariant_of-self-then-is_none : goal.invariant_of-self-then-is_none
+invariant_of-self-then-is_none g c =
+    let form = c.self.inside.form in
+    let old = c.in_ok-old.old in
+    let absent : lookup (is_at (g.K.Ord.cmp c.args.key)) (entries_of form) ≡ None = sym c.in_ok-old.ensures.old ∙ none_if old c.if-is_none.ensures in
+    let room : length c.args.self.now < 2 ^ 63 - 1 = c.if-not-has_room_for.ensures.room refl (ap (lookup (is_at (g.K.Ord.cmp c.args.key))) (sym c.self.view_is) ∙ absent) in
+    let most : c.self.inside.len < 2 ^ 63 - 1 = omega (arith, room, c.self.invariant.count, ap length c.self.view_is) in
+    map_inserted g.K.Ord.cmp g.met.K.Ord.total c.args.key form c.insert.new.self c.self.inside.len c.self.invariant c.insert.ensures.filled c.args.value most c.in_ok-old.ensures.entries absent
 
--- the key is there
-pub invariant_of-self : goal.invariant_of-self
-invariant_of-self g c =
-    let place = c.in-Ok.place in
-    let row = c.index_mut.result.now in
-    table_changed g.K.Ord.cmp g.met.K.Ord.total c.args.key c.self.inside.rows.items c.deref.ensures.value place.row place.at c.in-Ok.ensures.found row row c.index_mut.ensures.value c.self.inside.len c.self.invariant c.replace.new.dest
-
-pub returns-in-Ok-clause-old : goal.returns-in-Ok-clause-old
-returns-in-Ok-clause-old g c =
-    let place = c.in-Ok.place in
-    let row = c.index_mut.result.now in
-    rw (← c.self.view_is) (ap some c.replace.ensures.value ∙ sym c.value_mut.ensures.value ∙ found_read g.K.Ord.cmp g.met.K.Ord.total c.args.key c.self.inside.rows.items c.deref.ensures.value place.row place.at c.in-Ok.ensures.found row row c.index_mut.ensures.value)
-
-pub returns-in-Ok-clause-entries : goal.returns-in-Ok-clause-entries
-returns-in-Ok-clause-entries g c =
-    let place = c.in-Ok.place in
-    let row = c.index_mut.result.now in
-    rw (← c.self.view_is, c.replace.ensures.after) (found_insert g.K.Ord.cmp g.met.K.Ord.total c.args.key c.self.inside.rows.items c.deref.ensures.value place.row place.at c.in-Ok.ensures.found row row c.index_mut.ensures.value c.args.value)
-
--- it is not
-pub returns-then-self-eq-MOST-clause-absent : goal.returns-then-self-eq-MOST-clause-absent
-returns-then-self-eq-MOST-clause-absent g c =
-    let place = c.in-Err.place in
-    rw (← c.self.view_is) (gap_lookup g.K.Ord.cmp g.met.K.Ord.total c.args.key c.self.inside.rows.items c.deref.ensures.value place.row place.at c.in-Err.ensures.absent)
-
-pub returns-in_err-insert_at-in-Err-clause-absent : goal.returns-in_err-insert_at-in-Err-clause-absent
-returns-in_err-insert_at-in-Err-clause-absent g c =
-    let place = c.in-Err.place in
-    rw (← c.self.view_is) (on_err_always c.from_residual.result (gap_lookup g.K.Ord.cmp g.met.K.Ord.total c.args.key c.self.inside.rows.items c.deref.ensures.value place.row place.at c.in-Err.ensures.absent))
-
-pub invariant_of-self-in-Err : goal.invariant_of-self-in-Err
-invariant_of-self-in-Err g c =
-    let place = c.in-Err.place in
-    let most : c.self.inside.len ≢ 2 ^ 63 - 1 = c.if-self-eq-MOST.false in
-    table_inserted g.K.Ord.cmp g.met.K.Ord.total c.args.key c.self.inside.rows.items c.deref.ensures.value place.row place.at c.in-Err.ensures.absent
-    c.insert_at.new.rows.items c.self.inside.len c.args.value c.self.invariant most c.insert_at.ensures.filled c.in_ok-insert_at-in-Err.ensures.ok
-
-pub returns-in_ok-insert_at-in-Err-clause-old : goal.returns-in_ok-insert_at-in-Err-clause-old
-returns-in_ok-insert_at-in-Err-clause-old g c =
-    let place = c.in-Err.place in
-    rw (← c.self.view_is) (sym (gap_lookup g.K.Ord.cmp g.met.K.Ord.total c.args.key c.self.inside.rows.items c.deref.ensures.value place.row place.at c.in-Err.ensures.absent))
-
-pub returns-in_ok-insert_at-in-Err-clause-entries : goal.returns-in_ok-insert_at-in-Err-clause-entries
-returns-in_ok-insert_at-in-Err-clause-entries g c =
-    let place = c.in-Err.place in
-    rw (← c.self.view_is) (c.in_ok-insert_at-in-Err.ensures.ok ∙ gap_insert g.K.Ord.cmp g.met.K.Ord.total c.args.key c.self.inside.rows.items c.deref.ensures.value place.row place.at c.in-Err.ensures.absent c.args.value)
+pub invariant_of-self-else-is_none : goal.invariant_of-self-else-is_none
+invariant_of-self-else-is_none g c =
+    let form = c.self.inside.form in
+    let there = some_if c.in_ok-old.old c.if-is_none.ensures in
+    map_changed g.K.Ord.cmp g.met.K.Ord.total c.args.key form c.insert.new.self c.self.inside.len c.self.invariant c.insert.ensures.filled c.args.value there.0 c.in_ok-old.ensures.entries (sym c.in_ok-old.ensures.old ∙ there.1)

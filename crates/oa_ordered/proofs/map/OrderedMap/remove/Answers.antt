@@ -1,29 +1,14 @@
 use Rattle.std.proofs.Common.{◌∙◌, sym}
-use Rattle.oa_ordered.proofs.Places.{gap_lookup, gap_remove, parted_lookup, parted_remove, table_removed}
+use Rattle.oa_ordered.specs.Forms.{entries_of}
+use Rattle.oa_ordered.proofs.Counted.{map_removed, map_same, remove_none}
 use Rattle.oa_ordered.proofs.map.OrderedMap.remove.Goals as goal
 
 pub invariant_of-self : goal.invariant_of-self
 invariant_of-self g c =
-    let place = c.in-Ok.place in
-    table_removed g.K.Ord.cmp g.met.K.Ord.total c.args.key.now c.self.inside.rows.items c.remove_at-key.new.rows.items c.self.inside.len place.row place.at c.remove_at-key.result c.self.invariant
-    c.remove_at-key.ensures.filled c.remove_at-key.ensures.entry c.remove_at-key.ensures.rest
+    map_same g.K.Ord.cmp g.met.K.Ord.total c.args.key.now c.self.inside.form c.remove.new.self c.self.inside.len c.self.invariant c.remove.ensures.filled
+    (c.remove.ensures.entries ∙ remove_none g.K.Ord.cmp g.met.K.Ord.total c.args.key.now (entries_of c.self.inside.form) (sym c.in_err-value.ensures.value))
 
-pub returns-in-Ok-clause-value : goal.returns-in-Ok-clause-value
-returns-in-Ok-clause-value g c =
-    let place = c.in-Ok.place in
-    rw (← c.self.view_is) (sym (parted_lookup g.K.Ord.cmp g.met.K.Ord.total c.args.key.now c.self.inside.rows.items c.deref.ensures.value place.row place.at c.in-Ok.ensures.found c.remove_at-key.result c.remove_at-key.ensures.entry))
-
-pub returns-in-Ok-clause-entries : goal.returns-in-Ok-clause-entries
-returns-in-Ok-clause-entries g c =
-    let place = c.in-Ok.place in
-    rw (← c.self.view_is) (c.remove_at-key.ensures.rest ∙ sym (parted_remove g.K.Ord.cmp g.met.K.Ord.total c.args.key.now c.self.inside.rows.items c.deref.ensures.value place.row place.at c.in-Ok.ensures.found c.remove_at-key.result c.remove_at-key.ensures.entry))
-
-pub returns-in-Err-clause-value : goal.returns-in-Err-clause-value
-returns-in-Err-clause-value g c =
-    let place = c.in-Err.field-0 in
-    rw (← c.self.view_is) (sym (gap_lookup g.K.Ord.cmp g.met.K.Ord.total c.args.key.now c.self.inside.rows.items c.deref.ensures.value place.row place.at c.in-Err.ensures.absent))
-
-pub returns-in-Err-clause-entries : goal.returns-in-Err-clause-entries
-returns-in-Err-clause-entries g c =
-    let place = c.in-Err.field-0 in
-    rw (← c.self.view_is) (sym (gap_remove g.K.Ord.cmp g.met.K.Ord.total c.args.key.now c.self.inside.rows.items c.deref.ensures.value place.row place.at c.in-Err.ensures.absent))
+pub invariant_of-self-2 : goal.invariant_of-self-2
+invariant_of-self-2 g c =
+    map_removed g.K.Ord.cmp g.met.K.Ord.total c.args.key.now c.self.inside.form c.remove.new.self c.self.inside.len c.self.invariant c.remove.ensures.filled
+    c.in_ok-value.value c.remove.ensures.entries (sym c.in_ok-value.ensures.value)

@@ -55,24 +55,6 @@ module _ {K X : Type 0} (cmp : K → K → Ordering) where
   ordered_back [] back rises = rises
   ordered_back (e ∷ front) back rises = ordered_back front back rises.1
 
-  -- without the entry between
-  pub ordered_without : (front : List (K × X)) (e : K × X) (back : List (K × X)) → IsOrdered cmp (front ++ e ∷ back) → IsOrdered cmp (front ++ back)
-  unfolding IsStrictlySortedBy
-  ordered_without [] e back rises = rises.1
-  ordered_without (f ∷ front) e back rises = (
-    keys_join (λ q. cmp f.0 q ≡ Less) front back (keys_front (λ q. cmp f.0 q ≡ Less) front (e ∷ back) rises.0) (keys_back (λ q. cmp f.0 q ≡ Less) front (e ∷ back) rises.0).1,
-    ordered_without front e back rises.1,
-  )
-
-  -- with another value at the key
-  pub ordered_changed : (front : List (K × X)) (e : K × X) (w : X) (back : List (K × X)) → IsOrdered cmp (front ++ e ∷ back) → IsOrdered cmp (front ++ (e.0, w) ∷ back)
-  unfolding IsStrictlySortedBy
-  ordered_changed [] e w back rises = rises
-  ordered_changed (f ∷ front) e w back rises = (
-    keys_join (λ q. cmp f.0 q ≡ Less) front ((e.0, w) ∷ back) (keys_front (λ q. cmp f.0 q ≡ Less) front (e ∷ back) rises.0) (keys_back (λ q. cmp f.0 q ≡ Less) front (e ∷ back) rises.0),
-    ordered_changed front e w back rises.1,
-  )
-
   module _ (total : IsTotalOrder cmp) (key : K) where
     -- the keys in front of an entry that is not above the key are below it
     pub below_of : (front : List (K × X)) (e : K × X) (back : List (K × X)) → IsOrdered cmp (front ++ e ∷ back) → is_lt (cmp key e.0) ≡ false → AllBelow cmp key front

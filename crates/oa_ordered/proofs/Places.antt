@@ -1,7 +1,6 @@
 -- Where a key is in rows that are in order, and what calls of a map do there.
-use Rattle.std.proofs.Common.{◌≡◌, ◌∙◌, ◌<◌, ◌≤◌, ◌≢◌, ◌+◌, ◌-◌, ◌^◌, ℕ, suc, List, [], ◌∷◌, ◌++◌, Bool, true, false, Some, None, length, take, drop, get_or, set, slice_get, refl, sym, ap, subst, ⊎_elim, arith}
+use Rattle.std.proofs.Common.{◌≡◌, ◌∙◌, ◌<◌, ◌≤◌, ◌+◌, ℕ, suc, List, [], ◌∷◌, ◌++◌, Bool, true, false, Some, None, length, take, drop, get_or, set, slice_get, refl, sym, ap, subst, ⊎_elim, arith}
 use mathlib.Core.Bool.{true≢false}
-use Rattle.std.specs.List.Sorted.{IsStrictlySortedBy}
 use Rattle.std.specs.Option.{option_map}
 use Rattle.std.specs.Map.{lookup, remove_entry, set_value}
 use Rattle.std.specs.BTreeMap.{insert_entry, is_at}
@@ -9,10 +8,10 @@ use Rattle.std.specs.Ordering.{is_lt}
 use Rattle.std.specs.Cmp.{IsTotalOrder}
 use Rattle.std.specs.declared.cmp.Ordering.{Ordering}
 use Rattle.std.specs.declared.cmp.Ordering.TheVariants.{Less, Equal, Greater}
-use Rattle.std.proofs.lemmas.List.{append-nil, append_cancel_left, drop_all, get_or_past, length-append, take_more}
+use Rattle.std.proofs.lemmas.List.{append-nil, append_cancel_left, drop_all, get_or_past, take_more}
 use Rattle.std.proofs.lemmas.Bool.{cases_lt}
-use Rattle.oa_ordered.specs.Rows.{AllAbove, AllBelow, AreFilled, IsFirst, IsFound, IsFoundIn, IsGap, IsGapIn, IsOrdered, IsRowFor, IsTable, after, before, begins_after, from, joined, with_value}
-use Rattle.oa_ordered.proofs.Keys.{above_of, all_append, below_of, ordered_back, ordered_changed, ordered_front, ordered_with, ordered_without}
+use Rattle.oa_ordered.specs.Rows.{AllAbove, AllBelow, AreFilled, IsFirst, IsFound, IsFoundIn, IsGap, IsGapIn, IsOrdered, IsRowFor, after, before, begins_after, from, joined, with_value}
+use Rattle.oa_ordered.proofs.Keys.{above_of, all_append, below_of, ordered_back, ordered_front}
 use Rattle.oa_ordered.proofs.Split.{insert_gap, insert_here, lookup_gap, lookup_here, remove_gap, remove_here, set_gap, set_here}
 use Rattle.oa_ordered.proofs.Joined.{changed, drop_next, entry_split, filled_row, filled_set, from_at, get_is, joined_at, length_with_value, parts_at, row_is, row_of, some_at, whole}
 
@@ -130,9 +129,6 @@ module _ {K X : Type 0} (cmp : K → K → Ordering) (total : IsTotalOrder cmp) 
     here = rw (from_at rows row at e d in_row is) same;
   }
 
-  longer : (front : List (K × X)) (e : K × X) (back : List (K × X)) → length (front ++ e ∷ back) ≡ length (front ++ back) + 1
-  longer front e back = omega (arith, length-append front (e ∷ back), length-append front back)
-
   -- Calls look for the key in the rows as a slice. Where it was found, in the row as it was read there:
   module _ (rows : List (List (K × X))) {seen : List (List (K × X))} (same : seen ≡ rows) (row at : ℕ) (place : IsFound cmp key seen row at) (read d : List (K × X)) (is : read ≡ get_or rows row d) where
     there : IsFound cmp key rows row at
@@ -172,18 +168,6 @@ module _ {K X : Type 0} (cmp : K → K → Ordering) (total : IsTotalOrder cmp) 
     pub filled_changed : AreFilled rows → (w : X) → AreFilled (set rows row (with_value read at w))
     filled_changed filled w = filled_set rows row (with_value read at w) there.in_rows (rw its_row (omega (arith, length_with_value (row_of rows row) at w, there.in_row))) filled
 
-    pub table_changed : (len : ℕ) → IsTable cmp rows len → (w : X) → IsTable cmp (set rows row (with_value read at w)) len
-    table_changed len table w =
-        let front = before rows row at in
-        let back = after rows row at in
-        let some : 0 < length (with_value read at w) = rw its_row (omega (arith, length_with_value (row_of rows row) at w, there.in_row)) in
-        record {
-          ordered = rw (entry_changed w) (ordered_changed cmp front entry.0 w back (subst (IsOrdered cmp) entry_parts table.ordered));
-          filled = filled_set rows row (with_value read at w) there.in_rows some table.filled;
-          count = rw (entry_changed w) (omega (arith, table.count, ap length entry_parts, longer front entry.0 back, longer front (entry.0.0, w) back));
-          few = table.few;
-        }
-
   -- where the entries are parted at an entry, the key's place is that one's
   module _ (rows : List (List (K × X))) {seen : List (List (K × X))} (same : seen ≡ rows) (row at : ℕ) (place : IsFound cmp key seen row at) (e : K × X) (parts : joined rows ≡ before rows row at ++ e ∷ after rows row at) where
     parted_at : IsFound cmp key rows row at
@@ -219,31 +203,3 @@ module _ {K X : Type 0} (cmp : K → K → Ordering) (total : IsTotalOrder cmp) 
 
     pub gap_insert : (v : X) → before rows row at ++ (key, v) ∷ from rows row at ≡ insert_entry cmp (joined rows) key v
     gap_insert v = sym (rw gap_split (insert_gap cmp key (before rows row at) v (from rows row at) gap_there.below gap_there.above))
-
-    pub table_inserted : (new : List (List (K × X))) (len : ℕ) (v : X) → IsTable cmp rows len → len ≢ 2 ^ 63 - 1 → AreFilled new
-        → joined new ≡ before rows row at ++ (key, v) ∷ from rows row at → IsTable cmp new (len + 1)
-    table_inserted new len v table most filled is =
-        let front = before rows row at in
-        let back = from rows row at in
-        record {
-          ordered = rw is (ordered_with cmp total key front v back (subst (IsOrdered cmp) gap_split table.ordered) gap_there.below gap_there.above);
-          filled = filled;
-          count = rw is (omega (arith, table.count, ap length gap_split, longer front (key, v) back));
-          few = omega (arith, table.few, most);
-        }
-
-  pub table_removed : (rows new : List (List (K × X))) (len row at : ℕ) (e : K × X) → IsTable cmp rows len → AreFilled new → joined rows ≡ before rows row at ++ e ∷ after rows row at
-      → joined new ≡ before rows row at ++ after rows row at → IsTable cmp new (len - 1)
-  table_removed rows new len row at e table filled parts is =
-      let front = before rows row at in
-      let back = after rows row at in
-      record {
-        ordered = rw is (ordered_without cmp front e back (subst (IsOrdered cmp) parts table.ordered));
-        filled = filled;
-        count = rw is (omega (arith, table.count, ap length parts, longer front e back));
-        few = omega (arith, table.few);
-      }
-
-pub no_table : {K X : Type 0} (cmp : K → K → Ordering) → IsTable {K = K} {X = X} cmp [] 0
-unfolding IsStrictlySortedBy
-no_table cmp = record { ordered = tt; filled = tt; count = refl; few = omega arith }

@@ -1,5 +1,5 @@
 -- Entries in rows, and places in them.
-use Rattle.std.specs.Prelude.{◌≡◌, ◌<◌, ◌≤◌, ◌^◌, ℕ, zero, suc, Bool, false, List, [], ◌∷◌, ◌++◌, length, take, drop, slice_index_or}
+use Rattle.std.specs.Prelude.{◌≡◌, ◌<◌, ◌≤◌, ℕ, zero, suc, Bool, false, List, [], ◌∷◌, ◌++◌, length, take, drop, slice_index_or}
 use Rattle.std.specs.List.{flat_map, AllByRecursion}
 use Rattle.std.specs.List.Sorted.{IsStrictlySortedBy}
 use Rattle.std.specs.Map.{keys_of}
@@ -36,13 +36,6 @@ module _ {K X : Type 0} where
     -- the keys rise
     abbrev pub IsOrdered : List (K × X) → Type 0
     IsOrdered es = IsStrictlySortedBy cmp (keys_of es)
-
-    -- the rows of a map of so many entries
-    pub record IsTable (rows : List (List (K × X))) (len : ℕ) : Type 0 where
-      pub ordered : IsOrdered (joined rows)
-      pub filled : AreFilled rows
-      pub count : len ≡ length (joined rows)
-      pub few : len < 2 ^ 63
 
     module _ (key : K) where
       -- a key is above all of the entries', or below all of them

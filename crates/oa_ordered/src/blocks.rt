@@ -33,7 +33,7 @@ fn is_block_for<K: Ord, V>(blocks: &[Block<K, V>], key: &K, block: usize) -> boo
     blocks[block + 1].begins_after(key)
 }
 
-/// The block in which the key is or would stand: the last that begins at or before it, or else the first. Looks first at one of several.
+/// The block in which the key is or would stand: the last that begins at or before it, or else the first. Looks first at one that is told, where that is not the first.
 pub(crate) fn block_for<K: Ord, V>(blocks: &[Block<K, V>], key: &K, near: usize) -> usize
     requires ordered { IsOrdered K.cmp (joined blocks.now) }
     requires filled { AreFilled blocks.now }
@@ -41,7 +41,7 @@ pub(crate) fn block_for<K: Ord, V>(blocks: &[Block<K, V>], key: &K, near: usize)
 {
     let mut low = 0;
     let mut high = blocks.len();
-    if high > 1 && near < high {
+    if 0 < near && near < high {
         if is_block_for(blocks, key, near) {
             return near;
         }
@@ -155,10 +155,7 @@ fn drop_block<K: Drop, V: Drop>(blocks: &mut Vec<Block<K, V>>, block: usize)
 }
 
 /// Removes a key, and answers its value. A block goes with its last entry.
-pub(crate) fn remove_in<K: Ord + Drop, V: Drop>(
-    blocks: &mut Vec<Block<K, V>>,
-    key: &K,
-) -> Option<V>
+pub(crate) fn remove_in<K: Ord + Drop, V: Drop>(blocks: &mut Vec<Block<K, V>>, key: &K) -> Option<V>
     requires ordered { IsOrdered K.cmp (joined blocks.old.items) }
     requires filled { AreFilled blocks.old.items }
     ensures value { result ≡ lookup (is_at (K.cmp key.now)) (joined blocks.old.items) }

@@ -21,10 +21,7 @@ pub(crate) enum Form<K, V> {
 
 impl<K, V> Form<K, V> {
     /// The form of entries in order, with no place to spare.
-    pub(crate) fn of_entries(
-        alloc: Global,
-        entries: Vec<(K, V)>,
-    ) -> Result<Form<K, V>, AllocError>
+    pub(crate) fn of_entries(alloc: Global, entries: Vec<(K, V)>) -> Result<Form<K, V>, AllocError>
     where
         K: Drop,
         V: Drop,

@@ -6,9 +6,9 @@ ghost use Rattle.std.specs.Map.{keys_of, lookup, remove_entry};
 ghost use Rattle.std.specs.BTreeMap.{insert_entry, is_at};
 ghost use Rattle.std.specs.List.Sorted.{IsStrictlySortedBy};
 
-use crate::iter::Iter;
 use crate::blocks::{BLOCK_ENTRIES, block_for};
 use crate::form::Form;
+use crate::iter::Iter;
 use crate::row::{Row, place_in_near};
 use std::alloc::{AllocError, AllocFailed, Global};
 use std::iter::IntoIterator;

@@ -67,11 +67,11 @@ invariant_of-self-lent-in-Many g c =
     let some : 0 < length follows.lender-at-none = rw (follows.holds-at-none, same) (filled_row blocks block lt map.filled) in
     rw c.in-Many.is (λ r. (
       λ w. map_set g.K.Ord.cmp g.met.K.Ord.total c.args.key.now (Many c.in-Many.blocks) (Many (with_item c.in-Many.blocks block (follows.lender w))) c.self.inside.len map
-        (filled_in g.K.Ord.cmp c.args.key.now blocks block lt of map.filled read (follows.lender w) w same (follows.holds w)) w
-        (set_in g.K.Ord.cmp c.args.key.now blocks block lt of (follows.lender w) w (follows.holds w ∙ ap (λ es. set_value (is_at (g.K.Ord.cmp c.args.key.now)) es w) same)),
+          (filled_in g.K.Ord.cmp c.args.key.now blocks block lt of map.filled read (follows.lender w) w same (follows.holds w)) w
+          (set_in g.K.Ord.cmp c.args.key.now blocks block lt of (follows.lender w) w (follows.holds w ∙ ap (λ es. set_value (is_at (g.K.Ord.cmp c.args.key.now)) es w) same)),
       map_same g.K.Ord.cmp g.met.K.Ord.total c.args.key.now (Many c.in-Many.blocks) (Many (with_item c.in-Many.blocks block follows.lender-at-none)) c.self.inside.len map
-        (filled_set blocks block follows.lender-at-none lt some map.filled)
-        (same_in g.K.Ord.cmp c.args.key.now blocks block lt of follows.lender-at-none (follows.holds-at-none ∙ same)),
+          (filled_set blocks block follows.lender-at-none lt some map.filled)
+          (same_in g.K.Ord.cmp c.args.key.now blocks block lt of follows.lender-at-none (follows.holds-at-none ∙ same)),
     ))
 
 pub returns-else-block-len : goal.returns-else-block-len
@@ -86,8 +86,10 @@ returns-else-block-len g c =
     let all : c.args.self.now ≡ joined blocks = sym c.self.view_is ∙ ap entries_of c.in-Many.is in
     let follows = c.get_mut_near.follows in
     rw all (
-      (refl,
-      λ w. rw c.in-Many.is (set_in g.K.Ord.cmp c.args.key.now blocks block lt of (follows.lender w) w (follows.holds w ∙ ap (λ es. set_value (is_at (g.K.Ord.cmp c.args.key.now)) es w) same)),
-      rw c.in-Many.is (same_in g.K.Ord.cmp c.args.key.now blocks block lt of follows.lender-at-none (follows.holds-at-none ∙ same))),
+      (
+        refl,
+        λ w. rw c.in-Many.is (set_in g.K.Ord.cmp c.args.key.now blocks block lt of (follows.lender w) w (follows.holds w ∙ ap (λ es. set_value (is_at (g.K.Ord.cmp c.args.key.now)) es w) same)),
+        rw c.in-Many.is (same_in g.K.Ord.cmp c.args.key.now blocks block lt of follows.lender-at-none (follows.holds-at-none ∙ same)),
+      ),
       record { writes_back = tt; value = c.get_mut_near.ensures.value ∙ (ap (lookup (is_at (g.K.Ord.cmp c.args.key.now))) same ∙ sym (lookup_in g.K.Ord.cmp c.args.key.now blocks block lt of)) },
     )

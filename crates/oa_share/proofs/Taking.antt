@@ -7,7 +7,9 @@ use Rattle.oa_frame.specs.declared.ends.End.{End}
 use Rattle.oa_share.specs.Marks.{StreamPiece, Byte, Last, Owned, Of, Now, States, named, pieces, put_at}
 use Rattle.oa_share.specs.Readers.{ClientBrings, Brought, ClientState, Reads, asked_in, behind, records_of}
 use Rattle.oa_share.specs.Frames.{Broken, InHead, FramePlace, SaysSome, Within, begun, framed, frame_head_of, items_in, within}
-use Rattle.oa_share.specs.Shared.{TakesApart, Begins, IsClients, IsHeads, SharedState, place_behind, place_of, states_behind}
+use Rattle.oa_share.specs.Shared.{TakesApart, Begins, IsClients, IsHeads, SharedState, StopsAtUnknown, TellsUnknown, is_unknown, place_behind, place_of, reads_nothing, states_behind}
+use Rattle.oa_share.specs.declared.streams.Arrival.{Arrival}
+use Rattle.oa_share.specs.declared.streams.Arrival.TheVariants as arrival
 use Rattle.oa_share.specs.Steps.{EndsWith, OthersStay, Takes, brought, brought_last, state_of}
 use Rattle.oa_share.specs.declared.step.What.{What}
 use Rattle.oa_share.specs.declared.step.What.TheVariants as things
@@ -272,6 +274,66 @@ at_broken broken left client have bytes e = rw e refl
 pub at_left : (broken : Bool) (left client have : ℕ) (bytes : List ℕ) → broken ≡ false → have ≡ 0 → place_of broken left client have bytes ≡ place_left client left
 at_left broken left client have bytes e none = rw (e, none) refl
 
+pub kept_open : (broken : Bool) (left client have : ℕ) (bytes : List ℕ) → broken ≡ false → reads_nothing (place_of broken left client have bytes) ≡ false
+kept_open broken left client have bytes e = ap (λ (b : Bool). reads_nothing (place_of b left client have bytes)) e ∙ clear (left == 0)
+  where
+    clear : (none : Bool) → reads_nothing (if none then InHead (take have bytes) else Within client left) ≡ false
+    clear true = refl
+    clear false = refl
+
+-- ---- heads that say nothing
+heads_open : (at : FramePlace) → IsHeads at → reads_nothing at ≡ false
+heads_open (InHead front) h = refl
+heads_open (Within client n) h = absurd h
+heads_open Broken h = absurd h
+
+clients_open : (at : FramePlace) → IsClients at → reads_nothing at ≡ false
+clients_open (InHead front) h = absurd h
+clients_open (Within client n) h = refl
+clients_open Broken h = absurd h
+
+open_before : (at : FramePlace) (x : ℕ) (xs : List ℕ) → reads_nothing (place_behind (framed at x).1 xs) ≡ false → reads_nothing at ≡ false
+open_before (InHead front) x xs h = refl
+open_before (Within client n) x xs h = refl
+open_before Broken x xs h = absurd (true≢false (sym (ap reads_nothing (broken_place xs)) ∙ h))
+
+pub stops_open : (at : FramePlace) (bytes : List ℕ) → reads_nothing (place_behind at bytes) ≡ false → StopsAtUnknown at bytes
+unfolding StopsAtUnknown place_behind
+stops_open at [] h = tt
+stops_open at (x ∷ xs) h = (open_before at x xs h, stops_open (framed at x).1 xs h)
+
+head_stops : (front bytes : List ℕ) → length (front ++ bytes) ≤ 8 → StopsAtUnknown (InHead front) bytes
+unfolding StopsAtUnknown
+head_stops front [] h = tt
+head_stops front (x ∷ []) h = (refl, tt)
+head_stops front (x ∷ (y ∷ ys)) h =
+    let e : (front ++ x ∷ []) ++ y ∷ ys ≡ front ++ x ∷ (y ∷ ys) = append_assoc front (x ∷ []) (y ∷ ys) in
+    let len = length-append front (x ∷ (y ∷ ys)) in
+    let len' = length-append front (x ∷ []) in
+    (
+      refl,
+      subst (λ (r : List (Owned StreamPiece) × FramePlace). StopsAtUnknown r.1 (y ∷ ys)) (sym (head_part (front ++ x ∷ []) (omega (arith, len, len', h))))
+          (head_stops (front ++ x ∷ []) (y ∷ ys) (subst (λ (l : List ℕ). length l ≤ 8) (sym e) h)),
+    )
+
+tells_open : (it : Arrival) (at : FramePlace) (bytes : List ℕ) → reads_nothing at ≡ false → is_unknown it ≡ reads_nothing (place_behind at bytes) → StopsAtUnknown at bytes → TellsUnknown it at bytes
+tells_open it at bytes clear is stops = record {
+  told = is ∙ sym (ap (λ (b : Bool). if b then false else reads_nothing (place_behind at bytes)) clear);
+  stops = λ o. stops;
+}
+
+tells_known : (it : Arrival) (old new : SharedState) (bytes : List ℕ) (all : List (Owned Brought)) → reads_nothing old.place ≡ false → reads_nothing new.place ≡ false → is_unknown it ≡ false → TakesApart old bytes all new
+    → TellsUnknown it old.place bytes
+tells_known it old new bytes all clear clear' known t =
+    let behind = ap reads_nothing t.place ∙ clear' in
+    tells_open it old.place bytes clear (known ∙ sym behind) (stops_open old.place bytes behind)
+
+tells_nothing : (at : FramePlace) (bytes : List ℕ) → at ≡ Broken → TellsUnknown arrival.Nothing at bytes
+tells_nothing at bytes is = record {
+  told = sym (ap (λ (p : FramePlace). if reads_nothing p then false else reads_nothing (place_behind at bytes)) is);
+  stops = λ clear. absurd (true≢false (sym (ap reads_nothing is) ∙ clear));
+}
+
 -- ---- as it is kept
 take_less : (n m : ℕ) (xs : List ℕ) → n ≤ m → take n (take m xs) ≡ take n xs
 take_less n m xs h = take-take n m xs h
@@ -296,6 +358,9 @@ module _ (old : SharedState) (clients : List (ℕ × ClientState)) (broken : Boo
   pub broken_taken : (more : List ℕ) → broken ≡ true → TakesApart old (take (length more) more) [] old
   broken_taken more b = broken_asks old (take (length more) more) (sym place_is ∙ at_broken broken left client have bytes b)
 
+  pub broken_tells : (more : List ℕ) → broken ≡ true → TellsUnknown arrival.Nothing old.place (take (length more) more)
+  broken_tells more b = tells_nothing old.place (take (length more) more) (sym place_is ∙ at_broken broken left client have bytes b)
+
   head_is : IsHeads old.place → old.place ≡ InHead (take have bytes)
   head_is h = let k = kept_head broken left client have bytes (subst IsHeads (sym place_is) h) in sym place_is ∙ at_head broken left client have bytes k.0 k.1
 
@@ -310,6 +375,12 @@ module _ (old : SharedState) (clients : List (ℕ × ClientState)) (broken : Boo
       part_asks old (record { place = place_of broken left client (have + count) filled; clients = clients }) (take have bytes) (take count more) (head_is h) (omega (arith, all, len, len', short))
       (at_head broken left client (have + count) filled k.0 k.1 ∙ ap InHead (ap (λ n. take (have + n) filled) (sym len) ∙ fill)) (λ c. ap (λ cs. state_of cs c) clients_are)
 
+  pub part_tells : (filled more : List ℕ) (count : ℕ) → IsHeads old.place → TakesApart old (take count more) [] (record { place = place_of broken left client (have + count) filled; clients = clients })
+      → TellsUnknown arrival.Nothing old.place (take count more)
+  part_tells filled more count h t =
+      let k = kept_head broken left client have bytes (subst IsHeads (sym place_is) h) in
+      tells_known arrival.Nothing old (record { place = place_of broken left client (have + count) filled; clients = clients }) (take count more) [] (heads_open old.place h) (kept_open broken left client (have + count) filled k.0) refl t
+
   pub whole_taken : (filled more : List ℕ) (count : ℕ) (h : FrameHead) (all : List (Owned Brought)) (mid new : SharedState) → IsHeads old.place → length bytes ≡ 8 → length filled ≡ 8 → have < 8 → count ≤ length more
       → have + count ≡ 8 → take (have + length (take count more)) filled ≡ take have bytes ++ take count more → h ≡ frame_head_of filled → mid.clients ≡ clients → Begins h mid all new → TakesApart old (take count more) all new
   whole_taken filled more count h all mid new heads eight eight' under few sum fill is_head same b =
@@ -319,6 +390,15 @@ module _ (old : SharedState) (clients : List (ℕ × ClientState)) (broken : Boo
       let full : filled ≡ take have bytes ++ take count more = sym (take_all (have + length (take count more)) filled (omega (arith, len, sum, eight'))) ∙ fill in
       whole_asks old mid new (take have bytes) (take count more) all (head_is heads) (omega (arith, len, sum, under)) (omega (arith, total, len, len', sum)) (same ∙ clients_are)
       (subst (λ (g : FrameHead). Begins g mid all new) (is_head ∙ ap frame_head_of full) b)
+
+  pub whole_tells : (it : Arrival) (more : List ℕ) (count : ℕ) (h : FrameHead) (all all' : List (Owned Brought)) (mid new : SharedState) → IsHeads old.place → length bytes ≡ 8 → have < 8 → count ≤ length more → have + count ≡ 8
+      → is_unknown it ≡ reads_nothing (begun h).1 → Begins h mid all' new → TakesApart old (take count more) all new → TellsUnknown it old.place (take count more)
+  whole_tells it more count h all all' mid new heads eight under few sum told b t =
+      let len = length-take-le count more few in
+      let len' = length-take-le have bytes (omega (arith, eight, under)) in
+      let total = length-append (take have bytes) (take count more) in
+      tells_open it old.place (take count more) (heads_open old.place heads) (told ∙ ap reads_nothing (sym b.place) ∙ ap reads_nothing (sym t.place))
+      (subst (λ (p : FramePlace). StopsAtUnknown p (take count more)) (sym (head_is heads)) (head_stops (take have bytes) (take count more) (omega (arith, total, len, len', sum))))
 
   pub within_taken : (clients' : List (ℕ × ClientState)) (more : List ℕ) (most taken : ℕ) (what : What) (all : List (Owned Brought)) → IsClients old.place → 0 < length more → most ≡ min (length more) left → Takes taken what (length (take most more))
       → ClientBrings (state_of clients client) (take taken (take most more)) (brought what) (state_of clients' client) → OthersStay client clients clients' → all ≡ named client (brought what)
@@ -340,6 +420,12 @@ module _ (old : SharedState) (clients : List (ℕ × ClientState)) (broken : Boo
       (within_asks old (record { place = place_of broken (left - taken) client 0 bytes; clients = clients' }) client left (take taken more) (brought what)
       (sym place_is ∙ at_client broken left client have bytes k.0 k.1) (omega (arith, long, low)) (omega (arith, long, up, len, fits)) b' stay'
       (at_left broken (left - taken) client 0 bytes k.0 refl ∙ ap (λ n. place_left client (left - n)) (sym long)))
+
+  pub within_tells : (it : Arrival) (clients' : List (ℕ × ClientState)) (part : List ℕ) (taken : ℕ) (all : List (Owned Brought)) → IsClients old.place → is_unknown it ≡ false
+      → TakesApart old part all (record { place = place_of broken (left - taken) client 0 bytes; clients = clients' }) → TellsUnknown it old.place part
+  within_tells it clients' part taken all cs known t =
+      let k = kept_client broken left client have bytes (subst IsClients (sym place_is) cs) in
+      tells_known it old (record { place = place_of broken (left - taken) client 0 bytes; clients = clients' }) part all (clients_open old.place cs) (kept_open broken (left - taken) client 0 bytes k.0) known t
 
   pub nothing_taken : (clients' : List (ℕ × ClientState)) → state_of clients' client ≡ state_of clients client → OthersStay client clients clients'
       → TakesApart old [] [] (record { place = place_of broken left client have bytes; clients = clients' })

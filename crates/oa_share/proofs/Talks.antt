@@ -19,10 +19,10 @@ use Rattle.oa_share.specs.Frames.{Broken, FramePlace, InHead, Within}
 use Rattle.oa_share.specs.Marks.{Now, Of, Owned, named}
 use Rattle.oa_share.specs.Steps.{EndsLowest, EndsWith, brought_last}
 use Rattle.oa_share.specs.Readers.{Body, Brought, ClientState, Ends}
-use Rattle.oa_share.specs.Shared.{IsClients, Rises, SharedState, TakesApart, TakesSome, arrived, place_behind}
+use Rattle.oa_share.specs.Shared.{IsClients, Rises, SharedState, TakesApart, TakesSome, arrived, place_behind, reads_nothing}
 use Rattle.oa_share.specs.declared.streams.Arrival.{Arrival}
 use Rattle.oa_share.specs.declared.streams.Arrival.TheVariants as things
-use Rattle.oa_share.specs.Talking.{AllTurned, AnswersAsked, AnswersEnds, AnswersSingle, ClosesAll, EndsNext, FailsToTell, MovesOn, HasTold, IsEndOf, IsOver, LosesWriter, MakesNowBefore, ServesClients, TalksOn, TellsAll, ends_at, ends_in, input_end, reads_nothing, parted, parting}
+use Rattle.oa_share.specs.Talking.{AllTurned, AnswersAsked, AnswersEnds, AnswersSingle, ClosesAll, EndsNext, FailsToTell, MovesOn, HasTold, IsEndOf, IsOver, LosesWriter, MakesNowBefore, ServesClients, TalksOn, TellsAll, ends_at, ends_in, input_end, parted, parting}
 use Rattle.oa_share.specs.declared.serving.Loss.{Loss}
 use Rattle.oa_share.specs.declared.serving.Loss.TheVariants as loss
 use Rattle.oa_share.specs.declared.session_end.SessionEnd.{SessionEnd}

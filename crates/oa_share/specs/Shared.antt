@@ -1,5 +1,5 @@
 -- One stream of the frames of many clients, taken apart. (This project's choice.)
-use Rattle.std.specs.Prelude.{◌≡◌, ◌<◌, ◌≤◌, ℕ, ◌-◌, ◌==◌, Bool, if◌then◌else◌, List, [], ◌∷◌, length, slice_range, take, ⊤}
+use Rattle.std.specs.Prelude.{◌≡◌, ◌<◌, ◌≤◌, ℕ, ◌-◌, ◌==◌, Bool, true, false, if◌then◌else◌, List, [], ◌∷◌, length, slice_range, take, ⊤}
 use Rattle.std.specs.List.Sorted.{IsStrictlySortedBy}
 use Rattle.std.specs.Map.{keys_of}
 use Rattle.std.specs.Ordering.{nat_cmp}
@@ -16,6 +16,17 @@ use Rattle.oa_share.specs.declared.streams.Arrival.TheVariants as things
 unfoldable pub place_behind : FramePlace → List ℕ → FramePlace
 place_behind at [] = at
 place_behind at (x ∷ xs) = place_behind (framed at x).1 xs
+
+-- behind a head that says nothing
+abbrev pub reads_nothing : FramePlace → Bool
+reads_nothing (InHead front) = false
+reads_nothing (Within client n) = false
+reads_nothing Broken = true
+
+-- none of these bytes, read from this place on, stands behind a head that says nothing
+unfoldable pub StopsAtUnknown : FramePlace → List ℕ → Type 0
+StopsAtUnknown at [] = ⊤
+StopsAtUnknown at (x ∷ xs) = (reads_nothing at ≡ false) × StopsAtUnknown (framed at x).1 xs
 
 -- the states of the clients behind these pieces
 unfoldable pub states_behind : {Z : Type 0} → Reads Z → States Z → List (Owned StreamPiece) → States Z
@@ -51,6 +62,18 @@ arrived (things.Body client whole) = Of client (Body (body_of whole)) ∷ []
 arrived (things.Ends client why) = Of client (Ends why) ∷ []
 arrived things.Now = Now ∷ []
 arrived things.Unknown = []
+
+abbrev pub is_unknown : Arrival → Bool
+is_unknown things.Nothing = false
+is_unknown (things.Body client whole) = false
+is_unknown (things.Ends client why) = false
+is_unknown things.Now = false
+is_unknown things.Unknown = true
+
+-- Unknown is answered where these bytes come to a head that says nothing, and nowhere else. They end with it.
+pub record TellsUnknown (arrival : Arrival) (at : FramePlace) (bytes : List ℕ) : Type 0 where
+  pub told : is_unknown arrival ≡ (if reads_nothing at then false else reads_nothing (place_behind at bytes))
+  pub stops : reads_nothing at ≡ false → StopsAtUnknown at bytes
 
 -- some bytes were taken
 pub record TakesSome (count all : ℕ) : Type 0 where

@@ -10,7 +10,7 @@ use Rattle.oa_share.specs.Frames.{Broken, FramePlace, InHead, Within}
 use Rattle.oa_share.specs.Marks.{Last, Now, Of, Owned, named}
 use Rattle.oa_share.specs.Outgoing.{spelled_frames, spelled_told}
 use Rattle.oa_share.specs.Readers.{Body, Brought, ClientState, Ends, records_of}
-use Rattle.oa_share.specs.Shared.{IsClients, Rises, SharedState, TakesApart}
+use Rattle.oa_share.specs.Shared.{IsClients, Rises, SharedState, TakesApart, reads_nothing}
 use Rattle.oa_share.specs.declared.serving.Loss.{Loss}
 use Rattle.oa_share.specs.declared.serving.Loss.TheVariants as loss
 use Rattle.oa_share.specs.declared.serving.Progress.{Progress}
@@ -80,11 +80,6 @@ input_end (InHead []) = over.Closed
 input_end (InHead (x ∷ xs)) = over.Cut
 input_end (Within client n) = over.Cut
 input_end Broken = over.Unknown
-
-abbrev pub reads_nothing : FramePlace → Bool
-reads_nothing (InHead front) = false
-reads_nothing (Within client n) = false
-reads_nothing Broken = true
 
 -- Why the reading ended: the input did, between two frames or within one; a head said nothing; memory was refused among a client's bytes; the
 -- reader failed, or so many bytes and calls of it were used up.

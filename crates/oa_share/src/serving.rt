@@ -3,9 +3,9 @@ ghost use Rattle.std.specs.Prelude.{◌≡◌, ◌<◌, ◌≤◌, ◌∷◌, []
 ghost use Rattle.oa_frame.specs.Beginnings.{AreUnbroken};
 ghost use Rattle.oa_share.specs.Marks.{Of};
 ghost use Rattle.oa_share.specs.Readers.{Body, Ends};
-ghost use Rattle.oa_share.specs.Shared.{BringsRecord, Rises, arrived, starting};
+ghost use Rattle.oa_share.specs.Shared.{BringsRecord, Rises, arrived, reads_nothing, starting};
 ghost use Rattle.oa_share.specs.Talking.{AnswersAsked, AnswersEnds, AnswersSingle, ClosesAll, EndsNext, MakesNow, MakesNowBefore, Progresses, ServesClients};
-ghost use Rattle.oa_share.specs.Talking.{ends_at, ends_in, parted, reads_nothing};
+ghost use Rattle.oa_share.specs.Talking.{ends_at, ends_in, parted};
 ghost use Rattle.oa_share.specs.declared.session_end.SessionEnd.TheVariants as over;
 ghost use Rattle.oa_stream.specs.Ahead.{ahead, read_ahead};
 

@@ -1,10 +1,11 @@
 //! The frames of many clients, taken apart.
-ghost use Rattle.std.specs.Prelude.{◌≡◌, ◌<◌, ◌≤◌, ◌+◌, ◌++◌, [], length, take, IfOk, IfSome, OnErr};
-ghost use Rattle.oa_share.specs.Frames.{InHead, SaysSome};
+ghost use Rattle.std.specs.Prelude.{◌≡◌, ◌<◌, ◌≤◌, ◌+◌, ◌++◌, [], false, length, take, IfOk, IfSome, OnErr};
+ghost use Rattle.oa_share.specs.Frames.{InHead, SaysSome, begun};
 ghost use Rattle.oa_share.specs.Marks.{named};
-ghost use Rattle.oa_share.specs.Shared.{Begins, BringsRecord, IsClients, IsHeads, IsRecordFrame, Rises, TakesApart, TakesSome, arrived, starting};
+ghost use Rattle.oa_share.specs.Shared.{Begins, BringsRecord, IsClients, IsHeads, IsRecordFrame, Rises, TakesApart, TakesSome, TellsUnknown};
+ghost use Rattle.oa_share.specs.Shared.{arrived, is_unknown, reads_nothing, starting};
 ghost use Rattle.oa_share.specs.Steps.{EndsLowest, brought, brought_last};
-ghost use Rattle.oa_share.specs.Talking.{input_end, reads_nothing};
+ghost use Rattle.oa_share.specs.Talking.{input_end};
 
 use crate::{ClientStep, Clients, FrameHead, SessionEnd, What, WholeRecord};
 use oa_frame::End;
@@ -74,12 +75,13 @@ impl Streams {
         }
     }
 
-    /// Takes the first of these bytes, up to the last that brings something, or all of them. Err where memory is refused, which is among a
-    /// client's bytes: nothing is taken then, and it may be tried again.
+    /// Takes the first of these bytes, up to the last that brings something or that of a head that says nothing, or all of them. Behind such a
+    /// head all is passed over. Err where memory is refused, which is among a client's bytes: nothing is taken then, and it may be tried again.
     pub fn take<'a>(&mut self, bytes: &'a [u8]) -> Result<Portion<'a>, AllocError>
         requires { 0 < length bytes.now }
         ensures taken { IfOk result (λ t. TakesSome t.count (length bytes.now)) }
         ensures asks { IfOk result (λ t. TakesApart self.old (take t.count bytes.now) (arrived t.arrived) self.new) }
+        ensures unknown { IfOk result (λ t. TellsUnknown t.arrived self.old.place (take t.count bytes.now)) }
         ensures err { OnErr result (TakesApart self.old [] [] self.new) }
         ensures within { OnErr result (IsClients self.old.place) }
     {
@@ -164,6 +166,7 @@ impl Streams {
         requires within { IsClients self.old.place }
         ensures taken { IfOk result (λ t. TakesSome t.count (length bytes.now)) }
         ensures asks { IfOk result (λ t. TakesApart self.old (take t.count bytes.now) (arrived t.arrived) self.new) }
+        ensures unknown { IfOk result (λ t. TellsUnknown t.arrived self.old.place (take t.count bytes.now)) }
         ensures err { OnErr result (TakesApart self.old [] [] self.new) }
     {
         let client = self.client;
@@ -183,6 +186,7 @@ impl Streams {
         requires head { IsHeads self.old.place }
         ensures taken { TakesSome result.count (length bytes.now) }
         ensures asks { TakesApart self.old (take result.count bytes.now) (arrived result.arrived) self.new }
+        ensures unknown { TellsUnknown result.arrived self.old.place (take result.count bytes.now) }
     {
         let have = self.have;
         let count = bytes.len().min(8 - have);
@@ -204,7 +208,8 @@ impl Streams {
     fn begin<'a>(&mut self, head: FrameHead) -> Arrival<'a>
         requires some { SaysSome head }
         requires head { self.old.place ≡ InHead [] }
-        ensures { Begins head self.old (arrived result) self.new }
+        ensures begins { Begins head self.old (arrived result) self.new }
+        ensures unknown { is_unknown result ≡ reads_nothing (begun head).1 }
     {
         match head {
             FrameHead::Bytes { client, count } => {
@@ -242,7 +247,8 @@ fn record_frame(bytes: &[u8]) -> Option<(u32, usize)>
 /// The same in a client's name.
 #[tactic(auto, unfolding(crate::specs::Marks::named))]
 fn of_client<'a>(client: u32, what: What<'a>) -> Arrival<'a>
-    ensures { arrived result ≡ named client (brought what.entry) }
+    ensures brings { arrived result ≡ named client (brought what.entry) }
+    ensures known { is_unknown result ≡ false }
 {
     match what {
         What::Nothing => Arrival::Nothing,
@@ -254,7 +260,8 @@ fn of_client<'a>(client: u32, what: What<'a>) -> Arrival<'a>
 /// What the end of a client's stream brings, in its name.
 #[tactic(auto, unfolding(crate::specs::Marks::named))]
 fn last_of<'a>(client: u32, why: Option<End>) -> Arrival<'a>
-    ensures { arrived result ≡ named client (brought_last why) }
+    ensures brings { arrived result ≡ named client (brought_last why) }
+    ensures known { is_unknown result ≡ false }
 {
     match why {
         Some(why) => Arrival::Ends(client, why),

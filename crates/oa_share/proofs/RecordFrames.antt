@@ -8,12 +8,12 @@ use Rattle.std.proofs.lemmas.List.{drop-drop, drop-take, length-drop, length-tak
 use Rattle.oa_share.specs.Marks.{Of, named}
 use Rattle.oa_share.specs.Readers.{Body, Held, ClientBrings, ClientState, IsWholeRecord, said}
 use Rattle.oa_share.specs.Frames.{InHead, Within, all_clients, frame_head_of, max_frame_bytes}
-use Rattle.oa_share.specs.Shared.{Begins, BringsRecord, IsRecordFrame, SharedState, TakesApart, place_of}
+use Rattle.oa_share.specs.Shared.{Begins, BringsRecord, IsRecordFrame, SharedState, StopsAtUnknown, TakesApart, place_of, reads_nothing}
 use Rattle.oa_share.specs.Steps.{state_of}
 use Rattle.oa_share.specs.declared.frame.FrameHead.{FrameHead}
 use Rattle.oa_share.specs.declared.frame.FrameHead.TheVariants as head
 use Rattle.oa_share.proofs.Advances.{whole_at}
-use Rattle.oa_share.proofs.Taking.{asks_then, at_head, begins_plain, place_left, whole_asks, within_asks}
+use Rattle.oa_share.proofs.Taking.{asks_then, at_head, begins_plain, broken_asks, is_broken, place_left, stops_open, whole_asks, within_asks}
 
 -- ---- a head of a client's bytes says that they are few
 is_short : (all none long : Bool) (client n c m : ℕ)
@@ -122,3 +122,14 @@ some_front streams bytes client count b =
     let some = b.some in
     let len = length-take-le count bytes b.within in
     omega (arith, some, len)
+
+-- behind a head that says nothing it would bring nothing
+pub record_stops : (streams : SharedState) (bytes : List ℕ) (client count : ℕ) → BringsRecord streams bytes client count → StopsAtUnknown streams.place (take count bytes)
+record_stops streams bytes client count b = by (reads_nothing streams.place) refl
+  where
+    by : (t : Bool) → reads_nothing streams.place ≡ t → StopsAtUnknown streams.place (take count bytes)
+    by false clear = stops_open streams.place (take count bytes) (ap reads_nothing b.apart.place ∙ clear)
+    by true none =
+        let nothing = broken_asks streams (take count bytes) (is_broken streams.place none) in
+        let one = ap length (sym nothing.brought ∙ b.apart.brought) in
+        absurd (omega (arith, one))

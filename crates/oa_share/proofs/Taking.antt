@@ -282,6 +282,11 @@ kept_open broken left client have bytes e = ap (λ (b : Bool). reads_nothing (pl
     clear false = refl
 
 -- ---- heads that say nothing
+pub is_broken : (at : FramePlace) → reads_nothing at ≡ true → at ≡ Broken
+is_broken (InHead front) h = absurd (true≢false (sym h))
+is_broken (Within client n) h = absurd (true≢false (sym h))
+is_broken Broken h = refl
+
 heads_open : (at : FramePlace) → IsHeads at → reads_nothing at ≡ false
 heads_open (InHead front) h = refl
 heads_open (Within client n) h = absurd h
@@ -309,8 +314,7 @@ head_stops front (x ∷ []) h = (refl, tt)
 head_stops front (x ∷ (y ∷ ys)) h =
     let e : (front ++ x ∷ []) ++ y ∷ ys ≡ front ++ x ∷ (y ∷ ys) = append_assoc front (x ∷ []) (y ∷ ys) in
     let len = length-append front (x ∷ (y ∷ ys)) in
-    let len' = length-append front (x ∷ []) in
-    (
+    let len' = length-append front (x ∷ []) in (
       refl,
       subst (λ (r : List (Owned StreamPiece) × FramePlace). StopsAtUnknown r.1 (y ∷ ys)) (sym (head_part (front ++ x ∷ []) (omega (arith, len, len', h))))
           (head_stops (front ++ x ∷ []) (y ∷ ys) (subst (λ (l : List ℕ). length l ≤ 8) (sym e) h)),
@@ -471,6 +475,15 @@ place_append : (at : FramePlace) (xs ys : List ℕ) → place_behind at (xs ++ y
 unfolding place_behind
 place_append at [] ys = refl
 place_append at (x ∷ xs) ys = place_append (framed at x).1 xs ys
+
+pub stops_then : (at : FramePlace) (xs ys : List ℕ) → StopsAtUnknown at xs → StopsAtUnknown (place_behind at xs) ys → StopsAtUnknown at (xs ++ ys)
+unfolding StopsAtUnknown place_behind
+stops_then at [] ys a b = b
+stops_then at (x ∷ xs) ys a b = (a.0, stops_then (framed at x).1 xs ys a.1 b)
+
+pub stops_none : (at : FramePlace) → StopsAtUnknown at []
+unfolding StopsAtUnknown
+stops_none at = tt
 
 module _ {Z : Type 0} (reads : Reads Z) where
   asked_append : (states : States Z) (ps qs : List (Owned StreamPiece)) → asked_in reads states (ps ++ qs) ≡ asked_in reads states ps ++ asked_in reads (states_behind reads states ps) qs

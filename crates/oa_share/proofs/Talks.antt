@@ -19,7 +19,7 @@ use Rattle.oa_share.specs.Frames.{Broken, FramePlace, InHead, Within}
 use Rattle.oa_share.specs.Marks.{Now, Of, Owned, named}
 use Rattle.oa_share.specs.Steps.{EndsLowest, EndsWith, brought_last}
 use Rattle.oa_share.specs.Readers.{Body, Brought, ClientState, Ends}
-use Rattle.oa_share.specs.Shared.{IsClients, Rises, SharedState, TakesApart, TakesSome, arrived, place_behind, reads_nothing}
+use Rattle.oa_share.specs.Shared.{IsClients, Rises, SharedState, StopsAtUnknown, TakesApart, TakesSome, arrived, place_behind, reads_nothing}
 use Rattle.oa_share.specs.declared.streams.Arrival.{Arrival}
 use Rattle.oa_share.specs.declared.streams.Arrival.TheVariants as things
 use Rattle.oa_share.specs.Talking.{AllTurned, AnswersAsked, AnswersEnds, AnswersSingle, ClosesAll, EndsNext, FailsToTell, MovesOn, HasTold, IsEndOf, IsOver, LosesWriter, MakesNowBefore, ServesClients, TalksOn, TellsAll, ends_at, ends_in, input_end, parted, parting}
@@ -27,7 +27,7 @@ use Rattle.oa_share.specs.declared.serving.Loss.{Loss}
 use Rattle.oa_share.specs.declared.serving.Loss.TheVariants as loss
 use Rattle.oa_share.specs.declared.session_end.SessionEnd.{SessionEnd}
 use Rattle.oa_share.specs.declared.session_end.SessionEnd.TheVariants as over
-use Rattle.oa_share.proofs.Taking.{asks_then, nothing_asked}
+use Rattle.oa_share.proofs.Taking.{asks_then, nothing_asked, stops_none, stops_then}
 use Rattle.oa_share.proofs.Tellings.{as_ends, loses_once, loses_then, told_nothing, told_once, told_quiet, told_then}
 
 -- ---- bodies that come alone
@@ -39,6 +39,9 @@ parted_append alone (a ∷ ps) qs = ap (λ l. parting alone a ++ a ∷ l) (parte
 -- ---- one part of a session after another
 pub later_then : (m n a b c : ℕ) → b ≡ later m a → c ≡ later n b → c ≡ later (m + n) a
 later_then m n a b c e f = omega (arith, e, f)
+
+pub stops_on : (from mid : SharedState) (xs ys : List ℕ) (asked : List (Owned Brought)) → TakesApart from xs asked mid → StopsAtUnknown from.place xs → StopsAtUnknown mid.place ys → StopsAtUnknown from.place (xs ++ ys)
+stops_on from mid xs ys asked t a b = stops_then from.place xs ys a (subst (λ p. StopsAtUnknown p ys) (sym t.place) b)
 
 pub end_later : (why : SessionEnd) (place : FramePlace) (used used' : ℕ) (i : Input) → used ≤ used' → IsEndOf why place used i → IsEndOf why place used' i
 end_later over.Closed place used used' i h e = e
@@ -52,7 +55,7 @@ end_later over.WriteFault place used used' i h e = absurd e
 module _ {S : Type 0} (alone : List ℕ → Bool) (turn : SharedTurn S) where
   pub talks_start : (from : SharedState) (i : Input) (o : Output) (state : S) → TakesApart from [] [] from → o.broken ≡ false → TalksOn alone turn from from i i o o state state
   unfolding parted
-  talks_start from i o state t h = record { taken = []; asked = []; calls = 0; read = Consumes-nil i.left; apart = t; clock = none i.calls; steady = λ s. s; told = told_nothing turn o state h }
+  talks_start from i o state t h = record { taken = []; asked = []; calls = 0; read = Consumes-nil i.left; apart = t; stops = stops_none from.place; clock = none i.calls; steady = λ s. s; told = told_nothing turn o state h }
     where
       none : (n : ℕ) → n ≡ later 0 n
       none n = omega arith
@@ -64,6 +67,7 @@ module _ {S : Type 0} (alone : List ℕ → Bool) (turn : SharedTurn S) where
     calls = a.calls + b.calls;
     read = Consumes-trans i.left j.left k.left a.taken b.taken a.read b.read;
     apart = asks_then from mid to a.taken b.taken a.asked b.asked a.apart b.apart;
+    stops = stops_on from mid a.taken b.taken a.asked a.apart a.stops b.stops;
     clock = later_then a.calls b.calls i.calls j.calls k.calls a.clock b.clock;
     steady = λ s. b.steady (a.steady s);
     told = subst (λ l. HasTold turn l o q old new) (sym (parted_append alone a.asked b.asked)) (told_then turn (parted alone a.asked) (parted alone b.asked) o p q old between new a.told b.told);
@@ -78,6 +82,7 @@ module _ {S : Type 0} (alone : List ℕ → Bool) (turn : SharedTurn S) where
     calls = a.calls + b.calls;
     read = Consumes-trans i.left j.left k.left a.taken b.taken a.read b.read;
     apart = asks_then from mid b.streams a.taken b.taken a.asked b.asked a.apart b.apart;
+    stops = stops_on from mid a.taken b.taken a.asked a.apart a.stops b.stops;
     clock = later_then a.calls b.calls i.calls j.calls k.calls a.clock b.clock;
     sound = λ s. b.sound (a.steady s);
     done = by b.done;
@@ -152,32 +157,34 @@ module _ {S : Type 0} (alone : List ℕ → Bool) (turn : SharedTurn S) where
   one_call = omega arith
 
   -- what is read ahead was taken, and answered
-  abbrev talks_taken : (from to : SharedState) (i j : Input) (o p : Output) (old new : S) (bytes : List ℕ) (asked : List (Owned Brought)) → TakesAhead bytes i j → TakesApart from bytes asked to → HasTold turn (parted alone asked) o p old new
-      → TalksOn alone turn from to i j o p old new
-  talks_taken from to i j o p old new bytes asked t a h = record {
+  abbrev talks_taken : (from to : SharedState) (i j : Input) (o p : Output) (old new : S) (bytes : List ℕ) (asked : List (Owned Brought)) → TakesAhead bytes i j → TakesApart from bytes asked to → StopsAtUnknown from.place bytes
+      → HasTold turn (parted alone asked) o p old new → TalksOn alone turn from to i j o p old new
+  talks_taken from to i j o p old new bytes asked t a stop h = record {
     taken = bytes;
     asked = asked;
     calls = 0;
     read = t.taken;
     apart = a;
+    stops = stop;
     clock = t.clock ∙ no_call i.calls;
     steady = λ s. t.steady ∙ s;
     told = h;
   }
 
   pub goes_taken : (from to : SharedState) (i j : Input) (o p : Output) (old new : S) (bytes : List ℕ) (asked : List (Owned Brought)) → i.faulted ≡ false → 0 < length bytes → TakesAhead bytes i j → TakesApart from bytes asked to
-      → HasTold turn (parted alone asked) o p old new → MovesOn alone turn from to i j o p old new
-  goes_taken from to i j o p old new bytes asked well some t a h = record { talks = talks_taken from to i j o p old new bytes asked t a h; some = one_taken (length bytes) some; well = t.fault ∙ well }
+      → StopsAtUnknown from.place bytes → HasTold turn (parted alone asked) o p old new → MovesOn alone turn from to i j o p old new
+  goes_taken from to i j o p old new bytes asked well some t a stop h = record { talks = talks_taken from to i j o p old new bytes asked t a stop h; some = one_taken (length bytes) some; well = t.fault ∙ well }
 
-  pub loses_taken : (from to : SharedState) (i j : Input) (o p : Output) (old new : S) (bytes : List ℕ) (asked : List (Owned Brought)) → i.faulted ≡ false → TakesAhead bytes i j → TakesApart from bytes asked to → LosesWriter turn (parted alone asked) [] o p old new
-      → ServesClients alone turn from i j o p old new over.WriteFault
-  loses_taken from to i j o p old new bytes asked well t a h = record {
+  pub loses_taken : (from to : SharedState) (i j : Input) (o p : Output) (old new : S) (bytes : List ℕ) (asked : List (Owned Brought)) → i.faulted ≡ false → TakesAhead bytes i j → TakesApart from bytes asked to → StopsAtUnknown from.place bytes
+      → LosesWriter turn (parted alone asked) [] o p old new → ServesClients alone turn from i j o p old new over.WriteFault
+  loses_taken from to i j o p old new bytes asked well t a stop h = record {
     taken = bytes;
     asked = asked;
     streams = to;
     calls = 0;
     read = t.taken;
     apart = a;
+    stops = stop;
     clock = t.clock ∙ no_call i.calls;
     sound = λ s. t.fault ∙ well;
     done = inr (record { ended = refl; ends = []; others = ends_in to.clients; are = refl; rise = λ some. absurd (some refl); loses = h });
@@ -192,6 +199,7 @@ module _ {S : Type 0} (alone : List ℕ → Bool) (turn : SharedTurn S) where
     calls = 0;
     read = Consumes-nil i.left;
     apart = stays from;
+    stops = stops_none from.place;
     clock = no_call i.calls;
     sound = λ s. well;
     done = inr (record { ended = refl; ends = []; others = ends_in from.clients; are = refl; rise = λ some. absurd (some refl); loses = subst (λ l. LosesWriter turn l [] o p old new) (sym (parted_none alone)) h });
@@ -199,7 +207,7 @@ module _ {S : Type 0} (alone : List ℕ → Bool) (turn : SharedTurn S) where
 
   over_here : (why : SessionEnd) (from to : SharedState) (i : Input) (o : Output) (state : S) → o.broken ≡ false → i.faulted ≡ false → TakesApart from [] [] to → IsEndOf why to.place 0 i → IsOver alone turn why from to i i o o state state
   over_here why from to i o state h well t e = record {
-    talks = record { taken = []; asked = []; calls = 0; read = Consumes-nil i.left; apart = t; clock = no_call i.calls; steady = λ s. s; told = subst (λ l. HasTold turn l o o state state) (sym (parted_none alone)) (told_nothing turn o state h) };
+    talks = record { taken = []; asked = []; calls = 0; read = Consumes-nil i.left; apart = t; stops = stops_none from.place; clock = no_call i.calls; steady = λ s. s; told = subst (λ l. HasTold turn l o o state state) (sym (parted_none alone)) (told_nothing turn o state h) };
     ended = e;
     sound = λ s. well;
   }
@@ -219,6 +227,7 @@ module _ {S : Type 0} (alone : List ℕ → Bool) (turn : SharedTurn S) where
     calls = 1;
     read = Consumes-kept i.left i.left j.left [] (Consumes-nil i.left) m.kept;
     apart = stays from;
+    stops = stops_none from.place;
     clock = m.clock;
     steady = m.steady;
     told = subst (λ l. HasTold turn l o p state state) (sym (parted_none alone)) (told_quiet turn o p state w);
@@ -416,6 +425,7 @@ module _ {S : Type 0} (alone : List ℕ → Bool) (turn : SharedTurn S) where
     calls = a.talks.calls;
     read = a.talks.read;
     apart = a.talks.apart;
+    stops = a.talks.stops;
     clock = a.talks.clock;
     sound = a.sound;
     done = by c;
@@ -471,6 +481,7 @@ module _ {S : Type 0} (alone : List ℕ → Bool) (turn : SharedTurn S) where
     calls = a.talks.calls;
     read = a.talks.read;
     apart = a.talks.apart;
+    stops = a.talks.stops;
     clock = a.talks.clock;
     sound = λ s. well;
     done = by c;

@@ -10,7 +10,7 @@ use Rattle.oa_share.specs.Frames.{Broken, FramePlace, InHead, Within}
 use Rattle.oa_share.specs.Marks.{Last, Now, Of, Owned, named}
 use Rattle.oa_share.specs.Outgoing.{spelled_frames, spelled_told}
 use Rattle.oa_share.specs.Readers.{Body, Brought, ClientState, Ends, records_of}
-use Rattle.oa_share.specs.Shared.{IsClients, Rises, SharedState, TakesApart, reads_nothing}
+use Rattle.oa_share.specs.Shared.{IsClients, Rises, SharedState, StopsAtUnknown, TakesApart, reads_nothing}
 use Rattle.oa_share.specs.declared.serving.Loss.{Loss}
 use Rattle.oa_share.specs.declared.serving.Loss.TheVariants as loss
 use Rattle.oa_share.specs.declared.serving.Progress.{Progress}
@@ -119,7 +119,7 @@ pub record FailsToTell {S : Type 0} (turn : SharedTurn S) (asks : List (Owned Br
   pub loses : LosesWriter turn asks ends out out' old new
 
 -- A whole session of many clients, from some state of the reading on: the bytes that were taken; what they ask of all clients, in the order
--- in which it came; and its answers, each body that comes alone behind a *now*.
+-- in which it came; and its answers, each body that comes alone behind a *now*. Behind a head that says nothing no byte is taken.
 pub record ServesClients {S : Type 0} (alone : List ℕ → Bool) (turn : SharedTurn S) (from : SharedState) (input input' : Input)
     (out out' : Output) (old new : S) (why : SessionEnd) : Type 0 where
   pub taken : List ℕ
@@ -128,6 +128,7 @@ pub record ServesClients {S : Type 0} (alone : List ℕ → Bool) (turn : Shared
   pub calls : ℕ
   pub read : Consumes input.left input'.left taken
   pub apart : TakesApart from taken asked streams
+  pub stops : StopsAtUnknown from.place taken
   pub clock : input'.calls ≡ later calls input.calls
   pub sound : input.steady ≡ true → input'.faulted ≡ false
   pub done : TellsAll turn (parted alone asked) why streams (calls + length taken) input' out out' old new
@@ -141,6 +142,7 @@ pub record TalksOn {S : Type 0} (alone : List ℕ → Bool) (turn : SharedTurn S
   pub calls : ℕ
   pub read : Consumes input.left input'.left taken
   pub apart : TakesApart from taken asked to
+  pub stops : StopsAtUnknown from.place taken
   pub clock : input'.calls ≡ later calls input.calls
   pub steady : input.steady ≡ true → input'.steady ≡ true
   pub told : HasTold turn (parted alone asked) out out' old new

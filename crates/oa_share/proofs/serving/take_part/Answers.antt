@@ -10,13 +10,17 @@ returns-in-Ok-answer-clause-progresses g c =
     let asks = rw c.buffered.ensures at a in
     let some = c.in-Ok.ensures.taken in
     let n = rw c.buffered.ensures at some in
-    goes_taken g.S.SharedResponder.alone g.S.SharedResponder.turn _ _ _ _ _ _ _ _ _ _ c.requires.unbroken.reader (some_first g.S.SharedResponder.alone g.S.SharedResponder.turn _ _ n) c.advance.ensures.taken asks c.in-Ok-answer.ensures.answers
+    let u = c.in-Ok.ensures.unknown in
+    let unknown = rw c.buffered.ensures at u in
+    goes_taken g.S.SharedResponder.alone g.S.SharedResponder.turn _ _ _ _ _ _ _ _ _ _ c.requires.unbroken.reader (some_first g.S.SharedResponder.alone g.S.SharedResponder.turn _ _ n) c.advance.ensures.taken asks (unknown.stops c.requires.open) c.in-Ok-answer.ensures.answers
 
 pub returns-in-Err-Answered-clause-progresses : goal.returns-in-Err-Answered-clause-progresses
 returns-in-Err-Answered-clause-progresses g c =
     let a = c.in-Ok.ensures.asks in
     let asks = rw c.buffered.ensures at a in
-    loses_taken g.S.SharedResponder.alone g.S.SharedResponder.turn _ _ _ _ _ _ _ _ _ _ c.requires.unbroken.reader c.advance-in-Err-Answered.ensures.taken asks (lost_then g.S.SharedResponder.alone g.S.SharedResponder.turn _ _ _ _ _ _ c.in-Err-Answered.field-0-is c.in-Err-Answered.ensures.answers)
+    let u = c.in-Ok.ensures.unknown in
+    let unknown = rw c.buffered.ensures at u in
+    loses_taken g.S.SharedResponder.alone g.S.SharedResponder.turn _ _ _ _ _ _ _ _ _ _ c.requires.unbroken.reader c.advance-in-Err-Answered.ensures.taken asks (unknown.stops c.requires.open) (lost_then g.S.SharedResponder.alone g.S.SharedResponder.turn _ _ _ _ _ _ c.in-Err-Answered.field-0-is c.in-Err-Answered.ensures.answers)
 
 pub returns-in-Err-Undone-clause-progresses : goal.returns-in-Err-Undone-clause-progresses
 returns-in-Err-Undone-clause-progresses g c = loses_before g.S.SharedResponder.alone g.S.SharedResponder.turn _ _ _ _ _ _ c.requires.unbroken.reader (lost_before g.S.SharedResponder.alone g.S.SharedResponder.turn _ _ _ _ _ _ c.in-Err-Undone.field-0-is c.in-Err-Undone.ensures.answers)

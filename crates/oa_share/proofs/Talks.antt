@@ -4,7 +4,7 @@ use Rattle.std.proofs.lemmas.Bool.{false≢true}
 use Rattle.std.specs.Prelude.{if◌then◌else◌}
 use Rattle.std.proofs.lemmas.List.{append-nil, append_assoc, length-append, length-take-le}
 use Rattle.std.proofs.KnownBytes.{Consumes-kept, Consumes-nil, Consumes-trans}
-use Rattle.std.specs.Io.KnownBytes.{IsAtEnd}
+use Rattle.std.specs.Io.KnownBytes.{Consumes, IsAtEnd}
 use Rattle.oa_model.specs.Limits.{max_records}
 use Rattle.oa_stream.specs.Source.{Input, later}
 use Rattle.oa_stream.specs.Ahead.{TakesAhead, Waits}
@@ -22,7 +22,7 @@ use Rattle.oa_share.specs.Readers.{Body, Brought, ClientState, Ends}
 use Rattle.oa_share.specs.Shared.{IsClients, Rises, SharedState, StopsAtUnknown, TakesApart, TakesSome, arrived, place_behind, reads_nothing}
 use Rattle.oa_share.specs.declared.streams.Arrival.{Arrival}
 use Rattle.oa_share.specs.declared.streams.Arrival.TheVariants as things
-use Rattle.oa_share.specs.Talking.{AllTurned, AnswersAsked, AnswersEnds, AnswersSingle, ClosesAll, EndsNext, FailsToTell, MovesOn, HasTold, IsEndOf, IsOver, LosesWriter, MakesNowBefore, ServesClients, TalksOn, TellsAll, ends_at, ends_in, input_end, parted, parting}
+use Rattle.oa_share.specs.Talking.{AllTurned, AnswersAsked, AnswersEnds, AnswersSingle, ClosesAll, EndsNext, FailsToTell, MovesOn, HasTold, IsEndOf, IsOver, IsUnwritten, LosesWriter, MakesNowBefore, ServesClients, TalksOn, TellsAll, ends_at, ends_in, input_end, one_ahead, parted, parting}
 use Rattle.oa_share.specs.declared.serving.Loss.{Loss}
 use Rattle.oa_share.specs.declared.serving.Loss.TheVariants as loss
 use Rattle.oa_share.specs.declared.session_end.SessionEnd.{SessionEnd}
@@ -35,6 +35,10 @@ pub parted_append : (alone : List ℕ → Bool) (ps qs : List (Owned Brought)) �
 unfolding parted
 parted_append alone [] qs = refl
 parted_append alone (a ∷ ps) qs = ap (λ l. parting alone a ++ a ∷ l) (parted_append alone ps qs) ∙ sym (append_assoc (parting alone a) (a ∷ parted alone ps) (parted alone qs))
+
+pub parted_none : (alone : List ℕ → Bool) → parted alone [] ≡ []
+unfolding parted
+parted_none alone = refl
 
 -- ---- one part of a session after another
 pub later_then : (m n a b c : ℕ) → b ≡ later m a → c ≡ later n b → c ≡ later (m + n) a
@@ -53,9 +57,8 @@ end_later over.ReadFault place used used' i h (inr f) = inr (omega (arith, h, f)
 end_later over.WriteFault place used used' i h e = absurd e
 
 module _ {S : Type 0} (alone : List ℕ → Bool) (turn : SharedTurn S) where
-  pub talks_start : (from : SharedState) (i : Input) (o : Output) (state : S) → TakesApart from [] [] from → o.broken ≡ false → TalksOn alone turn from from i i o o state state
-  unfolding parted
-  talks_start from i o state t h = record { taken = []; asked = []; calls = 0; read = Consumes-nil i.left; apart = t; stops = stops_none from.place; clock = none i.calls; steady = λ s. s; told = told_nothing turn o state h }
+  abbrev pub talks_start : (from : SharedState) (i : Input) (o : Output) (state : S) → TakesApart from [] [] from → o.broken ≡ false → TalksOn alone turn from from i i o o state state
+  talks_start from i o state t h = record { taken = []; asked = []; calls = 0; read = Consumes-nil i.left; apart = t; stops = stops_none from.place; clock = none i.calls; steady = λ s. s; told = subst (λ l. HasTold turn l o o state state) (sym (parted_none alone)) (told_nothing turn o state h) }
     where
       none : (n : ℕ) → n ≡ later 0 n
       none n = omega arith
@@ -73,9 +76,9 @@ module _ {S : Type 0} (alone : List ℕ → Bool) (turn : SharedTurn S) where
     told = subst (λ l. HasTold turn l o q old new) (sym (parted_append alone a.asked b.asked)) (told_then turn (parted alone a.asked) (parted alone b.asked) o p q old between new a.told b.told);
   }
 
-  pub serves_then : (from mid : SharedState) (i j k : Input) (o p q : Output) (old between new : S) (why : SessionEnd) → TalksOn alone turn from mid i j o p old between → ServesClients alone turn mid j k p q between new why
-      → ServesClients alone turn from i k o q old new why
-  serves_then from mid i j k o p q old between new why a b = record {
+  pub serves_then : (from mid : SharedState) (i j k : Input) (o p q : Output) (old between new : S) (why : SessionEnd) (a : TalksOn alone turn from mid i j o p old between) (b : ServesClients alone turn mid j k p q between new why)
+      → b.calls ≡ 0 → (i.steady ≡ true → a.calls ≤ length a.taken + 1) → ServesClients alone turn from i k o q old new why
+  serves_then from mid i j k o p q old between new why a b none pace = record {
     taken = a.taken ++ b.taken;
     asked = a.asked ++ b.asked;
     streams = b.streams;
@@ -85,6 +88,7 @@ module _ {S : Type 0} (alone : List ℕ → Bool) (turn : SharedTurn S) where
     stops = stops_on from mid a.taken b.taken a.asked a.apart a.stops b.stops;
     clock = later_then a.calls b.calls i.calls j.calls k.calls a.clock b.clock;
     sound = λ s. b.sound (a.steady s);
+    paced = λ s. let m = pace s in omega (arith, long, none, m);
     done = by b.done;
   }
     where
@@ -110,10 +114,6 @@ module _ {S : Type 0} (alone : List ℕ → Bool) (turn : SharedTurn S) where
       })
 
 -- ---- what came
-pub parted_none : (alone : List ℕ → Bool) → parted alone [] ≡ []
-unfolding parted
-parted_none alone = refl
-
 pub parted_now : (alone : List ℕ → Bool) → parted alone (Now ∷ []) ≡ Now ∷ []
 unfolding parted
 parted_now alone = refl
@@ -143,6 +143,17 @@ module _ {S : Type 0} (alone : List ℕ → Bool) (turn : SharedTurn S) where
   pub stays : (from : SharedState) → TakesApart from [] [] from
   stays from = nothing_asked from from refl (λ client. refl)
 
+  few_ahead : (front : List ℕ) → one_ahead front ≤ 1
+  few_ahead [] = omega arith
+  few_ahead (x ∷ xs) = omega arith
+
+  none_called : (front : List ℕ) → 0 + one_ahead front ≤ 0 + 1
+  none_called front = let few = few_ahead front in omega (arith, few)
+
+  some_ahead : (front : List ℕ) → 0 < length front → one_ahead front ≡ 1
+  some_ahead [] h = absurd (omega (arith, h))
+  some_ahead (x ∷ xs) h = refl
+
   no_call : (n : ℕ) → n ≡ later 0 n
   no_call n = omega arith
 
@@ -171,53 +182,57 @@ module _ {S : Type 0} (alone : List ℕ → Bool) (turn : SharedTurn S) where
     told = h;
   }
 
-  pub goes_taken : (from to : SharedState) (i j : Input) (o p : Output) (old new : S) (bytes : List ℕ) (asked : List (Owned Brought)) → i.faulted ≡ false → 0 < length bytes → TakesAhead bytes i j → TakesApart from bytes asked to
-      → StopsAtUnknown from.place bytes → HasTold turn (parted alone asked) o p old new → MovesOn alone turn from to i j o p old new
-  goes_taken from to i j o p old new bytes asked well some t a stop h = record { talks = talks_taken from to i j o p old new bytes asked t a stop h; some = one_taken (length bytes) some; well = t.fault ∙ well }
+  pub goes_taken : (from to : SharedState) (front front' : List ℕ) (i j : Input) (o p : Output) (old new : S) (bytes : List ℕ) (asked : List (Owned Brought)) → i.faulted ≡ false → 0 < length bytes → TakesAhead bytes i j → TakesApart from bytes asked to
+      → StopsAtUnknown from.place bytes → HasTold turn (parted alone asked) o p old new → MovesOn alone turn from to front front' i j o p old new
+  goes_taken from to front front' i j o p old new bytes asked well some t a stop h = record {
+    talks = talks_taken from to i j o p old new bytes asked t a stop h;
+    some = one_taken (length bytes) some;
+    paced = λ s. let few = few_ahead front in omega (arith, few, some);
+    well = t.fault ∙ well;
+  }
+
+  is_lost : (from to : SharedState) (i j : Input) (o p : Output) (old new : S) (bytes : List ℕ) (asked : List (Owned Brought)) → i.faulted ≡ false → Consumes i.left j.left bytes → j.calls ≡ i.calls → j.faulted ≡ i.faulted → TakesApart from bytes asked to
+      → StopsAtUnknown from.place bytes → LosesWriter turn (parted alone asked) [] o p old new → IsUnwritten alone turn from i j o p old new
+  is_lost from to i j o p old new bytes asked well read clock fault a stop h = record {
+    serves = record {
+      taken = bytes;
+      asked = asked;
+      streams = to;
+      calls = 0;
+      read = read;
+      apart = a;
+      stops = stop;
+      clock = clock ∙ no_call i.calls;
+      sound = λ s. fault ∙ well;
+      paced = λ s. omega arith;
+      done = inr (record { ended = refl; ends = []; others = ends_in to.clients; are = refl; rise = λ some. absurd (some refl); loses = h });
+    };
+    uncalled = refl;
+  }
 
   pub loses_taken : (from to : SharedState) (i j : Input) (o p : Output) (old new : S) (bytes : List ℕ) (asked : List (Owned Brought)) → i.faulted ≡ false → TakesAhead bytes i j → TakesApart from bytes asked to → StopsAtUnknown from.place bytes
-      → LosesWriter turn (parted alone asked) [] o p old new → ServesClients alone turn from i j o p old new over.WriteFault
-  loses_taken from to i j o p old new bytes asked well t a stop h = record {
-    taken = bytes;
-    asked = asked;
-    streams = to;
-    calls = 0;
-    read = t.taken;
-    apart = a;
-    stops = stop;
-    clock = t.clock ∙ no_call i.calls;
-    sound = λ s. t.fault ∙ well;
-    done = inr (record { ended = refl; ends = []; others = ends_in to.clients; are = refl; rise = λ some. absurd (some refl); loses = h });
-  }
+      → LosesWriter turn (parted alone asked) [] o p old new → IsUnwritten alone turn from i j o p old new
+  loses_taken from to i j o p old new bytes asked well t a stop h = is_lost from to i j o p old new bytes asked well t.taken t.clock t.fault a stop h
 
   -- nothing was taken
-  pub loses_before : (from : SharedState) (i : Input) (o p : Output) (old new : S) → i.faulted ≡ false → LosesWriter turn [] [] o p old new → ServesClients alone turn from i i o p old new over.WriteFault
-  loses_before from i o p old new well h = record {
-    taken = [];
-    asked = [];
-    streams = from;
-    calls = 0;
-    read = Consumes-nil i.left;
-    apart = stays from;
-    stops = stops_none from.place;
-    clock = no_call i.calls;
-    sound = λ s. well;
-    done = inr (record { ended = refl; ends = []; others = ends_in from.clients; are = refl; rise = λ some. absurd (some refl); loses = subst (λ l. LosesWriter turn l [] o p old new) (sym (parted_none alone)) h });
-  }
+  pub loses_before : (from : SharedState) (i : Input) (o p : Output) (old new : S) → i.faulted ≡ false → LosesWriter turn [] [] o p old new → IsUnwritten alone turn from i i o p old new
+  loses_before from i o p old new well h =
+      is_lost from from i i o p old new [] [] well (Consumes-nil i.left) refl refl (stays from) (stops_none from.place) (subst (λ l. LosesWriter turn l [] o p old new) (sym (parted_none alone)) h)
 
-  over_here : (why : SessionEnd) (from to : SharedState) (i : Input) (o : Output) (state : S) → o.broken ≡ false → i.faulted ≡ false → TakesApart from [] [] to → IsEndOf why to.place 0 i → IsOver alone turn why from to i i o o state state
-  over_here why from to i o state h well t e = record {
+  over_here : (why : SessionEnd) (from to : SharedState) (front : List ℕ) (i : Input) (o : Output) (state : S) → o.broken ≡ false → i.faulted ≡ false → TakesApart from [] [] to → IsEndOf why to.place 0 i → IsOver alone turn why from to front i i o o state state
+  over_here why from to front i o state h well t e = record {
     talks = record { taken = []; asked = []; calls = 0; read = Consumes-nil i.left; apart = t; stops = stops_none from.place; clock = no_call i.calls; steady = λ s. s; told = subst (λ l. HasTold turn l o o state state) (sym (parted_none alone)) (told_nothing turn o state h) };
     ended = e;
     sound = λ s. well;
+    paced = λ s. none_called front;
   }
 
-  pub over_memory : (from to : SharedState) (i : Input) (o : Output) (state : S) → o.broken ≡ false → i.faulted ≡ false → TakesApart from [] [] to → IsClients from.place → IsOver alone turn over.Memory from to i i o o state state
+  pub over_memory : (from to : SharedState) (front : List ℕ) (i : Input) (o : Output) (state : S) → o.broken ≡ false → i.faulted ≡ false → TakesApart from [] [] to → IsClients from.place → IsOver alone turn over.Memory from to front i i o o state state
   unfolding place_behind
-  over_memory from to i o state h well t c = over_here over.Memory from to i o state h well t (subst IsClients t.place c)
+  over_memory from to front i o state h well t c = over_here over.Memory from to front i o state h well t (subst IsClients t.place c)
 
-  pub over_unknown : (from : SharedState) (i : Input) (o : Output) (state : S) → o.broken ≡ false → i.faulted ≡ false → reads_nothing from.place ≡ true → IsOver alone turn over.Unknown from from i i o o state state
-  over_unknown from i o state h well e = over_here over.Unknown from from i o state h well (stays from) e
+  pub over_unknown : (from : SharedState) (front : List ℕ) (i : Input) (o : Output) (state : S) → o.broken ≡ false → i.faulted ≡ false → reads_nothing from.place ≡ true → IsOver alone turn over.Unknown from from front i i o o state state
+  over_unknown from front i o state h well e = over_here over.Unknown from from front i o state h well (stays from) e
 
   -- ---- waits
   abbrev waited : (more : More) (from : SharedState) (i j : Input) (o p : Output) (state : S) (front : List ℕ) → Writes o p [] → Waits more i j front → TalksOn alone turn from from i j o p state state
@@ -233,8 +248,26 @@ module _ {S : Type 0} (alone : List ℕ → Bool) (turn : SharedTurn S) where
     told = subst (λ l. HasTold turn l o p state state) (sym (parted_none alone)) (told_quiet turn o p state w);
   }
 
-  pub goes_waited : (more : More) (from : SharedState) (i j : Input) (o p : Output) (state : S) (front : List ℕ) → ahead.is_broken more ≡ false → Writes o p [] → Waits more i j front → MovesOn alone turn from from i j o p state state
-  goes_waited more from i j o p state front fine w m = record { talks = waited more from i j o p state front w m; some = one_call; well = m.fault ∙ fine }
+  quiet_more : (m : More) → (m ≡ more.Some) ⊎ (m ≡ more.Again) → ahead.is_broken m ≡ false
+  quiet_more m (inl e) = ap ahead.is_broken e
+  quiet_more m (inr e) = ap ahead.is_broken e
+
+  -- a steady reader brings something, but for at the end
+  brings_some : (m : More) (i j : Input) (front : List ℕ) → (m ≡ more.Some) ⊎ (m ≡ more.Again) → Waits m i j front → i.steady ≡ true → one_ahead front ≡ 1
+  brings_some m i j front (inl e) w s = some_ahead front (subst (λ (x : More). ahead.Brings x j.left front) e w.brings)
+  brings_some m i j front (inr e) w s = absurd (subst ahead.IsSure e (w.on s))
+
+  pub goes_waited : (m : More) (from : SharedState) (front front' : List ℕ) (i j : Input) (o p : Output) (state : S) → front ≡ [] → (m ≡ more.Some) ⊎ (m ≡ more.Again) → Writes o p [] → Waits m i j front'
+      → MovesOn alone turn from from front front' i j o p state state
+  goes_waited m from front front' i j o p state none is w waits = record {
+    talks = waited m from i j o p state front' w waits;
+    some = one_call;
+    paced = λ s. let one = brings_some m i j front' is waits s in let empty = ap one_ahead none in omega (arith, one, empty);
+    well = waits.fault ∙ quiet_more m is;
+  }
+
+  one_wait : (front : List ℕ) → front ≡ [] → 1 + one_ahead front ≤ 0 + 1
+  one_wait front none = let empty = ap one_ahead none in omega (arith, empty)
 
   input_over : (place : FramePlace) (i : Input) → IsAtEnd i.left → IsEndOf (input_end place) place 0 i
   input_over (InHead []) i e = (refl, e)
@@ -242,15 +275,22 @@ module _ {S : Type 0} (alone : List ℕ → Bool) (turn : SharedTurn S) where
   input_over (Within client n) i e = (refl, e)
   input_over Broken i e = refl
 
-  pub over_waited : (from : SharedState) (i j : Input) (o p : Output) (state : S) (front : List ℕ) (why : SessionEnd) → why ≡ input_end from.place → Writes o p [] → Waits more.End i j front → IsOver alone turn why from from i j o p state state
-  over_waited from i j o p state front why is w m = record {
-    talks = waited more.End from i j o p state front w m;
+  pub over_waited : (from : SharedState) (front front' : List ℕ) (i j : Input) (o p : Output) (state : S) (why : SessionEnd) → front ≡ [] → why ≡ input_end from.place → Writes o p [] → Waits more.End i j front'
+      → IsOver alone turn why from from front i j o p state state
+  over_waited from front front' i j o p state why none is w m = record {
+    talks = waited more.End from i j o p state front' w m;
     ended = subst (λ (e : SessionEnd). IsEndOf e from.place 0 j) (sym is) (input_over from.place j m.brings.1);
     sound = λ s. m.fault;
+    paced = λ s. one_wait front none;
   }
 
-  pub over_fault : (from : SharedState) (i j : Input) (o p : Output) (state : S) (front : List ℕ) → Writes o p [] → Waits more.Fault i j front → IsOver alone turn over.ReadFault from from i j o p state state
-  over_fault from i j o p state front w m = record { talks = waited more.Fault from i j o p state front w m; ended = inl m.fault; sound = λ s. absurd (m.on s) }
+  pub over_fault : (from : SharedState) (front front' : List ℕ) (i j : Input) (o p : Output) (state : S) → front ≡ [] → Writes o p [] → Waits more.Fault i j front' → IsOver alone turn over.ReadFault from from front i j o p state state
+  over_fault from front front' i j o p state none w m = record {
+    talks = waited more.Fault from i j o p state front' w m;
+    ended = inl m.fault;
+    sound = λ s. absurd (m.on s);
+    paced = λ s. one_wait front none;
+  }
 
   -- ---- what was brought
   pub none_came : (a : Arrival) (o : Output) (state : S) → (a ≡ things.Nothing) ⊎ (a ≡ things.Unknown) → o.broken ≡ false → HasTold turn (parted alone (arrived a)) o o state state
@@ -277,10 +317,6 @@ module _ {S : Type 0} (alone : List ℕ → Bool) (turn : SharedTurn S) where
 
   pub lost_before : (l : Loss) (asks : List (Owned Brought)) (o p : Output) (old new : S) → l ≡ loss.Undone → AnswersAsked turn (Err l) asks o p old new → LosesWriter turn [] [] o p old new
   lost_before l asks o p old new is a = subst (λ (x : Loss). AnswersAsked turn (Err x) asks o p old new) is a
-
-  pub quiet_more : (m : More) → (m ≡ more.Some) ⊎ (m ≡ more.Again) → ahead.is_broken m ≡ false
-  quiet_more m (inl e) = ap ahead.is_broken e
-  quiet_more m (inr e) = ap ahead.is_broken e
 
   -- ---- the ends
   one_end : (client : ℕ) (why : Option End) (state : ClientState) (clients clients' : List (ℕ × ClientState)) → clients ≡ (client, state) ∷ clients' → EndsWith why (Some state) None
@@ -416,7 +452,7 @@ module _ {S : Type 0} (alone : List ℕ → Bool) (turn : SharedTurn S) where
   )
 
   -- ---- the whole session
-  pub over_closes : (result why : SessionEnd) (from to : SharedState) (i j : Input) (o p q : Output) (old between new : S) → IsOver alone turn why from to i j o p old between → ClosesAll turn result why to.clients p q between new → Rises to.clients
+  pub over_closes : (result why : SessionEnd) (from to : SharedState) (i j : Input) (o p q : Output) (old between new : S) → IsOver alone turn why from to [] i j o p old between → ClosesAll turn result why to.clients p q between new → Rises to.clients
       → ServesClients alone turn from i j o q old new result
   over_closes result why from to i j o p q old between new a c rise = record {
     taken = a.talks.taken;
@@ -428,6 +464,7 @@ module _ {S : Type 0} (alone : List ℕ → Bool) (turn : SharedTurn S) where
     stops = a.talks.stops;
     clock = a.talks.clock;
     sound = a.sound;
+    paced = λ s. let p = a.paced s in omega (arith, p);
     done = by c;
   }
     where
@@ -450,31 +487,47 @@ module _ {S : Type 0} (alone : List ℕ → Bool) (turn : SharedTurn S) where
       })
 
   -- so many bytes and calls of the reader so far
-  pub record SharedSoFar (from to : SharedState) (i j : Input) (o p : Output) (old new : S) (count : ℕ) : Type 0 where
+  pub record SharedSoFar (from to : SharedState) (front : List ℕ) (i j : Input) (o p : Output) (old new : S) (count : ℕ) : Type 0 where
     pub talks : TalksOn alone turn from to i j o p old new
+    pub paced : i.steady ≡ true → talks.calls ≤ length talks.taken + one_ahead front
     pub used : count ≤ talks.calls + length talks.taken
 
-  pub far_start : (from to : SharedState) (i : Input) (o : Output) (state : S) → to ≡ from → o.broken ≡ false → SharedSoFar from to i i o o state state 0
-  far_start from to i o state is h = subst (λ (s : SharedState). SharedSoFar from s i i o o state state 0) (sym is) (record { talks = talks_start alone turn from i o state (stays from) h; used = omega arith })
+  pub far_start : (from to : SharedState) (front : List ℕ) (i : Input) (o : Output) (state : S) → to ≡ from → o.broken ≡ false → SharedSoFar from to front i i o o state state 0
+  far_start from to front i o state is h =
+      subst (λ (s : SharedState). SharedSoFar from s front i i o o state state 0) (sym is) (record { talks = talks_start alone turn from i o state (stays from) h; paced = λ s. omega arith; used = omega arith })
 
   far_long : (xs ys : List ℕ) (m n count : ℕ) → count ≤ m + length xs → 0 < n + length ys → count + 1 ≤ m + n + length (xs ++ ys)
   far_long xs ys m n count h k = let l = length-append xs ys in omega (arith, h, k, l)
 
-  pub far_more : (from mid to : SharedState) (i j k : Input) (o p q : Output) (old between new : S) (count : ℕ) → SharedSoFar from mid i j o p old between count → MovesOn alone turn mid to j k p q between new
-      → SharedSoFar from to i k o q old new (count + 1)
-  far_more from mid to i j k o p q old between new count a b = record {
+  pub far_more : (from mid to : SharedState) (front front' : List ℕ) (i j k : Input) (o p q : Output) (old between new : S) (count : ℕ) → SharedSoFar from mid front i j o p old between count
+      → MovesOn alone turn mid to front front' j k p q between new → SharedSoFar from to front' i k o q old new (count + 1)
+  far_more from mid to front front' i j k o p q old between new count a b = record {
     talks = talks_then alone turn from mid to i j k o p q old between new a.talks b.talks;
+    paced = λ s. let l = length-append a.talks.taken b.talks.taken in let m = a.paced s in let n = b.paced (a.talks.steady s) in omega (arith, l, m, n);
     used = far_long a.talks.taken b.talks.taken a.talks.calls b.talks.calls count a.used b.some;
   }
 
-  pub far_over : (from mid : SharedState) (i j k : Input) (o p q : Output) (old between new : S) (count : ℕ) (why : SessionEnd) → SharedSoFar from mid i j o p old between count → ServesClients alone turn mid j k p q between new why
-      → ServesClients alone turn from i k o q old new why
-  far_over from mid i j k o p q old between new count why a b = serves_then alone turn from mid i j k o p q old between new why a.talks b
+  pub far_over : (from mid to : SharedState) (front : List ℕ) (i j k : Input) (o p q : Output) (old between new : S) (count : ℕ) (why : SessionEnd) → SharedSoFar from mid front i j o p old between count
+      → IsOver alone turn why mid to front j k p q between new → IsOver alone turn why from to [] i k o q old new
+  far_over from mid to front i j k o p q old between new count why a b = record {
+    talks = talks_then alone turn from mid to i j k o p q old between new a.talks b.talks;
+    ended = b.ended;
+    sound = λ s. b.sound (a.talks.steady s);
+    paced = λ s. let l = length-append a.talks.taken b.talks.taken in let m = a.paced s in let n = b.paced (a.talks.steady s) in omega (arith, l, m, n);
+  }
+
+  at_most : (front : List ℕ) (m n : ℕ) → m ≤ n + one_ahead front → m ≤ n + 1
+  at_most front m n h = let few = few_ahead front in omega (arith, h, few)
+
+  pub far_lost : (from mid : SharedState) (front : List ℕ) (i j k : Input) (o p q : Output) (old between new : S) (count : ℕ) → SharedSoFar from mid front i j o p old between count → IsUnwritten alone turn mid j k p q between new
+      → ServesClients alone turn from i k o q old new over.WriteFault
+  far_lost from mid front i j k o p q old between new count a b =
+      serves_then alone turn from mid i j k o p q old between new over.WriteFault a.talks b.serves b.uncalled (λ s. at_most front a.talks.calls (length a.talks.taken) (a.paced s))
 
   -- as many as may be
-  pub far_used : (result : SessionEnd) (from to : SharedState) (i j : Input) (o p q : Output) (old between new : S) (count : ℕ) → max_records ≤ count → j.faulted ≡ false → SharedSoFar from to i j o p old between count
+  pub far_used : (result : SessionEnd) (from to : SharedState) (front : List ℕ) (i j : Input) (o p q : Output) (old between new : S) (count : ℕ) → max_records ≤ count → j.faulted ≡ false → SharedSoFar from to front i j o p old between count
       → ClosesAll turn result over.ReadFault to.clients p q between new → Rises to.clients → ServesClients alone turn from i j o q old new result
-  far_used result from to i j o p q old between new count all well a c rise = record {
+  far_used result from to front i j o p q old between new count all well a c rise = record {
     taken = a.talks.taken;
     asked = a.talks.asked;
     streams = to;
@@ -484,6 +537,7 @@ module _ {S : Type 0} (alone : List ℕ → Bool) (turn : SharedTurn S) where
     stops = a.talks.stops;
     clock = a.talks.clock;
     sound = λ s. well;
+    paced = λ s. at_most front a.talks.calls (length a.talks.taken) (a.paced s);
     done = by c;
   }
     where

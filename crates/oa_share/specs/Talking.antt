@@ -120,6 +120,7 @@ pub record FailsToTell {S : Type 0} (turn : SharedTurn S) (asks : List (Owned Br
 
 -- A whole session of many clients, from some state of the reading on: the bytes that were taken; what they ask of all clients, in the order
 -- in which it came; and its answers, each body that comes alone behind a *now*. Behind a head that says nothing no byte is taken.
+-- A steady reader is called as often as bytes were taken at most, and once more: it brings one at each call, but for the last.
 pub record ServesClients {S : Type 0} (alone : List ℕ → Bool) (turn : SharedTurn S) (from : SharedState) (input input' : Input)
     (out out' : Output) (old new : S) (why : SessionEnd) : Type 0 where
   pub taken : List ℕ
@@ -131,6 +132,7 @@ pub record ServesClients {S : Type 0} (alone : List ℕ → Bool) (turn : Shared
   pub stops : StopsAtUnknown from.place taken
   pub clock : input'.calls ≡ later calls input.calls
   pub sound : input.steady ≡ true → input'.faulted ≡ false
+  pub paced : input.steady ≡ true → calls ≤ length taken + 1
   pub done : TellsAll turn (parted alone asked) why streams (calls + length taken) input' out out' old new
       ⊎ FailsToTell turn (parted alone asked) why streams.clients out out' old new
 
@@ -147,26 +149,42 @@ pub record TalksOn {S : Type 0} (alone : List ℕ → Bool) (turn : SharedTurn S
   pub steady : input.steady ≡ true → input'.steady ≡ true
   pub told : HasTold turn (parted alone asked) out out' old new
 
--- a part that took some, or called the reader
-pub record MovesOn {S : Type 0} (alone : List ℕ → Bool) (turn : SharedTurn S) (from to : SharedState) (input input' : Input)
+-- 1 where something is read ahead, as after the call that brought it
+abbrev pub one_ahead : List ℕ → ℕ
+one_ahead [] = 0
+one_ahead (x ∷ xs) = 1
+
+-- A part that took some, or called the reader. What was read ahead before it, and behind it, is given too: a steady reader is called where
+-- nothing is read ahead, and something is then.
+pub record MovesOn {S : Type 0} (alone : List ℕ → Bool) (turn : SharedTurn S) (from to : SharedState) (front front' : List ℕ) (input input' : Input)
     (out out' : Output) (old new : S) : Type 0 where
   pub talks : TalksOn alone turn from to input input' out out' old new
   pub some : 0 < talks.calls + length talks.taken
+  pub paced : input.steady ≡ true → talks.calls + one_ahead front ≤ length talks.taken + one_ahead front'
   pub well : input'.faulted ≡ false
 
 -- the last part
-pub record IsOver {S : Type 0} (alone : List ℕ → Bool) (turn : SharedTurn S) (why : SessionEnd) (from to : SharedState) (input input' : Input)
-    (out out' : Output) (old new : S) : Type 0 where
+pub record IsOver {S : Type 0} (alone : List ℕ → Bool) (turn : SharedTurn S) (why : SessionEnd) (from to : SharedState) (front : List ℕ)
+    (input input' : Input) (out out' : Output) (old new : S) : Type 0 where
   pub talks : TalksOn alone turn from to input input' out out' old new
   pub ended : IsEndOf why to.place 0 input'
   pub sound : input.steady ≡ true → input'.faulted ≡ false
+  pub paced : input.steady ≡ true → talks.calls + one_ahead front ≤ length talks.taken + 1
 
-abbrev pub Progresses : {S : Type 0} → (List ℕ → Bool) → SharedTurn S → Progress → SharedState → SharedState → Input → Input → Output → Output
-    → S → S → Type 0
-Progresses alone turn progress.Goes from to input input' out out' old new = MovesOn alone turn from to input input' out out' old new
-Progresses alone turn (progress.Over why) from to input input' out out' old new = IsOver alone turn why from to input input' out out' old new
-Progresses alone turn progress.Unwritten from to input input' out out' old new =
-    ServesClients alone turn from input input' out out' old new over.WriteFault
+-- the last part, in which the writer failed
+pub record IsUnwritten {S : Type 0} (alone : List ℕ → Bool) (turn : SharedTurn S) (from : SharedState) (input input' : Input) (out out' : Output)
+    (old new : S) : Type 0 where
+  pub serves : ServesClients alone turn from input input' out out' old new over.WriteFault
+  pub uncalled : serves.calls ≡ 0
+
+abbrev pub Progresses : {S : Type 0} → (List ℕ → Bool) → SharedTurn S → Progress → SharedState → SharedState → List ℕ → List ℕ → Input → Input
+    → Output → Output → S → S → Type 0
+Progresses alone turn progress.Goes from to front front' input input' out out' old new =
+    MovesOn alone turn from to front front' input input' out out' old new
+Progresses alone turn (progress.Over why) from to front front' input input' out out' old new =
+    IsOver alone turn why from to front input input' out out' old new
+Progresses alone turn progress.Unwritten from to front front' input input' out out' old new =
+    IsUnwritten alone turn from input input' out out' old new
 
 -- what was asked is answered; or the writer failed in it, or in the *now* before it
 abbrev pub AnswersAsked : {S : Type 0} → SharedTurn S → Result (Unit {0}) Loss → List (Owned Brought) → Output → Output → S → S → Type 0

@@ -40,7 +40,8 @@ pub(crate) enum Loss {
 ///
 /// The session ends with the input; at a head that says nothing; where memory is refused for a part of a record; where the reader or the
 /// writer fails. At the first two each client that is there ends, the lowest number first. At all but the last what is held is then committed
-/// and handed on; where the writer has failed, it is committed.
+/// and handed on; where the writer has failed, it is committed. Behind a head that says nothing no byte is taken, and a steady reader is called
+/// no more often than bytes were taken, and once more.
 pub fn serve_clients<S: SharedResponder, R: Source + Drop, W: Sink>(
     server: &mut S,
     alloc: Global,
@@ -73,8 +74,8 @@ fn part<S: SharedResponder, R: Source + Drop, W: Sink>(
 ) -> Progress
     requires ready { S.ready server.old }
     requires unbroken { AreUnbroken (ahead R.input reader.old) (W.out writer.old) }
-    ensures progresses { Progresses S.alone S.turn result streams.old streams.new (ahead R.input reader.old) (ahead R.input reader.new)
-        (W.out writer.old) (W.out writer.new) server.old server.new }
+    ensures progresses { Progresses S.alone S.turn result streams.old streams.new (read_ahead reader.old) (read_ahead reader.new)
+        (ahead R.input reader.old) (ahead R.input reader.new) (W.out writer.old) (W.out writer.new) server.old server.new }
     ensures ready { S.ready server.new }
 {
     if streams.reads_nothing() {
@@ -100,8 +101,8 @@ fn wait<S: SharedResponder, R: Source + Drop, W: Sink>(
     requires open { reads_nothing streams.now.place ≡ false }
     requires none { read_ahead reader.old ≡ [] }
     requires unbroken { AreUnbroken (ahead R.input reader.old) (W.out writer.old) }
-    ensures progresses { Progresses S.alone S.turn result streams.now streams.now (ahead R.input reader.old) (ahead R.input reader.new)
-        (W.out writer.old) (W.out writer.new) server.old server.new }
+    ensures progresses { Progresses S.alone S.turn result streams.now streams.now (read_ahead reader.old) (read_ahead reader.new)
+        (ahead R.input reader.old) (ahead R.input reader.new) (W.out writer.old) (W.out writer.new) server.old server.new }
     ensures ready { S.ready server.new }
 {
     if let Err(_) = writer.deliver() {
@@ -127,8 +128,8 @@ fn answer_record<S: SharedResponder, R: Source + Drop, W: Sink>(
     requires ready { S.ready server.old }
     requires brings { BringsRecord streams.now (read_ahead reader.old) client count }
     requires unbroken { AreUnbroken (ahead R.input reader.old) (W.out writer.old) }
-    ensures progresses { Progresses S.alone S.turn result streams.now streams.now (ahead R.input reader.old) (ahead R.input reader.new)
-        (W.out writer.old) (W.out writer.new) server.old server.new }
+    ensures progresses { Progresses S.alone S.turn result streams.now streams.now (read_ahead reader.old) (read_ahead reader.new)
+        (ahead R.input reader.old) (ahead R.input reader.new) (W.out writer.old) (W.out writer.new) server.old server.new }
     ensures ready { S.ready server.new }
 {
     let body = &reader.buffered()[12..count];
@@ -156,8 +157,8 @@ fn take_part<S: SharedResponder, R: Source + Drop, W: Sink>(
     requires open { reads_nothing streams.old.place ≡ false }
     requires some { 0 < length (read_ahead reader.old) }
     requires unbroken { AreUnbroken (ahead R.input reader.old) (W.out writer.old) }
-    ensures progresses { Progresses S.alone S.turn result streams.old streams.new (ahead R.input reader.old) (ahead R.input reader.new)
-        (W.out writer.old) (W.out writer.new) server.old server.new }
+    ensures progresses { Progresses S.alone S.turn result streams.old streams.new (read_ahead reader.old) (read_ahead reader.new)
+        (ahead R.input reader.old) (ahead R.input reader.new) (W.out writer.old) (W.out writer.new) server.old server.new }
     ensures ready { S.ready server.new }
 {
     let Ok(portion) = streams.take(reader.buffered()) else {

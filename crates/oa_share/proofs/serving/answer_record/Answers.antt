@@ -6,7 +6,7 @@ pub returns-in-Ok-clause-progresses : goal.returns-in-Ok-clause-progresses
 returns-in-Ok-clause-progresses g c =
     let a = c.in-Ok.ensures.answers in
     let told = rw c.buffered.ensures at a in
-    goes_taken g.S.SharedResponder.alone g.S.SharedResponder.turn _ _ _ _ _ _ _ _ _ _ c.requires.unbroken.reader (some_front _ _ _ _ c.requires.brings) c.advance.ensures.taken c.requires.brings.apart (record_stops _ _ _ _ c.requires.brings) told
+    goes_taken g.S.SharedResponder.alone g.S.SharedResponder.turn _ _ _ _ _ _ _ _ _ _ _ _ c.requires.unbroken.reader (some_front _ _ _ _ c.requires.brings) c.advance.ensures.taken c.requires.brings.apart (record_stops _ _ _ _ c.requires.brings) told
 
 pub returns-in-Err-Answered-clause-progresses : goal.returns-in-Err-Answered-clause-progresses
 returns-in-Err-Answered-clause-progresses g c =

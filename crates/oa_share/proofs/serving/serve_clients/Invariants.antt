@@ -1,5 +1,5 @@
 use Rattle.std.proofs.Common.{◌≡◌, false}
-use Rattle.oa_stream.specs.Ahead.{ahead}
+use Rattle.oa_stream.specs.Ahead.{ahead, read_ahead}
 use Rattle.oa_share.specs.Shared.{starting}
 use Rattle.oa_share.proofs.Talks.{SharedSoFar}
 use Rattle.oa_share.proofs.serving.serve_clients.Given as goal
@@ -9,5 +9,5 @@ invariant-parts g l = record {
   ready : g.S.SharedResponder.ready l.server;
   unbroken : (ahead g.R.Source.input l.reader).faulted ≡ false;
   unbroken_writer : (g.W.Sink.out l.writer).broken ≡ false;
-  going : SharedSoFar g.S.SharedResponder.alone g.S.SharedResponder.turn starting l.streams (ahead g.R.Source.input l.fn.reader) (ahead g.R.Source.input l.reader) (g.W.Sink.out l.fn.writer) (g.W.Sink.out l.writer) l.fn.server l.server l.counter;
+  going : SharedSoFar g.S.SharedResponder.alone g.S.SharedResponder.turn starting l.streams (read_ahead l.reader) (ahead g.R.Source.input l.fn.reader) (ahead g.R.Source.input l.reader) (g.W.Sink.out l.fn.writer) (g.W.Sink.out l.writer) l.fn.server l.server l.counter;
 }

@@ -7,7 +7,7 @@ pub enum SessionEnd {
     Closed,
     /// The input ended inside a frame. What came of it counts.
     Cut,
-    /// A head said nothing: a length above `MAX_FRAME_BYTES`, or one above 0 for all clients. What follows it was not read.
+    /// A head said nothing: a length above `MAX_FRAME_BYTES`, or one above 0 for all clients. What follows it was not taken.
     Unknown,
     /// Memory was refused for a part of a record.
     Memory,

@@ -1,5 +1,5 @@
 //! The objects of a table.
-ghost use Rattle.std.specs.Prelude.{◌≡◌, ◌≤◌, ◌+◌, [], None, IfOk, IfErr};
+ghost use Rattle.std.specs.Prelude.{◌≡◌, ◌≤◌, ◌+◌, [], None, Ok, IfOk, IfErr, OnOk};
 ghost use Rattle.std.specs.List.Sorted.{IsStrictlySortedBy};
 ghost use Rattle.std.specs.Map.{keys_of};
 ghost use Rattle.std.specs.Option.{option_map};
@@ -179,6 +179,24 @@ impl LiveObject {
             return self.put_new(place, value);
         };
         replace(old, value).map_err(|(value, fault)| ((place, value), fault))
+    }
+
+    /// Sets a cell that was put before, unless its array is locked, and answers the same. Else hands the value back, and nothing changes.
+    pub(crate) fn put_again(&mut self, place: &Place, value: Variant) -> Result<Difference, Variant>
+        ensures done { OnOk result (with_put place.now value self.old ≡ Ok self.new) }
+        ensures size { IfOk result (λ change. object_size self.new + change.gone ≡ object_size self.old + change.come) }
+        ensures small { IfOk result (λ change. change.come ≤ largest_cell) }
+        ensures back { IfErr result (λ back. (back ≡ value) × (self.new ≡ self.old)) }
+    {
+        self.places_rise();
+        let Some(old) = self.cells.get_mut(place) else {
+            return Err(value);
+        };
+        let change = match replace(old, value) {
+            Ok(change) => change,
+            Err((value, _fault)) => return Err(value),
+        };
+        Ok(change)
     }
 
     /// Sets a cell that was never put.

@@ -1,5 +1,5 @@
 //! The objects of a table, and their changes.
-ghost use Rattle.std.specs.Prelude.{◌≡◌, ◌≤◌, ◌+◌, length, IfOk, IfErr};
+ghost use Rattle.std.specs.Prelude.{◌≡◌, ◌≤◌, ◌+◌, length, Ok, IfOk, IfErr, OnOk};
 ghost use Rattle.std.specs.List.Sorted.{IsStrictlySortedBy};
 ghost use Rattle.std.specs.Map.{keys_of};
 ghost use Rattle.std.specs.Option.{option_map};
@@ -217,6 +217,24 @@ impl Objects {
             }
         };
         Ok(change)
+    }
+
+    /// Sets a cell that was put before, unless its array is locked, and answers the same. Else hands the value back, and nothing changes.
+    #[inline(always)]
+    pub(crate) fn put_again(
+        &mut self,
+        name: &CellName,
+        value: Variant,
+    ) -> Result<Difference, Variant>
+        ensures done { OnOk result (applied (Event.Put name.now value) self.old ≡ Ok self.new) }
+        ensures size { IfOk result (λ change. table_size self.new + change.gone ≡ table_size self.old + change.come) }
+        ensures small { IfOk result (λ change. change.come ≤ largest_cell) }
+        ensures back { IfErr result (λ back. (back ≡ value) × (self.new ≡ self.old)) }
+    {
+        let Some(found) = self.objects.get_mut_near(&name.object, near(name.object)) else {
+            return Err(value);
+        };
+        found.put_again(&name.place, value)
     }
 
     fn put_element(

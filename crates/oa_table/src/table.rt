@@ -14,6 +14,7 @@ ghost use Rattle.oa_table.specs.Sizes as sizes;
 ghost use Rattle.oa_table.specs.Sizes.{largest_image, size_in, table_size};
 ghost use Rattle.oa_table.specs.Tables.{cell_in, class_in, first_table, object_at};
 
+use crate::difference::Difference;
 use crate::objects::Objects;
 use crate::size::{place_size, value_size};
 use crate::{CellName, Event, LiveObject, Object, TableFault};
@@ -285,6 +286,14 @@ impl Table {
         if self.size > ROOM_FOR_ANY_PUT {
             return self.change(Event::Put { name, value });
         }
+        // Most puts are over a value that is there: these have no event to hand back.
+        let value = match self.objects.put_again(&name, value) {
+            Ok(Difference { gone, come }) => {
+                self.size = self.size + come - gone;
+                return Ok(());
+            }
+            Err(value) => value,
+        };
         // A match: `?` would move the whole answer, which has room for a refused event, on each put.
         match self.objects.put(name, value) {
             Ok(change) => {

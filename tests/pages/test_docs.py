@@ -1,4 +1,4 @@
-"""The documents: lines of at most 100 columns, tables whose cells are short, links that lead somewhere, pictures that are of crates.txt."""
+"""The documents: lines of at most 100 columns (120 in specs/), tables whose cells are short, links that lead somewhere, pictures that are of crates.txt."""
 import glob
 import os
 import re
@@ -10,10 +10,12 @@ import unittest
 from running import ROOT, Cases
 
 COLUMNS = 100
+SPECS_COLUMNS = 120
 LAID_OUT = ("bench", "bin/wrong-bodies", "dist", "dist/pack", "examples", "tests", "tools")
 PAGES = sorted(
     os.path.relpath(it, ROOT) for it in [*glob.glob(f"{ROOT}/*.md"), *glob.glob(f"{ROOT}/docs/*.md"), *glob.glob(f"{ROOT}/clients/**/*.md", recursive=True)]
 )
+SPECS = sorted(os.path.relpath(it, ROOT) for it in glob.glob(f"{ROOT}/crates/*/specs/**/*.antt", recursive=True))
 
 
 def read(path):
@@ -32,6 +34,8 @@ class Docs(Cases):
             self.tell(f"cells of {path}", not wide, wide)
         self.tell("README has at most 150 lines", len(read("README.md").splitlines()) <= 150)
         self.tell("README's lines", max(map(len, read("README.md").splitlines())) <= COLUMNS)
+        lines = [f"{path}:{number}: {line}" for path in SPECS for number, line in enumerate(read(path).split("\n"), 1) if len(line) > SPECS_COLUMNS]
+        self.tell("lines of specs/", SPECS and not lines, lines)
 
     def test_links(self):
         for path in PAGES:

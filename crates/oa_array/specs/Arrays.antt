@@ -1,6 +1,7 @@
--- A safe array as a map from the index lists of its box to cells (MS-OAUT section 2.2.30): the cell of a member stands in
--- the list of cells at the position of that member.
-use Rattle.std.specs.Prelude.{◌≡◌, ℕ, ◌<◌, ◌≤◌, List, ◌∷◌, map, drop, replicate, length, slice_get, slice_set, All, IsSome, Option, ℤ}
+-- A safe array as a map from the index lists of its box to cells (MS-OAUT section 2.2.30): the cell of a member stands
+-- in the list of cells at the position of that member.
+use Rattle.std.specs.Prelude.{◌≡◌, ℕ, ◌<◌, ◌≤◌, List, ◌∷◌, map, drop, replicate, length, slice_get, slice_set, All}
+use Rattle.std.specs.Prelude.{IsSome, Option, ℤ}
 use Rattle.std.specs.List.{range_with_len}
 use Rattle.std.specs.Option.{unwrap_or}
 use Rattle.oa_model.specs.Limits.{max_dimensions, max_cells}
@@ -16,7 +17,8 @@ pub record ArrayValue (X : Type 0) : Type 0 where
   pub cells : List X
   pub locks : ℕ
 
--- there are arrays of a type that has an sfType, of at least one bound, and of no more bounds and cells than the limits say
+-- there are arrays of a type that has an sfType, of at least one bound, and of no more bounds and cells than the limits
+-- say
 pub record IsArrayShape (elem : VarType) (bounds : List Bound) : Type 0 where
   pub typed : IsSome (sf_type_of elem)
   pub some : 0 < length bounds
@@ -47,14 +49,15 @@ module _ {X : Type 0} where
 
   -- an array with one and the same cell everywhere
   abbrev pub all_cells : VarType → List Bound → X → ArrayValue X
-  all_cells elem bounds cell = record { elem = elem; bounds = bounds; cells = replicate (box_size bounds) cell; locks = 0 }
+  all_cells elem bounds cell =
+      record { elem = elem; bounds = bounds; cells = replicate (box_size bounds) cell; locks = 0 }
 
   -- n cells: at each position the one that stood there, or the zero where none did
   unfoldable pub kept_by_position : X → ℕ → List X → List X
   kept_by_position zero n cells = map (λ p. unwrap_or (slice_get cells p) zero) (range_with_len 0 n)
 
-  -- The first listed bound is replaced. The member at position p of the new box has the old cell of position p, or the zero of the
-  -- type where there was none.
+  -- The first listed bound is replaced. The member at position p of the new box has the old cell of position p, or the
+  -- zero of the type where there was none.
   abbrev pub redimensioned : X → Bound → ArrayValue X → ArrayValue X
   redimensioned zero bound a = record a {
     bounds = with_first bound a.bounds;

@@ -4,11 +4,13 @@ use Rattle.oa_model.specs.Limits.{max_cells}
 use Rattle.oa_model.specs.declared.bound.Bound.{Bound}
 use Rattle.oa_model.specs.declared.hresult.HResult.{HResult}
 use Rattle.oa_model.specs.declared.var_type.VarType.{VarType}
-use Rattle.oa_model.specs.Codes.{disp_e_badindex, disp_e_typemismatch, disp_e_arrayislocked, e_invalidarg, e_unexpected, e_outofmemory}
+use Rattle.oa_model.specs.Codes.{disp_e_badindex, disp_e_typemismatch, disp_e_arrayislocked, e_invalidarg, e_unexpected}
+use Rattle.oa_model.specs.Codes.{e_outofmemory}
 use Rattle.oa_array.specs.Arrays.{ArrayValue, IsArrayShape, with_first}
 use Rattle.oa_array.specs.Boxes.{InBounds, box_size}
 use Rattle.oa_array.specs.declared.fault.ArrayFault.{ArrayFault}
-use Rattle.oa_array.specs.declared.fault.ArrayFault.TheVariants.{BadIndex, TypeMismatch, IsLocked, InvalidArgument, Unexpected, Memory}
+use Rattle.oa_array.specs.declared.fault.ArrayFault.TheVariants.{BadIndex, TypeMismatch, IsLocked, InvalidArgument}
+use Rattle.oa_array.specs.declared.fault.ArrayFault.TheVariants.{Unexpected, Memory}
 
 abbrev pub array_code : ArrayFault → HResult
 array_code BadIndex = disp_e_badindex

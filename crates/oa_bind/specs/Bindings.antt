@@ -1,4 +1,5 @@
--- The call that the arguments make of a property (MS-OAUT section 3.1.4.4), or its first refusal (the order is this project's choice).
+-- The call that the arguments make of a property (MS-OAUT section 3.1.4.4), or its first refusal (the order is this
+-- project's choice).
 use Rattle.std.specs.Prelude.{◌≡◌, ◌⊎◌, ℕ, ◌<◌, if◌then◌else◌, List, length, Option, Some, None, Result, Ok, Err}
 use Rattle.std.specs.Option.{unwrap_or}
 use Rattle.oa_model.specs.Codes.{e_invalidarg, disp_e_paramnotfound, disp_e_typemismatch}
@@ -30,7 +31,8 @@ abbrev pub scalar_type : ValueType → VarType
 scalar_type (kinds.One t) = t
 scalar_type (kinds.Array t) = t
 
--- the value of a missing argument: the parameter's default, else ERROR DISP_E_PARAMNOTFOUND for VARIANT, else the zero of the type
+-- the value of a missing argument: the parameter's default, else ERROR DISP_E_PARAMNOTFOUND for VARIANT, else the zero
+-- of the type
 abbrev pub without_default : VarType → Scalar
 without_default t = if same_type t types.Variant then scalars.Error disp_e_paramnotfound.0 else zero_of t
 
@@ -58,7 +60,8 @@ parameter_value call place p = value_of_parameter p (argument_for call place)
 abbrev pub new_value_of : ValueType → Option ℕ → Option Variant → Result (Option Variant) BindFault
 new_value_of declared None argument = refused e_invalidarg
 new_value_of declared (Some i) None = refused e_invalidarg
-new_value_of declared (Some i) (Some argument) = told_of_argument i (coerced argument declared) >>= λ value. Ok (Some value)
+new_value_of declared (Some i) (Some argument) =
+    told_of_argument i (coerced argument declared) >>= λ value. Ok (Some value)
 
 abbrev pub given_new_value : Given → ValueType → Kind → Result (Option Variant) BindFault
 given_new_value call declared Get = Ok None
@@ -66,7 +69,8 @@ given_new_value call declared Put =
     let i = argument_index call.named (length call.arguments) new_value_id in
     new_value_of declared i (at i call.arguments)
 
--- the names and the number of the arguments first, then the missing ones, then the parameters' values by place, and last the new value
+-- the names and the number of the arguments first, then the missing ones, then the parameters' values by place, and
+-- last the new value
 unfoldable pub bound_call : List Parameter → ValueType → Kind → Given → Result BoundCallValue BindFault
 bound_call parameters declared kind call = do
   named ← well_named parameters kind call.named (length call.arguments)
@@ -80,9 +84,10 @@ abbrev pub PutsArray : ValueType → Kind → Type 0
 PutsArray declared Get = ⊥
 PutsArray declared Put = IsArrayType declared
 
--- Memory is taken for the key of a property with parameters and for such an array: only where neither the names nor their number nor a
--- missing argument is refused.
-pub record BindingTakesMemory (parameters : List Parameter) (declared : ValueType) (kind : Kind) (call : Given) : Type 0 where
+-- Memory is taken for the key of a property with parameters and for such an array: only where neither the names nor
+-- their number nor a missing argument is refused.
+pub record BindingTakesMemory (parameters : List Parameter) (declared : ValueType) (kind : Kind)
+    (call : Given) : Type 0 where
   pub named : well_named parameters kind call.named (length call.arguments) ≡ Ok tt
   pub full : complete parameters call ≡ Ok tt
   pub some : (0 < length parameters) ⊎ PutsArray declared kind

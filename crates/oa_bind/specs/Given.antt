@@ -8,8 +8,8 @@ use Rattle.oa_variant.specs.declared.scalar.Scalar.TheVariants as scalars
 use Rattle.oa_variant.specs.declared.variant.Variant.{Variant}
 use Rattle.oa_variant.specs.declared.variant.Variant.TheVariants.{One}
 
--- The arguments of a call as they stand in rgvarg. The first ones are named, each by the DISPID at its index in rgdispidNamedArgs; the
--- others are given by position, the last of them for the first parameter.
+-- The arguments of a call as they stand in rgvarg. The first ones are named, each by the DISPID at its index in
+-- rgdispidNamedArgs; the others are given by position, the last of them for the first parameter.
 pub record Given : Type 0 where
   pub named : List ℤ
   pub arguments : List Variant
@@ -22,8 +22,8 @@ given_call named arguments = record { named = named; arguments = arguments }
 abbrev pub new_value_id : ℤ
 new_value_id = negsuc 2
 
--- the DISPID that the argument at an index is given for: its name, or the place of a parameter, which is the parameter's DISPID (this
--- project's choice)
+-- the DISPID that the argument at an index is given for: its name, or the place of a parameter, which is the
+-- parameter's DISPID (this project's choice)
 abbrev pub dispid_of_argument : List ℤ → ℕ → ℕ → ℤ
 dispid_of_argument named count i = get_or named i (pos (count - 1 - i))
 
@@ -41,8 +41,8 @@ abbrev pub is_parameter : ℕ → ℤ → Bool
 is_parameter n (pos place) = nat_lt place n
 is_parameter n (negsuc other) = false
 
--- The index of the argument that is given for a DISPID, of so many arguments: of the one by position, else of the first with that name.
--- That these are the triples, each once, are the laws `argument_is_given` and `each_argument_counts`.
+-- The index of the argument that is given for a DISPID, of so many arguments: of the one by position, else of the first
+-- with that name. That these are the triples, each once, are the laws `argument_is_given` and `each_argument_counts`.
 unfoldable pub argument_index : List ℤ → ℕ → ℤ → Option ℕ
 argument_index named count id =
     if is_parameter (by_position named count) id

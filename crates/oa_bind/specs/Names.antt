@@ -1,6 +1,7 @@
--- What is refused before any argument is coerced: by the names and the number of the arguments, and for a missing one (the order is this
--- project's choice).
-use Rattle.std.specs.Prelude.{ℕ, ◌+◌, ℤ, nat_lt, Bool, false, not, ◌&&◌, ◌||◌, if◌then◌else◌, List, [], ◌∷◌, length, is_none, Result}
+-- What is refused before any argument is coerced: by the names and the number of the arguments, and for a missing one
+-- (the order is this project's choice).
+use Rattle.std.specs.Prelude.{ℕ, ◌+◌, ℤ, nat_lt, Bool, false, not, ◌&&◌, ◌||◌, if◌then◌else◌, List, [], ◌∷◌, length}
+use Rattle.std.specs.Prelude.{is_none, Result}
 use Rattle.std.specs.List.{list_any, position_from}
 use Rattle.std.specs.Ordering.{int_eq}
 use Rattle.oa_model.specs.Codes.{e_invalidarg, disp_e_badparamcount, disp_e_paramnotfound, disp_e_paramnotoptional}
@@ -37,7 +38,8 @@ most Put parameters = length parameters + 1
 -- 3. a name, the new value's aside, that is of no parameter, or of one that is given by position too
 
 abbrev pub names_none : ℕ → ℕ → ℤ → Bool
-names_none positions parameters id = not (int_eq id new_value_id) && (not (is_parameter parameters id) || is_parameter positions id)
+names_none positions parameters id =
+    not (int_eq id new_value_id) && (not (is_parameter parameters id) || is_parameter positions id)
 
 unfoldable pub well_named : List Parameter → Kind → List ℤ → ℕ → Result (Unit {0}) BindFault
 well_named parameters kind named count = do

@@ -1,6 +1,7 @@
--- The canonical text of a tree: this project's choice among the texts that stand for it. Each line ends with LF; GUIDs are in lower case,
--- numbers decimal; one blank follows a comma; both section words stand always.
-use Rattle.std.specs.Prelude.{ℕ, ℤ, Bool, true, false, ◌||◌, if◌then◌else◌, List, [], ◌∷◌, ◌++◌, codes, Option, Some, None, is_some}
+-- The canonical text of a tree: this project's choice among the texts that stand for it. Each line ends with LF; GUIDs
+-- are in lower case, numbers decimal; one blank follows a comma; both section words stand always.
+use Rattle.std.specs.Prelude.{ℕ, ℤ, Bool, true, false, ◌||◌, if◌then◌else◌, List, [], ◌∷◌, ◌++◌, codes, Option, Some}
+use Rattle.std.specs.Prelude.{None, is_some}
 use Rattle.std.specs.List.{flat_map}
 use Rattle.std.specs.Fmt.{decimal, signed_decimal}
 use Rattle.uuid.specs.Text.{hyphenated_text, lower}
@@ -108,7 +109,8 @@ readonly_text true = codes "), readonly] "
 readonly_text false = codes ")] "
 
 unfoldable pub property_text : Property → List ℕ
-property_text p = id_text p.id (readonly_text p.readonly) ++ named_text (value_type_text p.value_type) p.name ++ codes ";\n"
+property_text p =
+    id_text p.id (readonly_text p.readonly) ++ named_text (value_type_text p.value_type) p.name ++ codes ";\n"
 
 abbrev pub kind_text : MethodKind → List ℕ
 kind_text forms.Method = codes ")] "
@@ -119,7 +121,8 @@ unfoldable pub list_text : List Parameter → List ℕ
 list_text ps = codes "(" ++ parameters_text ps ++ codes ");\n"
 
 unfoldable pub method_text : MethodValue → List ℕ
-method_text m = id_text m.id (kind_text m.kind) ++ named_text (result_text m.value_type) m.name ++ list_text m.parameters
+method_text m =
+    id_text m.id (kind_text m.kind) ++ named_text (result_text m.value_type) m.name ++ list_text m.parameters
 
 abbrev pub entry_word_text : Bool → List ℕ
 entry_word_text true = codes "[default] dispinterface "

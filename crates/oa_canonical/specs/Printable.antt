@@ -1,6 +1,6 @@
 -- The trees whose canonical text is read as the same tree: what holds of each tree that a text stands for.
-use Rattle.std.specs.Prelude.{◌≡◌, ℕ, ◌+◌, ◌^◌, ◌<◌, ◌≤◌, ◌==◌, ◌||◌, Bool, true, false, List, [], ◌∷◌, length, Option, Some, None, ℤ, pos}
-use Rattle.std.specs.Prelude.{negsuc, is_some}
+use Rattle.std.specs.Prelude.{◌≡◌, ℕ, ◌+◌, ◌^◌, ◌<◌, ◌≤◌, ◌==◌, ◌||◌, Bool, true, false, List, [], ◌∷◌, length, Option}
+use Rattle.std.specs.Prelude.{Some, None, ℤ, pos, negsuc, is_some}
 use Rattle.std.specs.List.{All, AllByRecursion}
 use Rattle.oa_model.specs.declared.var_type.VarType.{VarType}
 use Rattle.oa_model.specs.declared.var_type.VarType.TheVariants as types
@@ -24,7 +24,8 @@ use Rattle.oa_idl.specs.Trees.{TreeValue}
 use Rattle.oa_tokens.specs.Bytes.{is_in, run}
 use Rattle.oa_idl.specs.Words.{is_reserved, is_printable}
 use Rattle.oa_idl.specs.Grammar.{may_be_void, may_have_type, may_end, no_entry, entry_may, entry_grow}
-use Rattle.oa_idl.specs.Limits.{IsShort, HasShortNames, one_interface, one_coclass, how_many, HasFewMembers, HasFewParameters}
+use Rattle.oa_idl.specs.Limits.{IsShort, HasShortNames, one_interface, one_coclass, how_many, HasFewMembers}
+use Rattle.oa_idl.specs.Limits.{HasFewParameters}
 
 -- 16 bytes
 abbrev pub IsGuid : List ℕ → Type 0
@@ -90,7 +91,8 @@ AreEntries s [] = s.some ≡ true
 AreEntries s (e ∷ es) = (entry_may s e ≡ true) × IsName e.interface × AreEntries (entry_grow s e) es
 
 abbrev pub IsItem : Item → Type 0
-IsItem (items.Interface d) = IsGuid d.guid × IsName d.name × AllByRecursion IsProperty d.properties × AllByRecursion IsMethod d.methods
+IsItem (items.Interface d) =
+    IsGuid d.guid × IsName d.name × AllByRecursion IsProperty d.properties × AllByRecursion IsMethod d.methods
 IsItem (items.Coclass c) = IsGuid c.guid × IsName c.name × AreEntries no_entry c.entries
 
 -- with each of the limits of a tree

@@ -36,7 +36,8 @@ is_optional p = p.is_optional || is_some p.default
 -- the same name, A to Z folded, type, flags and default
 unfoldable pub same_parameter : Parameter → Parameter → Bool
 same_parameter p q =
-    same_name p.name q.name && same_value_type p.value_type q.value_type && beq p.is_in q.is_in && beq (is_optional p) (is_optional q)
+    same_name p.name q.name && same_value_type p.value_type q.value_type && beq p.is_in q.is_in
+    && beq (is_optional p) (is_optional q)
     && same_default p.default q.default
 
 -- the same id, type of what the property holds, and parameters, without the new value of a put

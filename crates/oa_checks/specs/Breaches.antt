@@ -1,5 +1,5 @@
--- What `check` refuses (this project's choice): the first breach of a tree. The kinds follow in one order over the whole tree, and within
--- a kind the breach counts whose later item stands first in the text. That item is named.
+-- What `check` refuses (this project's choice): the first breach of a tree. The kinds follow in one order over the
+-- whole tree, and within a kind the breach counts whose later item stands first in the text. That item is named.
 use Rattle.std.specs.Prelude.{◌≡◌, ℕ, Bool, true, false, not, ◌&&◌, nat_le, if◌then◌else◌, List, []}
 use Rattle.std.specs.Prelude.{◌∷◌, length, Option, Some, None, Result, Ok, Err, map, find, is_some}
 use Rattle.std.specs.List.{list_any}
@@ -23,8 +23,9 @@ use Rattle.oa_checks.specs.Defaults.{default_of}
 use Rattle.oa_checks.specs.Libraries.{same, same_name, item_name, item_guid, interface_named, marked}
 use Rattle.oa_checks.specs.Repeats.{first_repeat, first_answer, first_after}
 use Rattle.oa_checks.specs.declared.fault.CheckError.{CheckError}
-use Rattle.oa_checks.specs.declared.fault.CheckError.TheVariants.{DuplicateName, DuplicateId, DuplicateGuid, UnknownInterface}
-use Rattle.oa_checks.specs.declared.fault.CheckError.TheVariants.{GetPutDisagree, ArrayParameter, BadDefault, TextTooLong, Memory}
+use Rattle.oa_checks.specs.declared.fault.CheckError.TheVariants.{DuplicateName, DuplicateId, DuplicateGuid}
+use Rattle.oa_checks.specs.declared.fault.CheckError.TheVariants.{UnknownInterface, GetPutDisagree, ArrayParameter}
+use Rattle.oa_checks.specs.declared.fault.CheckError.TheVariants.{BadDefault, TextTooLong, Memory}
 
 -- ---- names
 
@@ -38,7 +39,8 @@ clashes d e = same_name d.name e.name && not (are_one_member d.kind e.kind)
 
 -- a declaration's own name, else the first of its parameters' names that repeats one of them
 abbrev pub declared_breach : List DeclarationValue → DeclarationValue → Option (List ℕ)
-declared_breach before d = if list_any (clashes d) before then Some d.name else repeated_name (map (λ (p : Parameter). p.name) d.parameters)
+declared_breach before d = if list_any (clashes d) before then Some d.name
+    else repeated_name (map (λ (p : Parameter). p.name) d.parameters)
 
 -- the names inside an item: of an interface's declarations, or of a coclass's entries
 abbrev pub inner_breach : Item → Option (List ℕ)
@@ -48,11 +50,13 @@ inner_breach (Coclass c) = repeated_name (map (λ (e : Entry). e.interface) c.en
 -- an item's own name, else the first name inside it
 abbrev pub item_breach : List Item → Item → Option (List ℕ)
 item_breach before item =
-    if list_any (λ (other : Item). same_name (item_name item) (item_name other)) before then Some (item_name item) else inner_breach item
+    if list_any (λ (other : Item). same_name (item_name item) (item_name other)) before then Some (item_name item)
+    else inner_breach item
 
 -- the same by the folded names of the items before
 abbrev pub repeated_in : List (List ℕ) → Item → Option (List ℕ)
-repeated_in seen item = if list_any (same (folded_name (item_name item))) seen then Some (item_name item) else inner_breach item
+repeated_in seen item = if list_any (same (folded_name (item_name item))) seen then Some (item_name item)
+    else inner_breach item
 
 abbrev pub name_breach : List Item → Option (List ℕ)
 name_breach items = first_after item_breach [] items
@@ -64,7 +68,8 @@ in_interface breach (Interface i) = breach (declarations i)
 in_interface breach (Coclass c) = None
 
 -- the first declaration that breaks a rule with one before it
-abbrev pub broken_by : (DeclarationValue → DeclarationValue → Bool) → List DeclarationValue → DeclarationValue → Option (List ℕ)
+abbrev pub broken_by : (DeclarationValue → DeclarationValue → Bool) → List DeclarationValue → DeclarationValue
+    → Option (List ℕ)
 broken_by breaks before d = if list_any (breaks d) before then Some d.name else None
 
 abbrev pub first_broken : (DeclarationValue → DeclarationValue → Bool) → List DeclarationValue → Option (List ℕ)

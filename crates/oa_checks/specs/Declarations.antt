@@ -1,5 +1,6 @@
 -- What an interface declares.
-use Rattle.std.specs.Prelude.{Bool, true, false, if◌then◌else◌, List, [], ◌++◌, ◌-◌, length, map, take, slice_get, Option, Some, None}
+use Rattle.std.specs.Prelude.{Bool, true, false, if◌then◌else◌, List, [], ◌++◌, ◌-◌, length, map, take, slice_get}
+use Rattle.std.specs.Prelude.{Option, Some, None}
 use Rattle.std.specs.Option.{option_map}
 use Rattle.oa_model.specs.declared.var_type.ValueType.{ValueType}
 use Rattle.oa_idl.specs.declared.parts.MethodKind.{MethodKind}
@@ -22,10 +23,22 @@ kind_of_method forms.Get = kinds.Get
 kind_of_method forms.Put = kinds.Put
 
 abbrev pub of_property : Property → DeclarationValue
-of_property p = record { id = p.id; name = p.name; kind = kind_of_property p.readonly; value_type = Some p.value_type; parameters = [] }
+of_property p = record {
+  id = p.id;
+  name = p.name;
+  kind = kind_of_property p.readonly;
+  value_type = Some p.value_type;
+  parameters = [];
+}
 
 abbrev pub of_method : MethodValue → DeclarationValue
-of_method m = record { id = m.id; name = m.name; kind = kind_of_method m.kind; value_type = m.value_type; parameters = m.parameters }
+of_method m = record {
+  id = m.id;
+  name = m.name;
+  kind = kind_of_method m.kind;
+  value_type = m.value_type;
+  parameters = m.parameters;
+}
 
 -- the declarations of an interface in the text's order
 abbrev pub declarations : InterfaceValue → List DeclarationValue

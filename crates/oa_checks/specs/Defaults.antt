@@ -62,7 +62,8 @@ holds_texts t = false
 
 -- at most 131,072 characters, so 262,144 bytes
 abbrev pub text_as : VarType → List ℕ → Option Scalar
-text_as t cs = if holds_texts t then (if nat_le (length cs) 131072 then Some (scalars.Bstr (Some (wide cs))) else None) else None
+text_as t cs = if holds_texts t then (if nat_le (length cs) 131072 then Some (scalars.Bstr (Some (wide cs))) else None)
+    else None
 
 abbrev pub holds_truths : VarType → Bool
 holds_truths types.Bool = true

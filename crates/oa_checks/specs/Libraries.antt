@@ -57,7 +57,8 @@ class_of tree guid = option_and_then as_class (item_with tree.items guid)
 
 -- the default interface of a coclass
 abbrev pub default_interface : List Item → CoclassValue → Option InterfaceValue
-default_interface items class = option_and_then (λ (e : Entry). interface_named items e.interface) (find (λ e. e.is_default) class.entries)
+default_interface items class =
+    option_and_then (λ (e : Entry). interface_named items e.interface) (find (λ e. e.is_default) class.entries)
 
 -- whether one of a coclass's entries names the interface
 abbrev pub has_interface : CoclassValue → InterfaceValue → Bool
@@ -66,11 +67,12 @@ has_interface class i = list_any (λ (e : Entry). same_name e.interface i.name) 
 abbrev pub if_entered : CoclassValue → InterfaceValue → Option InterfaceValue
 if_entered class i = if has_interface class i then Some i else None
 
--- The interface that a GUID selects for a coclass (this project's choice): the zero GUID stands for the default interface; another GUID for
--- the interface that has it, where the coclass has that interface.
+-- The interface that a GUID selects for a coclass (this project's choice): the zero GUID stands for the default
+-- interface; another GUID for the interface that has it, where the coclass has that interface.
 abbrev pub selected : TreeValue → CoclassValue → List ℕ → Option InterfaceValue
 selected tree class guid =
-    if is_nil_bytes guid then default_interface tree.items class else option_and_then (if_entered class) (interface_of tree guid)
+    if is_nil_bytes guid then default_interface tree.items class
+    else option_and_then (if_entered class) (interface_of tree guid)
 
 -- the same by the coclass's GUID
 abbrev pub selected_in : TreeValue → List ℕ → List ℕ → Option InterfaceValue

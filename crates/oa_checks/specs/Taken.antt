@@ -1,4 +1,5 @@
--- The names that the declarations of an interface take: each but a put takes its name for reading, each but a get for setting.
+-- The names that the declarations of an interface take: each but a put takes its name for reading, each but a get for
+-- setting.
 use Rattle.std.specs.Prelude.{ℕ, Bool, true, false, ◌&&◌, ◌||◌, if◌then◌else◌, List, [], ◌∷◌, ◌++◌, map, Option, Some}
 use Rattle.std.specs.List.{list_any, filter}
 use Rattle.oa_model.specs.Folding.{folded_name}
@@ -18,7 +19,8 @@ takes_setting kinds.Get = false
 takes_setting k = true
 
 abbrev pub names_taken : (DeclarationKind → Bool) → List DeclarationValue → List (List ℕ)
-names_taken takes ds = map (λ (d : DeclarationValue). folded_name d.name) (filter (λ (d : DeclarationValue). takes d.kind) ds)
+names_taken takes ds =
+    map (λ (d : DeclarationValue). folded_name d.name) (filter (λ (d : DeclarationValue). takes d.kind) ds)
 
 -- whether a declaration would take a name that is taken
 abbrev pub is_taken : List (List ℕ) → List (List ℕ) → DeclarationValue → Bool

@@ -1,8 +1,8 @@
--- What a value becomes, or its refusal, as a function: for definitions above that must compute, as the first refusal of a call does. That
--- it says the same as the relations of Coercions and Refusals are the laws `scalar_answer_is_coercion` and `answer_is_coercion`. (This
--- project's choice.)
-use Rattle.std.specs.Prelude.{◌≡◌, ℕ, ℤ, ◌+◌, ◌*◌, ◌/◌, ◌%◌, ◌^◌, ◌==◌, ◌&&◌, ◌||◌, nat_lt, Bool, true, false, not, if◌then◌else◌, Result}
-use Rattle.std.specs.Prelude.{Ok, Err, pos, unsigned_abs}
+-- What a value becomes, or its refusal, as a function: for definitions above that must compute, as the first refusal of
+-- a call does. That it says the same as the relations of Coercions and Refusals are the laws
+-- `scalar_answer_is_coercion` and `answer_is_coercion`. (This project's choice.)
+use Rattle.std.specs.Prelude.{◌≡◌, ℕ, ℤ, ◌+◌, ◌*◌, ◌/◌, ◌%◌, ◌^◌, ◌==◌, ◌&&◌, ◌||◌, nat_lt, Bool, true, false, not}
+use Rattle.std.specs.Prelude.{if◌then◌else◌, Result, Ok, Err, pos, unsigned_abs}
 use Rattle.std.specs.Int.{is_negative}
 use Rattle.std.specs.Ordering.{int_eq}
 use Rattle.oa_model.specs.Integers.{in_range}
@@ -24,10 +24,12 @@ use Rattle.oa_coerce.specs.declared.number.Number.{Number}
 use Rattle.oa_coerce.specs.declared.rule.Rule.{Rule}
 use Rattle.oa_coerce.specs.declared.rule.Rule.TheVariants.{Unchanged, Zero, Nearest, Exact, ToTruth, NoRule}
 
--- the nearest whole number: one more than the quotient where the rest is above half a unit, or is half of it and the quotient odd
+-- the nearest whole number: one more than the quotient where the rest is above half a unit, or is half of it and the
+-- quotient odd
 abbrev pub half_even : ℕ → ℕ → ℕ
 half_even whole unit =
-    if nat_lt unit (2 * (whole % unit)) || 2 * (whole % unit) == unit && whole / unit % 2 == 1 then whole / unit + 1 else whole / unit
+    if nat_lt unit (2 * (whole % unit)) || 2 * (whole % unit) == unit && whole / unit % 2 == 1 then whole / unit + 1
+    else whole / unit
 
 abbrev pub nearest_count : Number → ℕ → ℤ
 nearest_count x places = signed (is_negative x.count) (half_even (unsigned_abs x.count * 10 ^ places) (10 ^ x.scale))

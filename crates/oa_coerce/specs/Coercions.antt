@@ -1,5 +1,5 @@
--- What a value becomes as one of a type (this project's choice from the conversions of VariantChangeType). Texts are not read as numbers,
--- nor numbers written as texts.
+-- What a value becomes as one of a type (this project's choice from the conversions of VariantChangeType). Texts are
+-- not read as numbers, nor numbers written as texts.
 use Rattle.std.specs.Prelude.{◌≡◌, ◌&&◌, ◌||◌, not, if◌then◌else◌, pos}
 use Rattle.std.specs.Ordering.{int_eq}
 use Rattle.oa_model.specs.Integers.{is_signed_integer}
@@ -18,8 +18,8 @@ use Rattle.oa_coerce.specs.Numbers.{counts_units, is_number_type, decimal_places
 use Rattle.oa_coerce.specs.declared.rule.Rule.{Rule}
 use Rattle.oa_coerce.specs.declared.rule.Rule.TheVariants.{Unchanged, Zero, Nearest, Exact, ToTruth, NoRule}
 
--- The rule by which a scalar of one type becomes one of another: the first that applies. A whole number in the range of a type is
--- nearest to itself, so integers go by Nearest too.
+-- The rule by which a scalar of one type becomes one of another: the first that applies. A whole number in the range of
+-- a type is nearest to itself, so integers go by Nearest too.
 abbrev pub rule_for : VarType → VarType → Rule
 rule_for from to =
     if same_type to types.Variant || same_type from to then Unchanged
@@ -34,7 +34,8 @@ rule_for from to =
 abbrev pub Makes : Rule → Scalar → VarType → Scalar → Type 0
 Makes Unchanged s to made = made ≡ s
 Makes Zero s to made = made ≡ zero_of to
-Makes Nearest s to made = IsScalar made × (type_of made ≡ to) × IsNearest (number_in s) (decimal_places to) (key_number made)
+Makes Nearest s to made =
+    IsScalar made × (type_of made ≡ to) × IsNearest (number_in s) (decimal_places to) (key_number made)
 Makes Exact s to made = made ≡ scalars.Decimal (as_decimal (number_in s))
 Makes ToTruth s to made = made ≡ scalars.Bool (not (int_eq (number_in s).count (pos 0)))
 Makes NoRule s to made = ⊥

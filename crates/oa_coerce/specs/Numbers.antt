@@ -1,5 +1,6 @@
 -- The numbers of scalars, and which count of units is nearest to a number.
-use Rattle.std.specs.Prelude.{◌≡◌, ◌≤◌, ◌*◌, ◌%◌, ◌^◌, ◌||◌, if◌then◌else◌, ℕ, ℤ, Bool, true, false, pos, neg_ℤ, ◌*ℤ◌, ◌-ℤ◌, unsigned_abs}
+use Rattle.std.specs.Prelude.{◌≡◌, ◌≤◌, ◌*◌, ◌%◌, ◌^◌, ◌||◌, if◌then◌else◌, ℕ, ℤ, Bool, true, false, pos, neg_ℤ, ◌*ℤ◌}
+use Rattle.std.specs.Prelude.{◌-ℤ◌, unsigned_abs}
 use Rattle.std.specs.Int.{abs_diff, is_negative}
 use Rattle.oa_model.specs.Integers.{is_integer_type}
 use Rattle.oa_model.specs.declared.var_type.VarType.{VarType}
@@ -28,8 +29,9 @@ abbrev pub signed : Bool → ℕ → ℤ
 signed false n = pos n
 signed true n = neg_ℤ (pos n)
 
--- The number of a scalar, count / 10^scale: that of a DECIMAL is sign × magnitude / 10^scale (MS-OAUT section 2.2.26), true is -1
--- (VARIANT_TRUE, section 2.2.27) and false 0. EMPTY, NULL and texts have none, and ERROR is a code; no rule asks for theirs.
+-- The number of a scalar, count / 10^scale: that of a DECIMAL is sign × magnitude / 10^scale (MS-OAUT section 2.2.26),
+-- true is -1 (VARIANT_TRUE, section 2.2.27) and false 0. EMPTY, NULL and texts have none, and ERROR is a code; no rule
+-- asks for theirs.
 abbrev pub number_in : Scalar → Number
 number_in (scalars.Decimal d) = record { count = signed d.negative d.magnitude; scale = d.scale }
 number_in (scalars.Bool b) = record { count = signed b (if b then 1 else 0); scale = 0 }
@@ -39,7 +41,8 @@ number_in s = record { count = key_number s; scale = decimal_places (type_of s) 
 abbrev pub distance : Number → ℕ → ℤ → ℕ
 distance x places n = unsigned_abs (n *ℤ pos (10 ^ x.scale) -ℤ x.count *ℤ pos (10 ^ places))
 
--- n is the nearest count of units of 1 / 10^places: off by half a unit at most, and even where it is off by just half a unit
+-- n is the nearest count of units of 1 / 10^places: off by half a unit at most, and even where it is off by just half a
+-- unit
 pub record IsNearest (x : Number) (places : ℕ) (n : ℤ) : Type 0 where
   pub near : 2 * distance x places n ≤ 10 ^ x.scale
   pub even : 2 * distance x places n ≡ 10 ^ x.scale → unsigned_abs n % 2 ≡ 0

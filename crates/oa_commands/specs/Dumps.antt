@@ -21,7 +21,8 @@ key_digits (first ∷ rest) = encode_lower (flat_map a_scalar.image (first ∷ r
 
 -- a cell's line, as far as its key
 unfoldable pub cell_start : List ℕ → ℤ → List ℕ
-cell_start interface dispid = codes "cell " ++ (hyphenated_text lower interface ++ (codes " " ++ (signed_decimal dispid ++ codes " ")))
+cell_start interface dispid =
+    codes "cell " ++ (hyphenated_text lower interface ++ (codes " " ++ (signed_decimal dispid ++ codes " ")))
 
 -- and behind it
 unfoldable pub value_digits : Variant → List ℕ
@@ -34,7 +35,8 @@ abbrev pub cell_line : PlaceValue × Variant → List ℕ
 cell_line cell = cell_place cell.0 ++ value_digits cell.1
 
 unfoldable pub object_line : ℕ → ObjectValue → List ℕ
-object_line number object = codes "object " ++ (decimal number ++ (codes " " ++ (hyphenated_text lower object.class ++ codes "\n")))
+object_line number object =
+    codes "object " ++ (decimal number ++ (codes " " ++ (hyphenated_text lower object.class ++ codes "\n")))
 
 -- an object's line, and those of its cells
 abbrev pub object_lines : ℕ × ObjectValue → List ℕ
@@ -60,7 +62,8 @@ pub record PutsFront (old new : Output) (bytes : List ℕ) : Type 0 where
   pub parts : bytes ≡ front ++ rest
   pub put : Writes old new front
 
--- This fault is told of bytes that are made and put: the writer has failed in them, or memory was wanting behind a first part of them.
+-- This fault is told of bytes that are made and put: the writer has failed in them, or memory was wanting behind a
+-- first part of them.
 abbrev pub BreaksOff : Output → Output → List ℕ → Fault → Type 0
 BreaksOff old new bytes faults.Write = Breaks old new bytes
 BreaksOff old new bytes faults.Memory = PutsFront old new bytes

@@ -1,5 +1,6 @@
 -- Lines of a text, as the place of a fault shows one. A line ends at CR, LF or both. (This project's choice.)
-use Rattle.std.specs.Prelude.{◌≡◌, ◌+◌, ◌-◌, ◌^◌, ◌++◌, ◌==◌, ◌||◌, min, not, ℕ, Bool, true, false, List, [], ◌∷◌, if◌then◌else◌, string_bytes}
+use Rattle.std.specs.Prelude.{◌≡◌, ◌+◌, ◌-◌, ◌^◌, ◌++◌, ◌==◌, ◌||◌, min, not, ℕ, Bool, true, false, List, [], ◌∷◌}
+use Rattle.std.specs.Prelude.{if◌then◌else◌, string_bytes}
 use Rattle.std.specs.Char.{encode_utf8, is_control}
 use Rattle.std.specs.Fmt.{decimal}
 use Rattle.oa_commands.specs.Shown.{shown_name}

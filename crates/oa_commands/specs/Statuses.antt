@@ -26,8 +26,8 @@ abbrev pub status_of_tree : CheckError → ℕ
 status_of_tree checking.Memory = 5
 status_of_tree error = 2
 
--- 1 for a file, a device, a reader or a writer, 2 for a command line or a library, 3 for a store, 4 for a record or a frame, 5 for want of
--- memory
+-- 1 for a file, a device, a reader or a writer, 2 for a command line or a library, 3 for a store, 4 for a record or a
+-- frame, 5 for want of memory
 abbrev pub status_of : Fault → ℕ
 status_of faults.Words = 2
 status_of faults.TwoInputs = 2

@@ -25,8 +25,8 @@ pub record IsNewlyFormatted {D : Type 0} (g : Ghosts D) (size : ℕ) (disk : D) 
   pub stored : (c : List ℕ) → g.image disk c
       → IsStoreAt (Two size) 0 (first_gate (canonical library) first_table) (canonical library) first_table c
 
--- A disk held a store of format 1, and is now in each image one of format 2 with what it held, none of it too large for a server, as
--- long as each read gave what was there.
+-- A disk held a store of format 1, and is now in each image one of format 2 with what it held, none of it too large for
+-- a server, as long as each read gave what was there.
 pub record IsUpgraded {D : Type 0} (g : Ghosts D) (size : ℕ) (disk : D) : Type 0 where
   pub before : D
   pub begins : BeginsHonest g before

@@ -1,12 +1,13 @@
--- What a request on the array in a cell acts on. It is refused in one order, whatever it asks (this project's choice), each time by the
--- code of the fault:
+-- What a request on the array in a cell acts on. It is refused in one order, whatever it asks (this project's choice),
+-- each time by the code of the fault:
 --   1. the cell holds no array;
 --   2. the index list does not lie in the bounds (GETELEM, PUTELEM);
 --   3. the new value does not become an element (PUTELEM);
 --   4. the array is locked (REDIM; so are a put over it and the release of its object);
 --   5. it would have too many cells (REDIM);
 --   6. the cell was never put, or there is no lock to give or to take (LOCK, UNLOCK).
--- A cell that was never put holds the zero of its declared type. The table itself refuses 4 to 6, where it holds the array.
+-- A cell that was never put holds the zero of its declared type. The table itself refuses 4 to 6, where it holds the
+-- array.
 use Rattle.std.specs.Prelude.{ℕ, ℤ, not, List, Option, Some, None, Result, Ok, Err}
 use Rattle.oa_model.specs.declared.var_type.VarType.{VarType}
 use Rattle.oa_model.specs.declared.var_type.ValueType.{ValueType}
@@ -57,7 +58,8 @@ if_in_bounds index array = unless (array_code arrays.BadIndex) (not (in_bounds a
 
 -- the element there
 abbrev pub element_at : List ℤ → ArrayValue Scalar → Result Scalar Refusal
-element_at index array = if_in_bounds index array >>= λ _. known (array_code arrays.BadIndex) (array_element array index)
+element_at index array =
+    if_in_bounds index array >>= λ _. known (array_code arrays.BadIndex) (array_element array index)
 
 abbrev pub element_of : List ℤ → Variant → Result Scalar Refusal
 element_of index value = array_of value >>= element_at index

@@ -1,5 +1,6 @@
--- The cell of a property that a call names, or the first refusal (MS-OAUT section 3.1.4.4; the order of the refusals is this project's
--- choice). What an INVOKE reads or puts is such a cell, and so is what a request on an array's elements or locks is about.
+-- The cell of a property that a call names, or the first refusal (MS-OAUT section 3.1.4.4; the order of the refusals is
+-- this project's choice). What an INVOKE reads or puts is such a cell, and so is what a request on an array's elements
+-- or locks is about.
 use Rattle.std.specs.Prelude.{◌≡◌, ℕ, ℤ, ◌==◌, ◌&&◌, is_none, if◌then◌else◌, List, [], Result, Ok, Err}
 use Rattle.oa_model.specs.Codes.{e_outofmemory}
 use Rattle.oa_bind.specs.declared.fault.BindFault.{BindFault}
@@ -33,14 +34,15 @@ member_found (Ok found) = Ok found
 member_found (Err fault) = refused (member_code fault)
 
 -- the member is a property without parameters, with values of this type, and has the form that is asked for
-pub record IsKeyless (interface : InterfaceValue) (dispid : ℤ) (access : Access) (declared : ValueType) (form : Kind) : Type 0 where
+pub record IsKeyless (interface : InterfaceValue) (dispid : ℤ) (access : Access) (declared : ValueType)
+    (form : Kind) : Type 0 where
   pub member : MemberValue
   pub found : member_found (member_in interface dispid access) ≡ Ok (member, form)
   pub typed : member.value_type ≡ declared
   pub keyless : member.parameters ≡ []
 
--- the form that arguments are bound in: that of the member which an INVOKE's flags ask for, and else, whatever form the member must
--- have, a get
+-- the form that arguments are bound in: that of the member which an INVOKE's flags ask for, and else, whatever form the
+-- member must have, a get
 abbrev pub bound_as : Access → Kind → Kind
 bound_as (accesses.Flags flags) form = form
 bound_as accesses.Get form = forms.Get
@@ -56,7 +58,8 @@ call_found (Err fault) = Err (as_refusal fault)
 
 -- binding tells want of memory by a code and no index, of which nothing is decided
 abbrev pub undecided : BindFault → Undecided
-undecided fault = if fault.code.0 == e_outofmemory.0 && is_none fault.index then OutOfMemory else Refused (as_refusal fault)
+undecided fault = if fault.code.0 == e_outofmemory.0 && is_none fault.index then OutOfMemory
+    else Refused (as_refusal fault)
 
 abbrev pub place_of : List ℕ → CallHead → BoundCallValue → PlaceValue
 place_of interface head bound = record { interface = interface; dispid = head.dispid; key = bound.key }
@@ -69,17 +72,20 @@ unfoldable pub cell_called : State → Call → Access → Result BoundCell Refu
 cell_called state call access = do
   interface ← interface_found state call.head.object call.head.interface call.head.riid
   found ← member_found (member_in interface call.head.dispid access)
-  bound ← call_found (bound_to found.0 (bound_as access found.1) (record { named = call.named; arguments = call.arguments }))
+  bound ← call_found
+      (bound_to found.0 (bound_as access found.1) (record { named = call.named; arguments = call.arguments }))
   Ok (record { name = called_cell interface.guid call.head bound; declared = found.0.value_type; value = bound.value })
 
--- Memory is taken to find a cell where arguments are bound that need some: the object, its interface, riid and the member are found.
+-- Memory is taken to find a cell where arguments are bound that need some: the object, its interface, riid and the
+-- member are found.
 pub record FindingTakesMemory (state : State) (call : Call) (access : Access) : Type 0 where
   pub interface : InterfaceValue
   pub member : MemberValue
   pub form : Kind
   pub reached : interface_found state call.head.object call.head.interface call.head.riid ≡ Ok interface
   pub found : member_found (member_in interface call.head.dispid access) ≡ Ok (member, form)
-  pub binding : BindingTakesMemory member.parameters member.value_type (bound_as access form) (record { named = call.named; arguments = call.arguments })
+  pub binding : BindingTakesMemory member.parameters member.value_type (bound_as access form)
+      (record { named = call.named; arguments = call.arguments })
 
 -- What is found is what is due, or memory was wanted where some is taken.
 abbrev pub FindsDue : {A : Type 0} → Result A Refusal → Type 0 → Result A Undecided → Type 0

@@ -20,7 +20,8 @@ is_used_up table = not (nat_lt (length table.objects) max_live_objects) || (tabl
 
 -- whether an object of the coclass can be made
 abbrev pub class_found : State → List ℕ → Result (Unit {0}) Refusal
-class_found state class = known regdb_e_classnotreg (class_of state.library class) >>= λ _. unless e_unexpected (is_used_up state.table)
+class_found state class =
+    known regdb_e_classnotreg (class_of state.library class) >>= λ _. unless e_unexpected (is_used_up state.table)
 
 -- whether an event is allowed
 abbrev pub fitting : Result TableValue HResult → Result (Unit {0}) Refusal

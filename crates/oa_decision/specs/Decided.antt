@@ -1,4 +1,5 @@
--- What is decided of a request: the answer, the change that it calls for, or why it is refused. (This project's choice.)
+-- What is decided of a request: the answer, the change that it calls for, or why it is refused. (This project's
+-- choice.)
 use Rattle.std.specs.Prelude.{◌⊎◌, ℕ, IsOk, [], Option, Result, Ok, Err}
 use Rattle.oa_model.specs.declared.hresult.HResult.{HResult}
 use Rattle.oa_record.specs.declared.request.Request.{Request}
@@ -41,16 +42,19 @@ decided state requests.Objects = listing state
 abbrev pub refusal : ℕ → HResult → Option ℕ → ReplyValue
 refusal tag code index = record { tag = tag; code = code; index = index; body = [] }
 
--- What a request is decided with that takes memory: the arguments of a call, where they are bound; the fields of an answer, where there is
--- one; the zero array of a cell that was never put, which a REDIM changes.
+-- What a request is decided with that takes memory: the arguments of a call, where they are bound; the fields of an
+-- answer, where there is one; the zero array of a cell that was never put, which a REDIM changes.
 abbrev pub DecidingTakesMemory : State → Request → Type 0
 DecidingTakesMemory state (requests.Create class) = IsOk (creation state class)
 DecidingTakesMemory state (requests.Release number) = ⊥
 DecidingTakesMemory state (requests.GetIds call) = IsOk (look_up state call)
-DecidingTakesMemory state (requests.Invoke call) = FindingTakesMemory state call (Flags call.head.flags) ⊎ IsOk (invocation state call)
-DecidingTakesMemory state (requests.GetElement call indices) = FindingTakesMemory state call Get ⊎ IsOk (element_got state call indices)
+DecidingTakesMemory state (requests.Invoke call) =
+    FindingTakesMemory state call (Flags call.head.flags) ⊎ IsOk (invocation state call)
+DecidingTakesMemory state (requests.GetElement call indices) =
+    FindingTakesMemory state call Get ⊎ IsOk (element_got state call indices)
 DecidingTakesMemory state (requests.PutElement call indices value) = FindingTakesMemory state call Put
-DecidingTakesMemory state (requests.Redimension call bound) = FindingTakesMemory state call Put ⊎ IsOfNeverPut state call
+DecidingTakesMemory state (requests.Redimension call bound) =
+    FindingTakesMemory state call Put ⊎ IsOfNeverPut state call
 DecidingTakesMemory state (requests.Lock call) = FindingTakesMemory state call Get ⊎ IsOk (locking state call)
 DecidingTakesMemory state (requests.Unlock call) = FindingTakesMemory state call Get ⊎ IsOk (unlocking state call)
 DecidingTakesMemory state (requests.TypeInfo index) = IsOk (information state index)

@@ -1,4 +1,5 @@
--- The interface of an object that a call names, or the first refusal. The order of the refusals is this project's choice.
+-- The interface of an object that a call names, or the first refusal. The order of the refusals is this project's
+-- choice.
 use Rattle.std.specs.Prelude.{ℕ, not, List, Result, Ok}
 use Rattle.uuid.specs.Parts.{is_nil_bytes}
 use Rattle.oa_model.specs.Codes.{disp_e_unknowninterface, e_nointerface, rpc_e_disconnected}

@@ -1,5 +1,5 @@
--- The limits on what a change makes. (This project's choice: a table has to leave so much of a bank's body that a group of one event fits
--- behind it, and a server in memory refuses what one over a store refuses.)
+-- The limits on what a change makes. (This project's choice: a table has to leave so much of a bank's body that a group
+-- of one event fits behind it, and a server in memory refuses what one over a store refuses.)
 use Rattle.std.specs.Prelude.{◌≡◌, ◌-◌, ℕ, nat_lt, if◌then◌else◌, length, Option, Some, None, Result, Ok, Err, IsOk}
 use Rattle.oa_image.specs.Tables.{reserved_bytes, table_image}
 use Rattle.oa_model.specs.Limits.{max_event_bytes}

@@ -35,4 +35,5 @@ resizing name declared bound (Some value) = Ok (Change (events.Redim name bound)
 
 -- the property's put form, with arguments as a get has them; then the array
 abbrev pub redimension : State → Call → Bound → Result Decision Refusal
-redimension state call bound = cell_called state call Put >>= λ cell. resizing cell.name cell.declared bound (put_in state cell.name)
+redimension state call bound =
+    cell_called state call Put >>= λ cell. resizing cell.name cell.declared bound (put_in state cell.name)

@@ -16,4 +16,5 @@ description_of state index = description_at state.library index
 
 abbrev pub information : State → ℕ → Result Decision Refusal
 information state index =
-    known disp_e_badindex (description_of state index) >>= λ description. Ok (Answer s_ok (description_field description))
+    known disp_e_badindex (description_of state index) >>= λ description.
+    Ok (Answer s_ok (description_field description))

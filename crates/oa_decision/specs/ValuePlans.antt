@@ -27,7 +27,8 @@ PlansValue state tag request (Answered reply) =
     ((fields : List ℕ) × (decided state request ≡ Ok (decisions.Answer s_ok fields)) × (reply ≡ reply_told tag fields))
     ⊎ (RequestTakesMemory state request × (reply ≡ refusal tag e_outofmemory None))
 PlansValue state tag request (Change planned) =
-    (decided state request ≡ Ok (decisions.Change planned.event planned.fields)) × (planned.tag ≡ tag) × BringsNoLocks planned.event
+    (decided state request ≡ Ok (decisions.Change planned.event planned.fields)) × (planned.tag ≡ tag)
+    × BringsNoLocks planned.event
 
 -- the value of a cell is told, or memory was wanted
 abbrev pub PlansGet : State → ℕ → CellName → ValueType → Plan → Type 0
@@ -39,5 +40,5 @@ PlansGet state tag name declared (Change planned) = ⊥
 abbrev pub PlansPut : ℕ → CellName → Result Variant CoerceFault → Plan → Type 0
 PlansPut tag name coerced (Answered reply) = ⊥
 PlansPut tag name coerced (Change planned) =
-    (value : Variant) × (coerced ≡ Ok value) × (planned ≡ record { tag = tag; event = Put name (unlocked value); fields = [] })
-    × BringsNoLocks planned.event
+    (value : Variant) × (coerced ≡ Ok value)
+    × (planned ≡ record { tag = tag; event = Put name (unlocked value); fields = [] }) × BringsNoLocks planned.event

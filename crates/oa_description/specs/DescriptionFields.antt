@@ -1,19 +1,20 @@
--- The bytes of a description in a reply (this project's choice). Its numbers are those of MS-OAUT: TYPEKIND, INVOKEKIND, VARFLAG_FREADONLY,
--- VARTYPE, PARAMFLAGS.
+-- The bytes of a description in a reply (this project's choice). Its numbers are those of MS-OAUT: TYPEKIND,
+-- INVOKEKIND, VARFLAG_FREADONLY, VARTYPE, PARAMFLAGS.
 use Rattle.std.specs.Prelude.{ℕ, ◌+◌, Bool, if◌then◌else◌, List, [], ◌++◌, length, Option, Some, None, is_some}
 use Rattle.std.specs.List.{flat_map}
 use Rattle.oa_model.specs.Guids.{wire_order}
-use Rattle.oa_model.specs.Invoke.{coclass_kind, default_flag, has_default_flag, in_flag, interface_kind, invoke_get, invoke_method}
-use Rattle.oa_model.specs.Invoke.{invoke_put, optional_flag, readonly_flag, vt_void}
+use Rattle.oa_model.specs.Invoke.{coclass_kind, default_flag, has_default_flag, in_flag, interface_kind, invoke_get}
+use Rattle.oa_model.specs.Invoke.{invoke_method, invoke_put, optional_flag, readonly_flag, vt_void}
 use Rattle.oa_model.specs.Types.{vt_of_value}
 use Rattle.oa_model.specs.declared.var_type.ValueType.{ValueType}
 use Rattle.oa_variant.specs.declared.scalar.Scalar.{Scalar}
 use Rattle.oa_variant.specs.declared.variant.Variant.TheVariants.{One}
 use Rattle.oa_record.specs.Replies.{word, half_word, signed_word, string_field, variant_field}
 use Rattle.oa_checks.specs.declared.declaration.DeclarationKind.{DeclarationKind}
-use Rattle.oa_checks.specs.declared.declaration.DeclarationKind.TheVariants.{Property, ReadonlyProperty, Method, Get, Put}
-use Rattle.oa_typelib.specs.DescriptionValues.{ParameterDescription, MemberDescription, EntryDescription, ContentDescription}
-use Rattle.oa_typelib.specs.DescriptionValues.{DescriptionValue}
+use Rattle.oa_checks.specs.declared.declaration.DeclarationKind.TheVariants.{Property, ReadonlyProperty, Method, Get}
+use Rattle.oa_checks.specs.declared.declaration.DeclarationKind.TheVariants.{Put}
+use Rattle.oa_typelib.specs.DescriptionValues.{ParameterDescription, MemberDescription, EntryDescription}
+use Rattle.oa_typelib.specs.DescriptionValues.{ContentDescription, DescriptionValue}
 use Rattle.oa_typelib.specs.DescriptionValues.ContentDescription.{OfInterface, OfCoclass}
 
 -- VT_VOID where there is none

@@ -6,7 +6,8 @@ use Rattle.oa_disk.specs.declared.disk.Disk.{Ghosts}
 use Rattle.oa_disk.specs.Disk.{CountsFailures, Follows, HasCounted, LeavesStep, NothingPending}
 
 -- Writes and syncs, so many at most, which end with the first that fails.
-pub record AfterWrites {D T : Type 0} (g : Ghosts D) (most : ℕ) (old new : D) (result : Result T DeviceFault) : Type 0 where
+pub record AfterWrites {D T : Type 0} (g : Ghosts D) (most : ℕ) (old new : D)
+    (result : Result T DeviceFault) : Type 0 where
   pub size : g.size_of new ≡ g.size_of old
   -- it is as honest as it was
   pub honest : g.is_honest new ≡ g.is_honest old
@@ -14,10 +15,10 @@ pub record AfterWrites {D T : Type 0} (g : Ghosts D) (most : ℕ) (old new : D) 
   pub fault : IfErr result (λ e. e ≡ Write)
   pub calls : IsTrue (g.is_honest old) → g.moment new ≤ g.moment old + 2 * most
 
--- The same of a call that may be refused before the first write. One fault says that a write or a sync has failed, behind which there
--- was no call.
-pub record AfterAttempt {D T E : Type 0} (g : Ghosts D) (device : DeviceFault → E) (most : ℕ) (old new : D) (result : Result T E)
-    : Type 0 where
+-- The same of a call that may be refused before the first write. One fault says that a write or a sync has failed,
+-- behind which there was no call.
+pub record AfterAttempt {D T E : Type 0} (g : Ghosts D) (device : DeviceFault → E) (most : ℕ) (old new : D)
+    (result : Result T E) : Type 0 where
   pub size : g.size_of new ≡ g.size_of old
   pub honest : g.is_honest new ≡ g.is_honest old
   pub failures : g.failures_of old ≤ g.failures_of new
@@ -27,7 +28,8 @@ pub record AfterAttempt {D T E : Type 0} (g : Ghosts D) (device : DeviceFault �
       → (fault ≡ Write) × HasCounted (g.failures_of old) (g.failures_of new)
   pub calls : IsTrue (g.is_honest old) → g.moment new ≤ g.moment old + 2 * most
 
--- Any calls, reads among them, which end with the first that fails: a read may show that the disk has not kept the rules.
+-- Any calls, reads among them, which end with the first that fails: a read may show that the disk has not kept the
+-- rules.
 pub record AfterCalls {D T E : Type 0} (g : Ghosts D) (old new : D) (result : Result T E) : Type 0 where
   pub size : g.size_of new ≡ g.size_of old
   -- what is honest now was honest before

@@ -1,5 +1,6 @@
 -- What the calls of a disk do to its contents, and what a crash may leave: this project's choice of a model.
-use Rattle.std.specs.Prelude.{◌≡◌, ◌⊎◌, ℕ, ◌+◌, ◌-◌, ◌^◌, ◌<◌, ◌≤◌, Bool, IsTrue, List, length, slice_index, Result, IfErr, IsOk, IsErr, OnErr, OnOk}
+use Rattle.std.specs.Prelude.{◌≡◌, ◌⊎◌, ℕ, ◌+◌, ◌-◌, ◌^◌, ◌<◌, ◌≤◌, Bool, IsTrue, List, length, slice_index, Result}
+use Rattle.std.specs.Prelude.{IfErr, IsOk, IsErr, OnErr, OnOk}
 use Rattle.oa_disk.specs.declared.disk.DeviceFault.{DeviceFault}
 
 -- the disk has these bytes from this place on
@@ -51,8 +52,8 @@ pub record Syncs (old new : List ℕ) (after : List ℕ → Type 0) : Type 0 whe
   pub contents : new ≡ old
   pub durable : Only old after
 
--- Time goes on by a call, within which there is one moment and after it another: a crash since t might have left what it
--- might have left before, or what it may leave now.
+-- Time goes on by a call, within which there is one moment and after it another: a crash since t might have left what
+-- it might have left before, or what it may leave now.
 pub record Elapses (before now : ℕ) (past since : ℕ → List ℕ → Type 0) (image : List ℕ → Type 0) : Type 0 where
   pub later : before ≤ now
   pub soon : now ≤ before + 2
@@ -61,7 +62,8 @@ pub record Elapses (before now : ℕ) (past since : ℕ → List ℕ → Type 0)
 
 -- time goes on by a call of a disk
 abbrev pub TakesTime : {D : Type 0} → (D → ℕ) → (D → ℕ → List ℕ → Type 0) → (D → List ℕ → Type 0) → D → D → Type 0
-TakesTime moment image_since image old new = Elapses (moment old) (moment new) (image_since old) (image_since new) (image new)
+TakesTime moment image_since image old new =
+    Elapses (moment old) (moment new) (image_since old) (image_since new) (image new)
 
 -- A crash at any moment since old leaves an image that has P.
 pub record LeavesOnly {D : Type 0} (moment : D → ℕ) (image_since : D → ℕ → List ℕ → Type 0) (old new : D)
@@ -74,14 +76,15 @@ pub record LeavesOnly {D : Type 0} (moment : D → ℕ) (image_since : D → ℕ
 -- A crash at any moment since old leaves an image of old after a step.
 abbrev pub LeavesStep : {D : Type 0} → (D → ℕ) → (D → ℕ → List ℕ → Type 0) → (D → List ℕ → Type 0) → D → D
     → (List ℕ → List ℕ → Type 0) → Type 0
-LeavesStep moment image_since image old new step = LeavesOnly moment image_since old new (λ c. (d : List ℕ) × image old d × step d c)
+LeavesStep moment image_since image old new step =
+    LeavesOnly moment image_since old new (λ c. (d : List ℕ) × image old d × step d c)
 
 -- a failure was counted, unless the count stands at its greatest value
 abbrev pub HasCounted : ℕ → ℕ → Type 0
 HasCounted before now = now < 2 ^ 64 - 1 → before < now
 
--- One call, or a run of calls that ends with the first that fails: a failure counts once, unless the count stands at its greatest
--- value, and without one nothing counts.
+-- One call, or a run of calls that ends with the first that fails: a failure counts once, unless the count stands at
+-- its greatest value, and without one nothing counts.
 pub record CountsFailures {T E : Type 0} (before now : ℕ) (result : Result T E) : Type 0 where
   pub later : before ≤ now
   pub failed : IsErr result → HasCounted before now
@@ -93,9 +96,10 @@ pub record FailsAs {T : Type 0} (kind : DeviceFault) (before now : ℕ) (result 
   pub counts : CountsFailures before now result
   pub fault : IfErr result (λ e. e ≡ kind)
 
--- A read of these bytes is honest now only where the disk was before it; and it was if one that succeeds gives what is there. A read that
--- fails changes nothing of that.
-pub record ReadsHonestly {T E : Type 0} (contents : List ℕ) (at : ℕ) (bytes : List ℕ) (was is : Bool) (result : Result T E) : Type 0 where
+-- A read of these bytes is honest now only where the disk was before it; and it was if one that succeeds gives what is
+-- there. A read that fails changes nothing of that.
+pub record ReadsHonestly {T E : Type 0} (contents : List ℕ) (at : ℕ) (bytes : List ℕ) (was is : Bool)
+    (result : Result T E) : Type 0 where
   pub before : IsTrue is → IsTrue was
   pub kept : OnOk result (IsTrue was → HasBytesAt contents at bytes → IsTrue is)
   pub same : OnErr result (is ≡ was)

@@ -29,8 +29,8 @@ pub record ShowsAllOf {D E : Type 0} (g : Ghosts D) (h : Ghosts E) (within : D) 
   pub moment : h.moment disk ≡ g.moment within
   pub image_since : (t : ℕ) (c : List ℕ) → h.image_since disk t c ↔ g.image_since within t c
 
--- A call takes one of those that are left, and the fuse itself refuses none. With none left it fails, and the disk within
--- is as it was.
+-- A call takes one of those that are left, and the fuse itself refuses none. With none left it fails, and the disk
+-- within is as it was.
 pub record SpendsFuse {D E : Type 0} (old new : FuseDisk D) (result : Result (Unit {0}) E) : Type 0 where
   pub left : new.calls_left ≡ old.calls_left - 1
   pub passed : 0 < old.calls_left → new.refused ≡ old.refused

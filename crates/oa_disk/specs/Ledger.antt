@@ -20,7 +20,8 @@ history first ledger = record { first = laid first; calls = ledger.calls.items; 
 -- record, else the count of failures alone changes.
 pub record Enters (call : DeviceCall) (bytes : List ℕ) (fault : DeviceFault) (old new : Ledger)
     (result : Result (Unit {0}) DeviceFault) : Type 0 where
-  pub serves : IsOk result ↔ ((length old.calls.items < old.most_calls) × (length old.written.items + length bytes ≤ old.most_bytes))
+  pub serves : IsOk result
+      ↔ ((length old.calls.items < old.most_calls) × (length old.written.items + length bytes ≤ old.most_bytes))
   pub calls : OnOk result (new.calls.items ≡ old.calls.items ++ call ∷ [])
   pub written : OnOk result (new.written.items ≡ old.written.items ++ bytes)
   pub calls_err : OnErr result (new.calls.items ≡ old.calls.items)

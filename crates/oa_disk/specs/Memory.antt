@@ -34,7 +34,8 @@ image_since_of disk t = known.image_since_of (history_of disk) t
 
 -- The call is served exactly where there is room for it and for the bytes that it writes. Then it is the last of the
 -- record, else the record is as before, and with it the contents.
-pub record IsRecorded {E : Type 0} (call : DeviceCall) (bytes : List ℕ) (old new : MemoryDisk) (result : Result (Unit {0}) E) : Type 0 where
+pub record IsRecorded {E : Type 0} (call : DeviceCall) (bytes : List ℕ) (old new : MemoryDisk)
+    (result : Result (Unit {0}) E) : Type 0 where
   pub serves : IsOk result ↔ ((length old.ledger.calls.items < old.ledger.most_calls)
       × (length old.ledger.written.items + length bytes ≤ old.ledger.most_bytes))
   pub recorded : OnOk result (history_of new ≡ with_call (history_of old) call bytes)
@@ -48,4 +49,5 @@ IsFresh calls bytes disk = IsEmpty calls bytes disk.ledger
 
 -- what a crash at this moment leaves under this tear
 abbrev pub IsTornAt : MemoryDisk → Tear → ℕ → List ℕ → Type 0
-IsTornAt disk tear moment image = IsTorn tear (laid disk.first) disk.ledger.calls.items disk.ledger.written.items moment image
+IsTornAt disk tear moment image =
+    IsTorn tear (laid disk.first) disk.ledger.calls.items disk.ledger.written.items moment image

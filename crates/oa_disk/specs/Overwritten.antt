@@ -1,6 +1,6 @@
 -- What a write makes of a disk.
-use Rattle.std.proofs.Common.{◌≡◌, ◌⊎◌, inl, inr, ℕ, zero, suc, ◌+◌, ◌-◌, ◌<◌, ◌≤◌, List, [], ◌∷◌, ◌++◌, length, take, drop, get_or, refl}
-use Rattle.std.proofs.Common.{sym, ◌∙◌, ap, arith, length-append, length-drop}
+use Rattle.std.proofs.Common.{◌≡◌, ◌⊎◌, inl, inr, ℕ, zero, suc, ◌+◌, ◌-◌, ◌<◌, ◌≤◌, List, [], ◌∷◌, ◌++◌, length, take}
+use Rattle.std.proofs.Common.{drop, get_or, refl, sym, ◌∙◌, ap, arith, length-append, length-drop}
 use Rattle.std.proofs.lemmas.Bool.{cases_lt}
 use Rattle.std.proofs.lemmas.List.{length-take-le, get_or_append_left, get_or-append_right, get_or-take, get_or-drop}
 use Rattle.oa_disk.specs.Disk.{HasBytesAt, Torn, AllBytes}
@@ -22,7 +22,8 @@ append_bytes [] ys front behind i = behind i
 append_bytes (x ∷ xs) ys front behind zero = front zero
 append_bytes (x ∷ xs) ys front behind (suc i) = append_bytes xs ys (λ j. front (suc j)) behind i
 
-pub overwritten_bytes : (disk : List ℕ) (at : ℕ) (bytes : List ℕ) → AllBytes disk → AllBytes bytes → AllBytes (overwritten disk at bytes)
+pub overwritten_bytes : (disk : List ℕ) (at : ℕ) (bytes : List ℕ) → AllBytes disk → AllBytes bytes
+    → AllBytes (overwritten disk at bytes)
 overwritten_bytes disk at bytes old new =
     append_bytes (take at disk) (bytes ++ drop (at + length bytes) disk) (take_bytes at disk old)
     (append_bytes bytes (drop (at + length bytes) disk) new (drop_bytes (at + length bytes) disk old))
@@ -41,10 +42,12 @@ module _ (disk bytes : List ℕ) (at : ℕ) (inside : at + length bytes ≤ leng
   )
 
   pub overwritten_below : (i : ℕ) → i < at → get_or (overwritten disk at bytes) i 0 ≡ get_or disk i 0
-  overwritten_below i lt = get_or_append_left (take at disk) (bytes ++ drop (at + length bytes) disk) 0 i (omega (arith, front))
+  overwritten_below i lt =
+      get_or_append_left (take at disk) (bytes ++ drop (at + length bytes) disk) 0 i (omega (arith, front))
       ∙ get_or-take at disk i 0 lt
 
-  behind : (i : ℕ) → at ≤ i → get_or (overwritten disk at bytes) i 0 ≡ get_or (bytes ++ drop (at + length bytes) disk) (i - at) 0
+  behind : (i : ℕ) → at ≤ i
+      → get_or (overwritten disk at bytes) i 0 ≡ get_or (bytes ++ drop (at + length bytes) disk) (i - at) 0
   behind i le = get_or-append_right (take at disk) (bytes ++ drop (at + length bytes) disk) at i 0 front le
 
   pub overwritten_in : (i : ℕ) → i < length bytes → get_or (overwritten disk at bytes) (at + i) 0 ≡ get_or bytes i 0

@@ -6,7 +6,8 @@ use Rattle.oa_disk.specs.declared.record.Record.{Record}
 use Rattle.oa_disk.specs.Replay.{agrees, contents_after}
 use Rattle.oa_disk.specs.History.{History}
 
--- the bytes of a file of that size, of which this number is the one at each place; a number above 255 counts by its lowest eight bits
+-- the bytes of a file of that size, of which this number is the one at each place; a number above 255 counts by its
+-- lowest eight bits
 abbrev pub file_bytes : (ℕ → ℕ) → ℕ → List ℕ
 file_bytes held size = map (λ i. held i % 256) (range_with_len 0 size)
 

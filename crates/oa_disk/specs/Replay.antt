@@ -1,6 +1,6 @@
 -- What a crash may have left at each moment, from the calls and the bytes that were written.
-use Rattle.std.specs.Prelude.{◌≡◌, ◌⊎◌, ℕ, ◌+◌, ◌<◌, ◌≤◌, Bool, bytes_eq, List, [], ◌∷◌, ◌++◌, length, take, drop, replicate, slice_index}
-use Rattle.std.specs.Prelude.{slice_get, Some}
+use Rattle.std.specs.Prelude.{◌≡◌, ◌⊎◌, ℕ, ◌+◌, ◌<◌, ◌≤◌, Bool, bytes_eq, List, [], ◌∷◌, ◌++◌, length, take, drop}
+use Rattle.std.specs.Prelude.{replicate, slice_index, slice_get, Some}
 use Rattle.oa_disk.specs.Disk.{AllBytes}
 use Rattle.oa_disk.specs.declared.call.DeviceCall.{DeviceCall}
 use Rattle.oa_disk.specs.declared.call.DeviceCall.TheVariants.{Read, Write, Sync}
@@ -38,7 +38,8 @@ during_call state Sync = state
 
 abbrev pub after_call : DiskState → DeviceCall → List ℕ → DiskState
 after_call state Read bytes = state
-after_call state (Write at count) bytes = record { contents = overwritten state.contents at bytes; pending = (at, count) ∷ state.pending }
+after_call state (Write at count) bytes =
+    record { contents = overwritten state.contents at bytes; pending = (at, count) ∷ state.pending }
 after_call state Sync bytes = record { contents = state.contents; pending = [] }
 
 -- two states for each call: within it and after it
@@ -50,7 +51,8 @@ states state (call ∷ calls) bytes =
 
 abbrev pub last_state : DiskState → List DeviceCall → List ℕ → DiskState
 last_state state [] bytes = state
-last_state state (call ∷ calls) bytes = last_state (after_call state call (take (count_of call) bytes)) calls (drop (count_of call) bytes)
+last_state state (call ∷ calls) bytes =
+    last_state (after_call state call (take (count_of call) bytes)) calls (drop (count_of call) bytes)
 
 -- how many bytes all the calls have written
 abbrev pub count_all : List DeviceCall → ℕ

@@ -1,6 +1,6 @@
 -- Laws of a history.
-use Rattle.std.proofs.Common.{◌≡◌, inl, inr, ℕ, zero, suc, ◌*◌, ◌≤◌, List, [], ◌∷◌, length, take, drop, refl, sym, ◌∙◌, ap, subst, arith}
-use Rattle.std.proofs.Common.{length-drop}
+use Rattle.std.proofs.Common.{◌≡◌, inl, inr, ℕ, zero, suc, ◌*◌, ◌≤◌, List, [], ◌∷◌, length, take, drop, refl, sym, ◌∙◌}
+use Rattle.std.proofs.Common.{ap, subst, arith, length-drop}
 use Rattle.std.proofs.lemmas.List.{length-take-le}
 use Rattle.oa_disk.specs.Disk.{AllBytes}
 use Rattle.oa_disk.specs.declared.call.DeviceCall.{DeviceCall}
@@ -10,7 +10,8 @@ use Rattle.oa_disk.specs.Replay.{last_state, during_call, after_call, synced, co
 use Rattle.oa_disk.specs.History.{History, IsHistory, contents_of, image_of, moment_of, image_since_of}
 use Rattle.oa_disk.specs.Overwritten.{take_bytes, drop_bytes, overwritten_bytes, length-overwritten}
 
-pub length-states : (calls : List DeviceCall) (state : DiskState) (bytes : List ℕ) → length (states state calls bytes) ≡ 2 * length calls
+pub length-states : (calls : List DeviceCall) (state : DiskState) (bytes : List ℕ)
+    → length (states state calls bytes) ≡ 2 * length calls
 length-states [] state bytes = refl
 length-states (call ∷ calls) state bytes =
     omega (arith, length-states calls (after_call state call (take (count_of call) bytes)) (drop (count_of call) bytes))
@@ -22,11 +23,14 @@ pub counts_last : (calls : List DeviceCall) (state : DiskState) (bytes c : List 
 counts_last [] state bytes c zero le is = inl is
 counts_last [] state bytes c (suc t) le is = absurd (omega arith)
 counts_last (call ∷ calls) state bytes c zero le is =
-    inr (inr (counts_last calls (after_call state call (take (count_of call) bytes)) (drop (count_of call) bytes) c zero (omega arith) is))
+    inr (inr (counts_last calls (after_call state call (take (count_of call) bytes)) (drop (count_of call) bytes) c zero
+    (omega arith) is))
 counts_last (call ∷ calls) state bytes c (suc zero) le is =
-    inr (counts_last calls (after_call state call (take (count_of call) bytes)) (drop (count_of call) bytes) c zero (omega arith) is)
+    inr (counts_last calls (after_call state call (take (count_of call) bytes)) (drop (count_of call) bytes) c zero
+    (omega arith) is)
 counts_last (call ∷ calls) state bytes c (suc (suc t)) le is =
-    counts_last calls (after_call state call (take (count_of call) bytes)) (drop (count_of call) bytes) c t (omega arith) is
+    counts_last calls (after_call state call (take (count_of call) bytes)) (drop (count_of call) bytes) c t
+    (omega arith) is
 
 -- since the last moment there is only the last state
 only_at_length : (calls : List DeviceCall) (state : DiskState) (bytes c : List ℕ)
@@ -43,7 +47,8 @@ since_first all c zero is = is
 since_first [] c (suc t) is = is
 since_first (state ∷ rest) c (suc t) is = inr (since_first rest c t is)
 
-earlier : (all : List DiskState) (c : List ℕ) (s t : ℕ) → s ≤ t → IsImageOfSome (drop t all) c → IsImageOfSome (drop s all) c
+earlier : (all : List DiskState) (c : List ℕ) (s t : ℕ) → s ≤ t → IsImageOfSome (drop t all) c
+    → IsImageOfSome (drop s all) c
 earlier all c zero t le is = since_first all c t is
 earlier all c (suc s) zero le is = absurd (omega arith)
 earlier [] c (suc s) (suc t) le is = is
@@ -56,8 +61,8 @@ after_bytes state (Write at count) more old new = overwritten_bytes state.conten
 after_bytes state Sync more old new = old
 
 -- calls leave bytes
-pub state_bytes : (calls : List DeviceCall) (state : DiskState) (bytes : List ℕ) → AllBytes state.contents → AllBytes bytes
-    → AllBytes (last_state state calls bytes).contents
+pub state_bytes : (calls : List DeviceCall) (state : DiskState) (bytes : List ℕ) → AllBytes state.contents
+    → AllBytes bytes → AllBytes (last_state state calls bytes).contents
 state_bytes [] state bytes old new = old
 state_bytes (call ∷ calls) state bytes old new =
     state_bytes calls (after_call state call (take (count_of call) bytes)) (drop (count_of call) bytes)
@@ -69,8 +74,8 @@ within_contents state Read = refl
 within_contents state (Write at count) = refl
 within_contents state Sync = refl
 
-one_size : (state : DiskState) (call : DeviceCall) (calls : List DeviceCall) (bytes : List ℕ) (size : ℕ) → length state.contents ≡ size
-    → AllInside size (call ∷ calls) → count_all (call ∷ calls) ≤ length bytes
+one_size : (state : DiskState) (call : DeviceCall) (calls : List DeviceCall) (bytes : List ℕ) (size : ℕ)
+    → length state.contents ≡ size → AllInside size (call ∷ calls) → count_all (call ∷ calls) ≤ length bytes
     → length (after_call state call (take (count_of call) bytes)).contents ≡ size
 one_size state Read calls bytes size is inside fits = is
 one_size state (Write at n) calls bytes size is inside fits =
@@ -79,8 +84,8 @@ one_size state (Write at n) calls bytes size is inside fits =
 one_size state Sync calls bytes size is inside fits = is
 
 -- calls keep the size
-pub state_size : (calls : List DeviceCall) (state : DiskState) (bytes : List ℕ) (size : ℕ) → length state.contents ≡ size
-    → AllInside size calls
+pub state_size : (calls : List DeviceCall) (state : DiskState) (bytes : List ℕ) (size : ℕ)
+    → length state.contents ≡ size → AllInside size calls
     → count_all calls ≤ length bytes → length (last_state state calls bytes).contents ≡ size
 state_size [] state bytes size is inside fits = is
 state_size (call ∷ calls) state bytes size is inside fits =
@@ -93,7 +98,8 @@ some_size : (calls : List DeviceCall) (state : DiskState) (bytes c : List ℕ) (
     → count_all calls ≤ length bytes → IsImageOfSome (state ∷ states state calls bytes) c → length c ≡ size
 some_size calls state bytes c size is inside fits (inl image) = image.size ∙ is
 some_size [] state bytes c size is inside fits (inr none) = absurd none
-some_size (call ∷ calls) state bytes c size is inside fits (inr (inl image)) = image.size ∙ ap length (within_contents state call) ∙ is
+some_size (call ∷ calls) state bytes c size is inside fits (inr (inl image)) =
+    image.size ∙ ap length (within_contents state call) ∙ is
 some_size (call ∷ calls) state bytes c size is inside fits (inr (inr some)) =
     some_size calls (after_call state call (take (count_of call) bytes))
     (drop (count_of call) bytes) c size (one_size state call calls bytes size is inside fits) (λ k. inside (suc k))
@@ -101,7 +107,9 @@ some_size (call ∷ calls) state bytes c size is inside fits (inr (inr some)) =
 
 module _ (size : ℕ) (h : History) (whole : IsHistory size h) where
   pub contents_size : length (contents_of h) ≡ size
-  contents_size = state_size h.calls (synced h.first) h.written size whole.size_of_first whole.inside (omega (arith, whole.count_of_all))
+  contents_size =
+      state_size h.calls (synced h.first) h.written size whole.size_of_first whole.inside
+      (omega (arith, whole.count_of_all))
 
   pub contents_bytes : AllBytes (contents_of h)
   contents_bytes = state_bytes h.calls (synced h.first) h.written whole.bytes_of_first whole.bytes_of_all
@@ -114,7 +122,8 @@ module _ (size : ℕ) (h : History) (whole : IsHistory size h) where
 
   pub since_have_size : (t : ℕ) (c : List ℕ) → image_since_of h t c → length c ≡ size
   since_have_size t c left =
-      some_size h.calls (synced h.first) h.written c size whole.size_of_first whole.inside (omega (arith, whole.count_of_all))
+      some_size h.calls (synced h.first) h.written c size whole.size_of_first whole.inside
+      (omega (arith, whole.count_of_all))
       (since_first (synced h.first ∷ states (synced h.first) h.calls h.written) c t left)
 
 module _ (h : History) where

@@ -1,5 +1,6 @@
 -- What each tear leaves of the writes that no sync has brought to the disk: this project's choice.
-use Rattle.std.specs.Prelude.{◌≡◌, ◌⊎◌, ℕ, ◌+◌, ◌-◌, ◌/◌, ◌≤◌, List, [], ◌∷◌, length, take, drop, replicate, slice_get, Some}
+use Rattle.std.specs.Prelude.{◌≡◌, ◌⊎◌, ℕ, ◌+◌, ◌-◌, ◌/◌, ◌≤◌, List, [], ◌∷◌, length, take, drop, replicate, slice_get}
+use Rattle.std.specs.Prelude.{Some}
 use Rattle.oa_disk.specs.declared.call.DeviceCall.{DeviceCall}
 use Rattle.oa_disk.specs.declared.call.DeviceCall.TheVariants.{Read, Write, Sync}
 use Rattle.oa_disk.specs.declared.crash.Tear.{Tear}
@@ -30,7 +31,8 @@ torn_call tear disk Sync bytes = disk
 abbrev pub torn_all : Tear → List ℕ → List DeviceCall → List ℕ → List ℕ
 torn_all tear disk [] written = disk
 torn_all tear disk (call ∷ calls) written =
-    torn_all (tear_behind tear (count_of call)) (torn_call tear disk call (take (count_of call) written)) calls (drop (count_of call) written)
+    torn_all (tear_behind tear (count_of call)) (torn_call tear disk call (take (count_of call) written)) calls
+    (drop (count_of call) written)
 
 -- the last sync is the last of the first n calls, or there is none and n is 0
 pub record IsLastSync (calls : List DeviceCall) (n : ℕ) : Type 0 where
@@ -40,7 +42,8 @@ pub record IsLastSync (calls : List DeviceCall) (n : ℕ) : Type 0 where
 
 -- The disk after a crash at this moment: what was there at the last sync that had ended by then, and the tear of
 -- the calls that had begun since.
-pub record IsTorn (tear : Tear) (first : List ℕ) (calls : List DeviceCall) (written : List ℕ) (moment : ℕ) (image : List ℕ) : Type 0 where
+pub record IsTorn (tear : Tear) (first : List ℕ) (calls : List DeviceCall) (written : List ℕ) (moment : ℕ)
+    (image : List ℕ) : Type 0 where
   -- so many calls, up to that sync
   pub synced : ℕ
   pub last : IsLastSync (take (moment / 2) calls) synced

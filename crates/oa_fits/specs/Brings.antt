@@ -14,7 +14,8 @@ abbrev pub put_fits : TreeValue → PlaceValue → Variant → Option ObjectValu
 put_fits library place value None = true
 put_fits library place value (Some object) = cell_fits library object.class (place, value)
 
--- an object of a coclass of the library, or a value for a cell that its object can have; elements and bounds change no type
+-- an object of a coclass of the library, or a value for a cell that its object can have; elements and bounds change no
+-- type
 abbrev pub brings_fitting : TreeValue → TableValue → Event → Bool
 brings_fitting library table (Create number class) = is_some (class_of library class)
 brings_fitting library table (Release number) = true

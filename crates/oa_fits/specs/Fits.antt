@@ -34,7 +34,8 @@ interface_fits place value (Some interface) = property_fits place.key value (pro
 
 -- the interface with a GUID, which is its own, where the coclass with a GUID enters it
 abbrev pub entered : TreeValue → List ℕ → List ℕ → Option InterfaceValue
-entered library class guid = option_and_then (λ c. option_and_then (if_entered c) (interface_of library guid)) (class_of library class)
+entered library class guid =
+    option_and_then (λ c. option_and_then (if_entered c) (interface_of library guid)) (class_of library class)
 
 -- the cell is one of a property of an interface of its object's coclass
 abbrev pub cell_fits : TreeValue → List ℕ → PlaceValue × Variant → Bool
@@ -42,7 +43,8 @@ cell_fits library class cell = interface_fits cell.0 cell.1 (entered library cla
 
 -- the coclass is in the library, and each cell is one of it
 abbrev pub object_fits : TreeValue → ObjectValue → Bool
-object_fits library object = is_some (class_of library object.class) && list_all (cell_fits library object.class) object.cells
+object_fits library object =
+    is_some (class_of library object.class) && list_all (cell_fits library object.class) object.cells
 
 abbrev pub fits : TreeValue → TableValue → Bool
 fits library table = list_all (λ (entry : ℕ × ObjectValue). object_fits library entry.1) table.objects

@@ -1,4 +1,5 @@
--- What a character's value is, as a digit, and which pairs of digits stand as bytes in a buffer. (This project's choice.)
+-- What a character's value is, as a digit, and which pairs of digits stand as bytes in a buffer. (This project's
+-- choice.)
 use Rattle.std.specs.Prelude.{◌≡◌, ℕ, ◌+◌, ◌*◌, ◌<◌, ◌≤◌, List, slice_index, Some, None, Ok, IfSome, IsErr, IsNone}
 use Rattle.hex.specs.Hex.{hex_digit_value, pair_value}
 
@@ -24,7 +25,8 @@ pub record HasNoDigit (values : List ℕ) (n : ℕ) : Type 0 where
 
 -- the first n pairs are those of the bytes of a buffer
 abbrev pub AreDecoded : List ℕ → List ℕ → ℕ → Type 0
-AreDecoded text bytes n = (k : ℕ) → k < n → (i : ℕ) → pair_value (slice_index text (2 * k)) (slice_index text (2 * k + 1)) i ≡ Ok (slice_index bytes k)
+AreDecoded text bytes n = (k : ℕ) → k < n → (i : ℕ)
+    → pair_value (slice_index text (2 * k)) (slice_index text (2 * k + 1)) i ≡ Ok (slice_index bytes k)
 
 -- some of the first n pairs is none
 pub record HasBadPair (text : List ℕ) (n : ℕ) : Type 0 where

@@ -1,5 +1,6 @@
 -- Framings: how bodies stand in bytes, what ends them, and how replies are spelled (this project's choice).
-use Rattle.std.specs.Prelude.{◌≡◌, ◌⊎◌, ℕ, ◌<◌, ◌≤◌, max, Bool, true, false, List, [], ◌∷◌, ◌++◌, length, take, Option, IsErr, Ok, ⊤}
+use Rattle.std.specs.Prelude.{◌≡◌, ◌⊎◌, ℕ, ◌<◌, ◌≤◌, max, Bool, true, false, List, [], ◌∷◌, ◌++◌, length, take, Option}
+use Rattle.std.specs.Prelude.{IsErr, Ok, ⊤}
 use Rattle.std.specs.Io.KnownBytes as known
 use Rattle.std.specs.Int.{w32, from_le_bytes, to_le_bytes}
 use Rattle.hex.specs.Hex.{decode_of, encode_lower}
@@ -14,9 +15,9 @@ use Rattle.oa_frame.specs.declared.framing.Read.TheVariants as read
 use Rattle.oa_frame.specs.Known.{Known}
 use Rattle.oa_frame.specs.Lines.{FirstLine, IsLong, IsPartOfLine}
 
--- A framing. Next: the bytes begin with this body, and the rest follows it. Stop: this ends the bodies where these bytes are left, of which
--- the others are left after it was read. Can: this may end them at the body with this number, whatever the reader gives. spelled: how a
--- reply stands on the writer.
+-- A framing. Next: the bytes begin with this body, and the rest follows it. Stop: this ends the bodies where these
+-- bytes are left, of which the others are left after it was read. Can: this may end them at the body with this number,
+-- whatever the reader gives. spelled: how a reply stands on the writer.
 pub record Frames : Type 1 where
   pub Next : List ℕ → List ℕ → List ℕ → Type 0
   pub Stop : End → List ℕ → List ℕ → Type 0
@@ -83,7 +84,8 @@ pub record Length (fact : ℕ → Type 0) (bytes rest : List ℕ) : Type 0 where
 pub record EndsInRecord (bytes rest : List ℕ) : Type 0 where
   pub nothing : rest ≡ []
   pub some : 0 < length bytes
-  pub few : (length bytes < 4) ⊎ ((more : List ℕ) × Length (λ n. (0 < n) × (n ≤ max_request_bytes) × (length more < n)) bytes more)
+  pub few : (length bytes < 4)
+      ⊎ ((more : List ℕ) × Length (λ n. (0 < n) × (n ≤ max_request_bytes) × (length more < n)) bytes more)
 
 -- no more than a part of the first record was read: of its length, or of the body behind that
 pub record IsPartOfRecord (bytes rest : List ℕ) : Type 0 where
@@ -109,7 +111,12 @@ RecordCan number end.WriteFault = ⊥
 
 -- a length and as many bytes each
 abbrev pub records : Frames
-records = record { Next = NextRecord; Stop = RecordStop; Can = RecordCan; spelled = λ reply. to_le_bytes w32 (length reply) ++ reply }
+records = record {
+  Next = NextRecord;
+  Stop = RecordStop;
+  Can = RecordCan;
+  spelled = λ reply. to_le_bytes w32 (length reply) ++ reply;
+}
 
 abbrev pub frames : Framing → Frames
 frames HexLines = hex_lines

@@ -14,7 +14,8 @@ use Rattle.oa_frame.specs.Known.{Known}
 use Rattle.oa_frame.specs.Framings.{Frames, is_read_fault}
 use Rattle.oa_frame.specs.Paces.{HasCause}
 
--- what a server does with a body: the state before, the body, the replies that it hands out then (none, one or many), the state after
+-- what a server does with a body: the state before, the body, the replies that it hands out then (none, one or many),
+-- the state after
 abbrev pub TurnOf : Type 0 → Type 1
 TurnOf S = S → List ℕ → List (List ℕ) → S → Type 0
 
@@ -22,8 +23,10 @@ TurnOf S = S → List ℕ → List (List ℕ) → S → Type 0
 abbrev pub EndOf : Type 0 → Type 1
 EndOf S = S → List (List ℕ) → S → Type 0
 
--- A body that comes alone: first what was held is handed out, as where no further body comes, and then the body is answered.
-pub record AnswersAlone {S : Type 0} (turn : TurnOf S) (ends : EndOf S) (old : S) (body : List ℕ) (replies : List (List ℕ))
+-- A body that comes alone: first what was held is handed out, as where no further body comes, and then the body is
+-- answered.
+pub record AnswersAlone {S : Type 0} (turn : TurnOf S) (ends : EndOf S) (old : S) (body : List ℕ)
+    (replies : List (List ℕ))
     (new : S) : Type 0 where
   pub held : List (List ℕ)
   pub own : List (List ℕ)
@@ -40,8 +43,8 @@ step_by false turn ends old body replies new = turn old body replies new
 abbrev pub step : {S : Type 0} → (List ℕ → Bool) → TurnOf S → EndOf S → TurnOf S
 step alone turn ends old body replies new = step_by (alone body) turn ends old body replies new
 
--- What the reading came to behind the last body that was answered: nothing; what ended it; a body that comes alone, which was read and
--- left undone.
+-- What the reading came to behind the last body that was answered: nothing; what ended it; a body that comes alone,
+-- which was read and left undone.
 pub data Halt : Type 0 where
   Between : Halt
   At : End → Halt
@@ -76,8 +79,9 @@ but_last [] = []
 but_last (reply ∷ []) = []
 but_last (reply ∷ (next ∷ replies)) = reply ∷ but_last (next ∷ replies)
 
--- Of all bytes that a writer was given, `gone` have left it; `before` is how many it was given before these bodies. At each of them that comes
--- alone, all had left that it was given before that body's own reply, which is the last of those that were handed out at it.
+-- Of all bytes that a writer was given, `gone` have left it; `before` is how many it was given before these bodies. At
+-- each of them that comes alone, all had left that it was given before that body's own reply, which is the last of
+-- those that were handed out at it.
 abbrev pub HasLeft : Frames → (List ℕ → Bool) → ℕ → ℕ → List (List ℕ) → List (List (List ℕ)) → Type 0
 HasLeft f alone gone before [] handed = Unit {0}
 HasLeft f alone gone before (body ∷ bodies) [] = Unit {0}
@@ -98,20 +102,23 @@ is_answered WriteFault = false
 abbrev pub last_reply : List ℕ → End → List (List ℕ)
 last_reply last why = if is_answered why then last ∷ [] else []
 
--- what the writer was given when the reading had ended, or before a body that was left undone: nothing where it had failed before
+-- what the writer was given when the reading had ended, or before a body that was left undone: nothing where it had
+-- failed before
 abbrev pub finals : List ℕ → Halt → List (List ℕ) → List (List ℕ)
 finals last Between held = []
 finals last (At why) held = held ++ last_reply last why
 finals last (Undone body) held = held
 
--- the replies that the writer was given last: those of the end, those before a body that was left undone, or those of one body
+-- the replies that the writer was given last: those of the end, those before a body that was left undone, or those of
+-- one body
 abbrev pub given_last : List ℕ → Halt → List (List (List ℕ)) → List (List ℕ) → List (List ℕ)
 given_last last Between handed held = latest handed
 given_last last (At why) handed held = held ++ last_reply last why
 given_last last (Undone body) handed held = held
 
 -- a body was answered: the replies that were handed out were put, or the writer failed in them
-pub record AnswersBody {S : Type 0} (f : Frames) (turn : TurnOf S) (result : Result (Unit {0}) Unwritten) (body : List ℕ)
+pub record AnswersBody {S : Type 0} (f : Frames) (turn : TurnOf S) (result : Result (Unit {0}) Unwritten)
+    (body : List ℕ)
     (out out' : Output) (old new : S) : Type 0 where
   pub replies : List (List ℕ)
   pub turned : turn old body replies new
@@ -135,7 +142,8 @@ PutsOn (Ok u) out out' bytes = Writes out out' bytes × IsHandedOn out'
 PutsOn (Err e) out out' bytes = Breaks out out' bytes
 
 -- before a body that comes alone: what was held has left, or the writer failed in it
-pub record IsParted {S : Type 0} (f : Frames) (alone : List ℕ → Bool) (ends : EndOf S) (result : Result (Unit {0}) Unwritten) (body : List ℕ)
+pub record IsParted {S : Type 0} (f : Frames) (alone : List ℕ → Bool) (ends : EndOf S)
+    (result : Result (Unit {0}) Unwritten) (body : List ℕ)
     (out out' : Output) (old new : S) : Type 0 where
   pub is : alone body ≡ true
   pub held : List (List ℕ)
@@ -150,8 +158,8 @@ pub record IsTogether {S : Type 0} (alone : List ℕ → Bool) (result : Result 
   pub still : out' ≡ out
   pub same : new ≡ old
 
-abbrev pub PartsBefore : {S : Type 0} → Frames → (List ℕ → Bool) → EndOf S → Result (Unit {0}) Unwritten → List ℕ → Output → Output → S
-    → S → Type 0
+abbrev pub PartsBefore : {S : Type 0} → Frames → (List ℕ → Bool) → EndOf S → Result (Unit {0}) Unwritten → List ℕ
+    → Output → Output → S → S → Type 0
 PartsBefore f alone ends result body out out' old new = IsParted f alone ends result body out out' old new
     ⊎ IsTogether alone result body out out' old new
 
@@ -178,14 +186,16 @@ ReaderStands requests Between = ⊤
 ReaderStands requests (At why) = why ≡ ReadFault → requests ≡ max_records
 ReaderStands requests (Undone body) = ⊤
 
--- How often the reader was called: for each body that was read, no more often than the limit, and so often after the last of them.
+-- How often the reader was called: for each body that was read, no more often than the limit, and so often after the
+-- last of them.
 pub record CallsReader (requests over : ℕ) (old new : Input) : Type 0 where
   pub each : List ℕ
   pub one_each : length each ≡ requests
   pub few : All (λ n. n ≤ max_read_calls) each
   pub clock : new.calls ≡ later (sum each + over) old.calls
 
--- a read fault has a cause, and a reader that failed is told: it failed, or was called as often as may be, or the records were used up
+-- a read fault has a cause, and a reader that failed is told: it failed, or was called as often as may be, or the
+-- records were used up
 abbrev pub HasReaderCause : ℕ → Halt → ℕ → Bool → Type 0
 HasReaderCause requests Between over faulted = faulted ≡ false
 HasReaderCause requests (Undone body) over faulted = faulted ≡ false
@@ -195,24 +205,28 @@ HasReaderCause requests (At why) over faulted = HasCause (is_read_fault why) ove
 pub record AllHaveLeft (f : Frames) (last : List ℕ) (why : End) (stop : Halt)
     (handed : List (List (List ℕ))) (held : List (List ℕ)) (old new : Output) : Type 0 where
   pub ended : stop ≡ At why
-  pub reached : Appends old.reached new.reached (old.kept ++ spelled_all f.spelled (joined handed ++ (held ++ last_reply last why)))
+  pub reached : Appends old.reached new.reached
+      (old.kept ++ spelled_all f.spelled (joined handed ++ (held ++ last_reply last why)))
   pub handed_on : IsHandedOn new
   pub sound : new.broken ≡ false
 
--- The writer failed: no more than a first part of these replies has left it, and it had promised no room for all of them. What is lost is
--- no more than it may keep back and the replies that it was given last: so no further body was answered once it had failed. Nor is any
--- reply lost that was due before a body that comes alone and was answered: all of them had left the writer first.
-pub record WriterFails (f : Frames) (alone : List ℕ → Bool) (last : List ℕ) (why : End) (stop : Halt) (bodies : List (List ℕ))
+-- The writer failed: no more than a first part of these replies has left it, and it had promised no room for all of
+-- them. What is lost is no more than it may keep back and the replies that it was given last: so no further body was
+-- answered once it had failed. Nor is any reply lost that was due before a body that comes alone and was answered: all
+-- of them had left the writer first.
+pub record WriterFails (f : Frames) (alone : List ℕ → Bool) (last : List ℕ) (why : End) (stop : Halt)
+    (bodies : List (List ℕ))
     (handed : List (List (List ℕ))) (held : List (List ℕ)) (old new : Output) : Type 0 where
   pub ended : why ≡ WriteFault
   pub torn : Breaks old new (spelled_all f.spelled (joined handed ++ finals last stop held))
   pub few : length torn.lost ≤ old.back + length (spelled_all f.spelled (given_last last stop handed held))
   pub apart : HasLeft f alone (length torn.gone) (length old.kept) bodies handed
 
--- A whole session: the bodies that were read and answered, their run with the replies that were handed out at each, those that were still
--- held at the end, and what has left the writer. `stop` is what ended the reading. Between: the writer failed between two bodies, and nothing
--- past the last body that was answered was taken. Undone: it failed in what was held before a body that comes alone; that body was taken,
--- and nothing past it. `over` is how often the reader was called behind the last body that was answered.
+-- A whole session: the bodies that were read and answered, their run with the replies that were handed out at each,
+-- those that were still held at the end, and what has left the writer. `stop` is what ended the reading. Between: the
+-- writer failed between two bodies, and nothing past the last body that was answered was taken. Undone: it failed in
+-- what was held before a body that comes alone; that body was taken, and nothing past it. `over` is how often the
+-- reader was called behind the last body that was answered.
 pub record Session {S : Type 0} (f : Frames) (alone : List ℕ → Bool) (turn : TurnOf S) (ends : EndOf S) (last : List ℕ)
     (input input' : Input) (out out' : Output) (old new : S) (served : Served) : Type 0 where
   pub bodies : List (List ℕ)

@@ -12,14 +12,16 @@ use Rattle.oa_groups.specs.Turns.{Exchange, Turns, body_of, reply_of}
 -- Which groups are whole is known, whatever comes later.
 abbrev pub IsCut : {R : Type 0} → (List ℕ → Bool) → ℕ → List (List (Exchange R)) → List (Exchange R) → Type 0
 IsCut {R} alone size groups held =
-    (later : List (Exchange R)) → groups_of alone size (joined groups ++ (held ++ later)) ≡ groups ++ cut alone size held later
+    (later : List (Exchange R))
+    → groups_of alone size (joined groups ++ (held ++ later)) ≡ groups ++ cut alone size held later
 
 -- The requests of the open group are a group.
 abbrev pub IsNextGroup : {R : Type 0} → (List ℕ → Bool) → ℕ → List (List (Exchange R)) → List (Exchange R) → Type 0
 IsNextGroup alone size groups held = groups_of alone size (joined groups ++ held) ≡ groups ++ held ∷ []
 
 -- Some whole groups were answered, and the requests of the open group are held. C says how the requests are cut.
-pub record Going {S R D : Type 0} {g : Ghosts D} (t : Turns S R) (C : List (List (Exchange R)) → List (Exchange R) → Type 0)
+pub record Going {S R D : Type 0} {g : Ghosts D} (t : Turns S R)
+    (C : List (List (Exchange R)) → List (Exchange R) → Type 0)
     (start now : Grouping S R D g) (bodies : List (List ℕ)) (out : List R) : Type 0 where
   pub groups : List (List (Exchange R))
   pub held : List (Exchange R)
@@ -41,8 +43,10 @@ pub record Going {S R D : Type 0} {g : Ghosts D} (t : Turns S R) (C : List (List
   pub all : AllHoldState t start.store start.state → AllHoldState t now.store committed
   pub moments : HasMoments t start.store now.store start.state groups (length groups)
 
--- A call of the device failed, in the group behind those that were answered. C says why it ends where it does, and what came behind it.
-pub record Faulted {S R D : Type 0} {g : Ghosts D} (t : Turns S R) (size : ℕ) (C : S → List (Exchange R) → List (List ℕ) → Type 0)
+-- A call of the device failed, in the group behind those that were answered. C says why it ends where it does, and what
+-- came behind it.
+pub record Faulted {S R D : Type 0} {g : Ghosts D} (t : Turns S R) (size : ℕ)
+    (C : S → List (Exchange R) → List (List ℕ) → Type 0)
     (start now : Grouping S R D g) (bodies : List (List ℕ)) (replies : List R) : Type 0 where
   pub groups : List (List (Exchange R))
   pub group : List (Exchange R)
@@ -51,7 +55,8 @@ pub record Faulted {S R D : Type 0} {g : Ghosts D} (t : Turns S R) (size : ℕ) 
   pub cuts : IsNextGroup t.alone size groups group
   pub whole : C committed group others
   pub bodies_are : bodies ≡ map body_of (joined groups ++ group) ++ others
-  pub replies_are : replies ≡ map reply_of (joined groups) ++ (map (λ asked. t.faulted asked.body) group ++ map t.failed others)
+  pub replies_are : replies
+      ≡ map reply_of (joined groups) ++ (map (λ asked. t.faulted asked.body) group ++ map t.failed others)
   pub stands : TurnsOver t start.state (joined groups) committed
   pub runs : TurnsOver t committed group now.state
   pub called : CallsFor t committed group
@@ -59,7 +64,8 @@ pub record Faulted {S R D : Type 0} {g : Ghosts D} (t : Turns S R) (size : ℕ) 
   pub moments : HasMoments t start.store now.store start.state (groups ++ group ∷ []) (length groups)
 
 -- These bodies were taken since the start, and these replies handed out.
-pub record Underway {S R D : Type 0} {g : Ghosts D} (t : Turns S R) (size : ℕ) (start now : Grouping S R D g) (bodies : List (List ℕ))
+pub record Underway {S R D : Type 0} {g : Ghosts D} (t : Turns S R) (size : ℕ) (start now : Grouping S R D g)
+    (bodies : List (List ℕ))
     (out : List R) : Type 0 where
   pub going : now.store.stopped ≡ false → Going t (IsCut t.alone size) start now bodies out
   pub broken : now.store.stopped ≡ true → Faulted t size (IsWholeBefore t size) start now bodies out

@@ -1,5 +1,6 @@
 -- A server at work: its store and its state, and the open group. (This project's choice.)
-use Rattle.std.specs.Prelude.{◌≡◌, ◌≢◌, ◌⊎◌, ◌+◌, ◌-◌, ◌<◌, ◌≤◌, ℕ, IsTrue, true, false, List, [], ◌∷◌, ◌++◌, length, map}
+use Rattle.std.specs.Prelude.{◌≡◌, ◌≢◌, ◌⊎◌, ◌+◌, ◌-◌, ◌<◌, ◌≤◌, ℕ, IsTrue, true, false, List, [], ◌∷◌, ◌++◌, length}
+use Rattle.std.specs.Prelude.{map}
 use Rattle.oa_disk.specs.Disk.{LeavesOnly}
 use Rattle.oa_disk.specs.declared.disk.Disk.{Ghosts}
 use Rattle.oa_journal.specs.Shapes.{ample_bytes, body_bytes}
@@ -17,8 +18,10 @@ pub record Grouping (S R D : Type 0) (g : Ghosts D) : Type 0 where
   pub pending : List R
   pub events : List ℕ
 
--- A checkpoint is due before an event of this request: the event is the first of its group, and the store has no ample room for one.
-pub record IsDue {S R D : Type 0} {g : Ghosts D} (t : Turns S R) (store : Store D g) (state : S) (events body : List ℕ) : Type 0 where
+-- A checkpoint is due before an event of this request: the event is the first of its group, and the store has no ample
+-- room for one.
+pub record IsDue {S R D : Type 0} {g : Ghosts D} (t : Turns S R) (store : Store D g) (state : S)
+    (events body : List ℕ) : Type 0 where
   pub first : length events ≡ 0
   pub short : body_bytes store.bank.shape - store.bank.gate < ample_bytes
   pub makes : MakesEvent t state body
@@ -27,9 +30,10 @@ pub record IsDue {S R D : Type 0} {g : Ghosts D} (t : Turns S R) (store : Store 
 abbrev pub LeavesState : {D : Type 0} {g : Ghosts D} → Store D g → Store D g → (List ℕ → Type 0) → Type 0
 LeavesState {D} {g} old new P = LeavesOnly g.moment g.image_since old.disk new.disk P
 
--- One request is answered by a turn, and its reply and its event are held. The images go on to hold what they held, which is
--- what is held of the state while the open group has no event.
-pub record IsHeld {S R D : Type 0} {g : Ghosts D} (t : Turns S R) (asked : Exchange R) (old new : Grouping S R D g) : Type 0 where
+-- One request is answered by a turn, and its reply and its event are held. The images go on to hold what they held,
+-- which is what is held of the state while the open group has no event.
+pub record IsHeld {S R D : Type 0} {g : Ghosts D} (t : Turns S R) (asked : Exchange R)
+    (old new : Grouping S R D g) : Type 0 where
   pub turn : t.Turn asked old.state new.state
   -- it is none that is a group of its own
   pub plain : t.alone asked.body ≡ false
@@ -42,7 +46,8 @@ pub record IsHeld {S R D : Type 0} {g : Ghosts D} (t : Turns S R) (asked : Excha
   pub goes : Goes old.store new.store
 
 -- The open group ends, and its replies are told: as they are, or, where it could not be committed, taken back.
-pub record IsSettled {S R D : Type 0} {g : Ghosts D} (t : Turns S R) (told : List R) (old new : Grouping S R D g) : Type 0 where
+pub record IsSettled {S R D : Type 0} {g : Ghosts D} (t : Turns S R) (told : List R)
+    (old new : Grouping S R D g) : Type 0 where
   pub state : new.state ≡ old.state
   pub well : new.store.stopped ≡ false → (told ≡ old.pending) × (new.pending ≡ []) × (new.events ≡ [])
   pub broken : new.store.stopped ≡ true → told ≡ map t.withdrawn old.pending
@@ -53,8 +58,8 @@ pub record IsSettled {S R D : Type 0} {g : Ghosts D} (t : Turns S R) (told : Lis
   pub commits : Commits old.events old.store new.store
   pub goes : Goes old.store new.store
 
--- The checkpoint before a request's event was due, and failed: the group ends with this request, and is taken back. A turn without an
--- event that changes nothing that images hold stands for the request.
+-- The checkpoint before a request's event was due, and failed: the group ends with this request, and is taken back. A
+-- turn without an event that changes nothing that images hold stands for the request.
 pub record FailsAtCheckpoint {S R D : Type 0} {g : Ghosts D} (t : Turns S R) (body : List ℕ) (told : List R)
     (old new : Grouping S R D g) : Type 0 where
   pub reply : R
@@ -78,8 +83,9 @@ pub record IsAfterFault {S R D : Type 0} {g : Ghosts D} (old new : Grouping S R 
   pub state : new.state ≡ old.state
   pub goes : Goes old.store new.store
 
--- A request that is a group of its own is answered, where no group is open. It makes no event. Where it is done, the store goes on with the
--- library of the new state; where it is not, the device is not called. A stop at any moment of it leaves the state before or the one after.
+-- A request that is a group of its own is answered, where no group is open. It makes no event. Where it is done, the
+-- store goes on with the library of the new state; where it is not, the device is not called. A stop at any moment of
+-- it leaves the state before or the one after.
 pub record IsAnsweredAlone {S R D : Type 0} {g : Ghosts D} (t : Turns S R) (asked : Exchange R) (told : List R)
     (old new : Grouping S R D g) : Type 0 where
   pub turn : t.Turn asked old.state new.state
@@ -93,7 +99,8 @@ pub record IsAnsweredAlone {S R D : Type 0} {g : Ghosts D} (t : Turns S R) (aske
   pub doubt : new.store.stopped ≡ true → t.is_done asked.reply ≡ true
   pub quiet : t.is_done asked.reply ≡ false → new.store.disk ≡ old.store.disk
   pub once : CallsForOneCheckpoint old.store new.store
-  pub any_moment : AllHoldState t old.store old.state → LeavesState old.store new.store (λ c. HoldsState t old.state c ⊎ HoldsState t new.state c)
+  pub any_moment : AllHoldState t old.store old.state
+      → LeavesState old.store new.store (λ c. HoldsState t old.state c ⊎ HoldsState t new.state c)
   pub each : new.store.stopped ≡ false → AllHoldState t old.store old.state → AllHoldState t new.store new.state
   pub goes : Goes old.store new.store
 
@@ -119,12 +126,14 @@ pub record IsFilled {S R D : Type 0} {g : Ghosts D} (t : Turns S R) (size : ℕ)
   pub settled : IsSettled t told mid new
 
 -- its checkpoint fails
-pub record IsFaulted {S R D : Type 0} {g : Ghosts D} (t : Turns S R) (body : List ℕ) (told : List R) (old new : Grouping S R D g) : Type 0 where
+pub record IsFaulted {S R D : Type 0} {g : Ghosts D} (t : Turns S R) (body : List ℕ) (told : List R)
+    (old new : Grouping S R D g) : Type 0 where
   pub was : old.store.stopped ≡ false
   pub failed : FailsAtCheckpoint t body told old new
 
 -- the device has failed before
-pub record IsTooLate {S R D : Type 0} {g : Ghosts D} (t : Turns S R) (body : List ℕ) (told : List R) (old new : Grouping S R D g) : Type 0 where
+pub record IsTooLate {S R D : Type 0} {g : Ghosts D} (t : Turns S R) (body : List ℕ) (told : List R)
+    (old new : Grouping S R D g) : Type 0 where
   pub over : IsAfterFault old new
   pub told_is : told ≡ t.failed body ∷ []
 
@@ -136,7 +145,8 @@ pub record IsIdle {S R D : Type 0} {g : Ghosts D} (told : List R) (old new : Gro
   pub state : new.state ≡ old.state
 
 -- the open group ends
-pub record IsLast {S R D : Type 0} {g : Ghosts D} (t : Turns S R) (told : List R) (old new : Grouping S R D g) : Type 0 where
+pub record IsLast {S R D : Type 0} {g : Ghosts D} (t : Turns S R) (told : List R)
+    (old new : Grouping S R D g) : Type 0 where
   pub was : old.store.stopped ≡ false
   pub some : old.pending ≢ []
   pub settled : IsSettled t told old new
@@ -147,11 +157,14 @@ pub record IsLeft {S R D : Type 0} {g : Ghosts D} (told : List R) (old new : Gro
   pub nothing : told ≡ []
 
 -- The open group, if there is one, ends.
-abbrev pub IsFlushed : {S R D : Type 0} {g : Ghosts D} → Turns S R → List R → Grouping S R D g → Grouping S R D g → Type 0
+abbrev pub IsFlushed : {S R D : Type 0} {g : Ghosts D} → Turns S R → List R → Grouping S R D g → Grouping S R D g
+    → Type 0
 IsFlushed t told old new = IsIdle told old new ⊎ IsLast t told old new
 
--- The request is a group of its own: first the open group ends, and then, unless that could not be committed, the request is answered.
-pub record IsApart {S R D : Type 0} {g : Ghosts D} (t : Turns S R) (body : List ℕ) (told : List R) (old new : Grouping S R D g) : Type 0 where
+-- The request is a group of its own: first the open group ends, and then, unless that could not be committed, the
+-- request is answered.
+pub record IsApart {S R D : Type 0} {g : Ghosts D} (t : Turns S R) (body : List ℕ) (told : List R)
+    (old new : Grouping S R D g) : Type 0 where
   pub was : old.store.stopped ≡ false
   pub alone : t.alone body ≡ true
   pub mid : Grouping S R D g
@@ -163,10 +176,12 @@ pub record IsApart {S R D : Type 0} {g : Ghosts D} (t : Turns S R) (body : List 
   pub late : mid.store.stopped ≡ true → (after ≡ t.failed body ∷ []) × IsAfterFault mid new
 
 -- One request is taken, and these replies are handed out.
-abbrev pub IsTaken : {S R D : Type 0} {g : Ghosts D} → Turns S R → ℕ → List ℕ → List R → Grouping S R D g → Grouping S R D g → Type 0
+abbrev pub IsTaken : {S R D : Type 0} {g : Ghosts D} → Turns S R → ℕ → List ℕ → List R → Grouping S R D g
+    → Grouping S R D g → Type 0
 IsTaken t size body told old new =
     IsKeptBack t size body told old new
-    ⊎ (IsFilled t size body told old new ⊎ (IsFaulted t body told old new ⊎ (IsTooLate t body told old new ⊎ IsApart t body told old new)))
+    ⊎ (IsFilled t size body told old new
+    ⊎ (IsFaulted t body told old new ⊎ (IsTooLate t body told old new ⊎ IsApart t body told old new)))
 
 -- The input has ended, and these replies are handed out.
 abbrev pub IsEnded : {S R D : Type 0} {g : Ghosts D} → Turns S R → List R → Grouping S R D g → Grouping S R D g → Type 0

@@ -21,8 +21,8 @@ pub record MakesEvent {S R : Type 0} (t : Turns S R) (state : S) (body : List �
   pub turn : t.Turn (exchange body reply event) state after
   pub some : 0 < length event
 
--- One of these requests calls for the device, from the state before it in a run from this one: it makes an event, whether memory is found
--- for it or not, or it replaces the library.
+-- One of these requests calls for the device, from the state before it in a run from this one: it makes an event,
+-- whether memory is found for it or not, or it replaces the library.
 pub record CallsFor {S R : Type 0} (t : Turns S R) (first : S) (entries : List (Exchange R)) : Type 0 where
   pub front : List (Exchange R)
   pub asked : Exchange R
@@ -32,12 +32,13 @@ pub record CallsFor {S R : Type 0} (t : Turns S R) (first : S) (entries : List (
   pub run : TurnsOver t first front state
   pub calls : MakesEvent t state asked.body ⊎ ((t.alone asked.body ≡ true) × (t.is_done asked.reply ≡ true))
 
--- Each group is answered on the disk, and from the state, with which the one before has ended. The device is called only in a group of
--- which a request calls for it.
+-- Each group is answered on the disk, and from the state, with which the one before has ended. The device is called
+-- only in a group of which a request calls for it.
 abbrev pub InTurn : {S R D : Type 0} → Turns S R → D → S → List (List (Exchange R)) → D → S → Type 0
 InTurn t old before [] new after = (new ≡ old) × (after ≡ before)
 InTurn {S} {R} {D} t old before (group ∷ groups) new after =
-    (mid : D) × (state : S) × TurnsOver t before group state × ((mid ≡ old) ⊎ CallsFor t before group) × InTurn t mid state groups new after
+    (mid : D) × (state : S) × TurnsOver t before group state × ((mid ≡ old) ⊎ CallsFor t before group)
+    × InTurn t mid state groups new after
 
 -- the image is a store of what is held of the state
 abbrev pub HoldsState : {S R : Type 0} → Turns S R → S → List ℕ → Type 0
@@ -73,11 +74,15 @@ pub record IsRun {S R D : Type 0} (t : Turns S R) (moment : D → ℕ) (image_si
   pub rises : Rises (moment old) moments
   pub one_each : length moments ≡ count + 1
   pub past : (j m : ℕ) → slice_get moments j ≡ Some m → m ≤ moment new
-  pub images : (j m : ℕ) → slice_get moments j ≡ Some m → (c : List ℕ) → image_since new m c → IsAfter t j first groups c
+  pub images : (j m : ℕ) → slice_get moments j ≡ Some m → (c : List ℕ) → image_since new m c
+      → IsAfter t j first groups c
   -- for what began earlier
-  pub before : (m : ℕ) (c : List ℕ) → m ≤ moment old → image_since new m c → image_since old m c ⊎ IsAfter t 0 first groups c
+  pub before : (m : ℕ) (c : List ℕ) → m ≤ moment old → image_since new m c
+      → image_since old m c ⊎ IsAfter t 0 first groups c
 
 -- Where each image holds the state at the start of a call on a store, there are moments of the run that it makes.
-abbrev pub HasMoments : {S R D : Type 0} {g : Ghosts D} → Turns S R → Store D g → Store D g → S → List (List (Exchange R)) → ℕ → Type 0
+abbrev pub HasMoments : {S R D : Type 0} {g : Ghosts D} → Turns S R → Store D g → Store D g → S
+    → List (List (Exchange R)) → ℕ → Type 0
 HasMoments {S} {R} {D} {g} t old new first groups count =
-    AllHoldState t old first → (moments : List ℕ) × IsRun t g.moment g.image_since old.disk new.disk first groups count moments
+    AllHoldState t old first
+    → (moments : List ℕ) × IsRun t g.moment g.image_since old.disk new.disk first groups count moments

@@ -1,4 +1,5 @@
--- What a call answers that takes a list of requests, and what a stop at any moment of it leaves. (This project's choice.)
+-- What a call answers that takes a list of requests, and what a stop at any moment of it leaves. (This project's
+-- choice.)
 use Rattle.std.specs.Prelude.{◌≡◌, ℕ, true, false, List, [], ◌∷◌, ◌++◌, length, map}
 use Rattle.oa_disk.specs.declared.disk.Disk.{Ghosts}
 use Rattle.oa_store.specs.Writing.{Goes}
@@ -9,15 +10,17 @@ use Rattle.oa_groups.specs.Groups.{groups_of, joined}
 use Rattle.oa_groups.specs.Runs.{AllHoldState, HasMoments, InTurn, TurnsOver}
 use Rattle.oa_groups.specs.Turns.{Exchange, Turns, body_of, reply_of}
 
--- The replies to these bodies are those of a run, group for group. Where a call of the device failed, the run goes to the end
--- of that group, all of which is answered by that; what comes behind it is not looked at.
-pub record ServedInGroups {S R : Type 0} (t : Turns S R) (size : ℕ) (first : S) (bodies : List (List ℕ)) (replies : List R) (last : S)
+-- The replies to these bodies are those of a run, group for group. Where a call of the device failed, the run goes to
+-- the end of that group, all of which is answered by that; what comes behind it is not looked at.
+pub record ServedInGroups {S R : Type 0} (t : Turns S R) (size : ℕ) (first : S) (bodies : List (List ℕ))
+    (replies : List R) (last : S)
     (groups faulted : List (List (Exchange R))) (others : List (List ℕ)) : Type 0 where
   pub bodies_are : bodies ≡ map body_of (joined (groups ++ faulted)) ++ others
   pub run : TurnsOver t first (joined (groups ++ faulted)) last
   pub groups_are : groups_of t.alone size (joined (groups ++ faulted)) ≡ groups ++ faulted
   pub fault : (group : List (Exchange R)) → faulted ≡ group ∷ [] → IsFaultIn t size first groups group others
-  pub replies_are : replies ≡ map reply_of (joined groups) ++ (map (λ asked. t.faulted asked.body) (joined faulted) ++ map t.failed others)
+  pub replies_are : replies
+      ≡ map reply_of (joined groups) ++ (map (λ asked. t.faulted asked.body) (joined faulted) ++ map t.failed others)
 
 -- A call on a store that has not stopped: its replies are served, and there are the moments of its groups.
 pub record IsServed {S R D : Type 0} {g : Ghosts D} (t : Turns S R) (size : ℕ) (old new : Store D g) (before after : S)

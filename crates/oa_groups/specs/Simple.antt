@@ -1,5 +1,7 @@
--- The simplest requests: groups of events, each of which is done or refused, and other libraries. (This project's choice.)
-use Rattle.std.proofs.Common.{◌≡◌, ◌⊎◌, inl, inr, ◌==◌, Bool, true, false, true≢false, List, [], ◌∷◌, ℕ, drop, refl, sym, ap, ◌∙◌, subst}
+-- The simplest requests: groups of events, each of which is done or refused, and other libraries. (This project's
+-- choice.)
+use Rattle.std.proofs.Common.{◌≡◌, ◌⊎◌, inl, inr, ◌==◌, Bool, true, false, true≢false, List, [], ◌∷◌, ℕ, drop, refl}
+use Rattle.std.proofs.Common.{sym, ap, ◌∙◌, subst}
 use Rattle.oa_journal.specs.Replays.{Replays}
 use Rattle.oa_table.specs.Tables.{TableValue}
 use Rattle.oa_groups.specs.Turns.{Exchange, Turns}
@@ -47,17 +49,20 @@ nothing asked old new event same =
 abbrev pub IsSimple : Exchange Bool → Kept → Kept → Type 0
 IsSimple asked old new = Changes asked old new ⊎ (ReplacesSimply asked old new ⊎ RefusesSimply asked old new)
 
-pub replays : (asked : Exchange Bool) (old new : Kept) → IsSimple asked old new → Replays asked.event old.table new.table
+pub replays : (asked : Exchange Bool) (old new : Kept) → IsSimple asked old new
+    → Replays asked.event old.table new.table
 replays asked old new (inl one) = subst (λ (l : List ℕ). Replays l old.table new.table) (sym one.event) one.makes
 replays asked old new (inr (inl one)) = nothing asked old.table new.table one.event (ap (λ (k : Kept). k.table) one.is)
-replays asked old new (inr (inr one)) = nothing asked old.table new.table one.event (ap (λ (k : Kept). k.table) one.same)
+replays asked old new (inr (inr one)) =
+    nothing asked old.table new.table one.event (ap (λ (k : Kept). k.table) one.same)
 
 pub leaves : (asked : Exchange Bool) (old new : Kept) → IsSimple asked old new → asked.reply ≡ false → new ≡ old
 leaves asked old new (inl one) is = absurd (true≢false (sym one.told ∙ is))
 leaves asked old new (inr (inl one)) is = absurd (true≢false (sym one.told ∙ is))
 leaves asked old new (inr (inr one)) is = one.same
 
-pub stays : (asked : Exchange Bool) (old new : Kept) → IsSimple asked old new → asks_library asked.body ≡ false → new.library ≡ old.library
+pub stays : (asked : Exchange Bool) (old new : Kept) → IsSimple asked old new → asks_library asked.body ≡ false
+    → new.library ≡ old.library
 stays asked old new (inl one) plain = one.same
 stays asked old new (inr (inl one)) plain = absurd (true≢false (sym one.kind ∙ plain))
 stays asked old new (inr (inr one)) plain = ap (λ (k : Kept). k.library) one.same

@@ -3,8 +3,8 @@ use Rattle.std.specs.Prelude.{◌≡◌, Bool, false, List, ℕ}
 use Rattle.oa_journal.specs.Replays.{Replays}
 use Rattle.oa_table.specs.Tables.{TableValue}
 
--- one request, what it was answered, and the bytes of the event that it made: none where it changed nothing of the table that an image
--- holds
+-- one request, what it was answered, and the bytes of the event that it made: none where it changed nothing of the
+-- table that an image holds
 pub record Exchange (R : Type 0) : Type 0 where
   pub body : List ℕ
   pub reply : R
@@ -38,7 +38,8 @@ pub record Turns (S R : Type 0) : Type 1 where
   pub is_done : R → Bool
   -- what an opening makes of a state that was stopped: images hold the same of it
   pub opened : S → S
-  pub reopens : (state : S) → (held (opened state) ≡ held state) × (text (opened state) ≡ text state) × (bank (opened state) ≡ bank state)
+  pub reopens : (state : S)
+      → (held (opened state) ≡ held state) × (text (opened state) ≡ text state) × (bank (opened state) ≡ bank state)
   pub sized : (asked : Exchange R) (old new : S) → Turn asked old new → bank new ≡ bank old
   pub stays : (asked : Exchange R) (old new : S) → Turn asked old new → alone asked.body ≡ false → text new ≡ text old
   -- the event makes of what images hold before what they hold after

@@ -23,45 +23,56 @@ use Rattle.oa_store.specs.declared.store.Store.{Store}
 use Rattle.oa_table.specs.Tables.{TableValue, unlocked_table}
 use Rattle.oa_history.specs.declared.session.Stop.{Stop}
 
--- A disk that held this was formatted with the library, and stopped: it holds the same but for the first byte, or no store, or the new
--- one; and that is what a crash of the disk at the moment of the stop leaves, as the tear says. It made the calls of one format at most.
-pub record IsStoppedFormatting (found : List ℕ) (library : TreeValue) (bank : ℕ) (moment : ℕ) (tear : Tear) (disk : MemoryDisk)
+-- A disk that held this was formatted with the library, and stopped: it holds the same but for the first byte, or no
+-- store, or the new one; and that is what a crash of the disk at the moment of the stop leaves, as the tear says. It
+-- made the calls of one format at most.
+pub record IsStoppedFormatting (found : List ℕ) (library : TreeValue) (bank : ℕ) (moment : ℕ) (tear : Tear)
+    (disk : MemoryDisk)
     (left : List ℕ) : Type 0 where
   pub either : Torn 0 1 found left ⊎ IsNoneOrFirst bank (canonical library) left
   pub torn : IsTornAt disk tear (min moment (moments_of disk)) left
   pub calls : moments_of disk ≤ 2 * format_calls (canonical library)
 
--- A disk that held this was brought to format 2 with banks of this size, and stopped: whatever it was a store of, it is that still, in its
--- format of before or in the new one, as a crash of the disk at the moment of the stop leaves it and the tear says. It was a store of format
--- 1, and once the last call of the disk has ended it is the same one in the new format. It made the calls of one reading and of one
--- checkpoint at most.
-pub record IsStoppedUpgrading (found : List ℕ) (bank : ℕ) (stop : Stop) (disk : MemoryDisk) (left : List ℕ) : Type 0 where
+-- A disk that held this was brought to format 2 with banks of this size, and stopped: whatever it was a store of, it is
+-- that still, in its format of before or in the new one, as a crash of the disk at the moment of the stop leaves it and
+-- the tear says. It was a store of format
+-- 1, and once the last call of the disk has ended it is the same one in the new format. It made the calls of one
+-- reading and of one checkpoint at most.
+pub record IsStoppedUpgrading (found : List ℕ) (bank : ℕ) (stop : Stop) (disk : MemoryDisk)
+    (left : List ℕ) : Type 0 where
   pub either : IsUpgrade bank found left
   pub torn : IsTornAt disk stop.tear (min stop.moment (moments_of disk)) left
   pub brought : IsBrought bank found (image_of disk)
   pub chosen : ℕ
   pub gate : ℕ
   pub was : IsStoreAt One chosen gate brought.was.library brought.was.table found
-  pub calls : moments_of disk + length brought.was.library ≤ 16 + gate + 2 * checkpoint_calls brought.was.library brought.was.table
+  pub calls : moments_of disk + length brought.was.library
+      ≤ 16 + gate + 2 * checkpoint_calls brought.was.library brought.was.table
 
--- A store was opened on the disk: what is read is that store, and each image is, once it was opened, which wrote nothing.
+-- A store was opened on the disk: what is read is that store, and each image is, once it was opened, which wrote
+-- nothing.
 pub record IsFoundStore {D : Type 0} {g : Ghosts D} (disk : D) (store : Store D g) (table : TableValue) : Type 0 where
   pub contents : IsStoreAt store.bank.shape store.chosen store.bank.gate store.library.items table (g.contents disk)
-  pub found : (c : List ℕ) → g.image store.disk c → IsStoreAt store.bank.shape store.chosen store.bank.gate store.library.items table c
+  pub found : (c : List ℕ) → g.image store.disk c
+      → IsStoreAt store.bank.shape store.chosen store.bank.gate store.library.items table c
   pub unlocked : unlocked_table table ≡ table
   pub numbered : is_numbered table ≡ true
   pub reads : WritesNothing g.image g.moment g.image_since disk store.disk
-  pub calls : IsTrue (g.is_honest store.disk) → g.moment store.disk + length store.library.items ≤ g.moment disk + (20 + store.bank.gate)
+  pub calls : IsTrue (g.is_honest store.disk)
+      → g.moment store.disk + length store.library.items ≤ g.moment disk + (20 + store.bank.gate)
 
--- The store of the state that was found in one bank stands in the other one, without groups, once the last call of the disk has ended. What
--- is left is what a crash of the disk at the moment of the stop leaves, as the tear says, and holds the state, wherever that is. It made the
--- calls of one opening and of one checkpoint at most.
-pub record IsCheckpointed (found : List ℕ) (stop : Stop) (disk : MemoryDisk) (left : List ℕ) (state : State) : Type 0 where
+-- The store of the state that was found in one bank stands in the other one, without groups, once the last call of the
+-- disk has ended. What is left is what a crash of the disk at the moment of the stop leaves, as the tear says, and
+-- holds the state, wherever that is. It made the calls of one opening and of one checkpoint at most.
+pub record IsCheckpointed (found : List ℕ) (stop : Stop) (disk : MemoryDisk) (left : List ℕ)
+    (state : State) : Type 0 where
   pub chosen : ℕ
   pub gate : ℕ
   pub was : IsStoreAt (Two state.bank) chosen gate (canonical state.library) (held_of state) found
   pub is : (c : List ℕ) → image_of disk c
-      → IsStoreAt (Two state.bank) (1 - chosen) (first_gate (canonical state.library) (held_of state)) (canonical state.library) (held_of state) c
+      → IsStoreAt (Two state.bank) (1 - chosen) (first_gate (canonical state.library) (held_of state))
+      (canonical state.library) (held_of state) c
   pub torn : IsTornAt disk stop.tear (min stop.moment (moments_of disk)) left
-  pub calls : moments_of disk + length (canonical state.library) ≤ 20 + gate + 2 * checkpoint_calls (canonical state.library) (held_of state)
+  pub calls : moments_of disk + length (canonical state.library)
+      ≤ 20 + gate + 2 * checkpoint_calls (canonical state.library) (held_of state)
   pub holds : HoldsState requests state left

@@ -29,7 +29,8 @@ use Rattle.oa_history.specs.declared.shared_session.WrittenFrames.{WrittenFrames
 -- ---- the turns of a session as calls
 
 -- Requests of many clients are answered over a store, in groups of a size.
-abbrev pub ServesShared : {D : Type 0} {g : Ghosts D} → ℕ → Storage D g → Storage D g → Shared → List (List ℕ) → List ClientReply → Shared → Type 0
+abbrev pub ServesShared : {D : Type 0} {g : Ghosts D} → ℕ → Storage D g → Storage D g → Shared → List (List ℕ)
+    → List ClientReply → Shared → Type 0
 ServesShared size (Disk old) (Disk new) before bodies replies after =
     ServesStretch size old new before (record { bodies = bodies; told = replies }) after
 ServesShared size (Disk old) (Memory new) before bodies replies after = ⊥
@@ -46,7 +47,8 @@ RepliesGoToClients {D} g =
     (size : ℕ) (old new : Storage D g) (before after : Shared) (bodies : List (List ℕ)) (replies : List ClientReply)
     → ServesShared size old new before bodies replies after → map client_of replies ≡ map client_in bodies
 
--- the requests of some turns, in the one order of all clients: a body, or the end of a client, in its client's name; *now* is none
+-- the requests of some turns, in the one order of all clients: a body, or the end of a client, in its client's name;
+-- *now* is none
 abbrev pub requests_in : List (Owned Brought) → List (List ℕ)
 requests_in [] = []
 requests_in (Of client brought ∷ asks) = tagged client brought ∷ requests_in asks
@@ -58,56 +60,68 @@ at_last_turn [] frames = []
 at_last_turn (ask ∷ []) frames = frames ∷ []
 at_last_turn (ask ∷ (next ∷ asks)) frames = [] ∷ at_last_turn (next ∷ asks) frames
 
--- These turns are these calls, in groups of a size: each call has the requests of the next of them, and the frames that are handed out at
--- the last of those are those of its replies.
+-- These turns are these calls, in groups of a size: each call has the requests of the next of them, and the frames that
+-- are handed out at the last of those are those of its replies.
 abbrev pub AreTurnsOf : ℕ → List (Done ClientReply) → List (Owned Brought) → List (List (ℕ × List ℕ)) → Type 0
 AreTurnsOf size [] asks tolds = (asks ≡ []) × (tolds ≡ [])
 AreTurnsOf size (one ∷ calls) asks tolds =
-    (own : List (Owned Brought)) × (later : List (Owned Brought)) × (others : List (List (ℕ × List ℕ))) × (one.call.size ≡ size)
-    × (one.call.bodies ≡ requests_in own) × (asks ≡ own ++ later) × (tolds ≡ at_last_turn own (all_frames one.call.replies) ++ others)
-    × AreTurnsOf size calls later others
+    (own : List (Owned Brought)) × (later : List (Owned Brought)) × (others : List (List (ℕ × List ℕ)))
+    × (one.call.size ≡ size)
+    × (one.call.bodies ≡ requests_in own) × (asks ≡ own ++ later)
+    × (tolds ≡ at_last_turn own (all_frames one.call.replies) ++ others) × AreTurnsOf size calls later others
 
--- Over a store, where no group was open: the turns up to a last *now* are calls that were served, each over where frames are handed out
--- again, or at a *now*.
+-- Over a store, where no group was open: the turns up to a last *now* are calls that were served, each over where
+-- frames are handed out again, or at a *now*.
 abbrev pub TurnsAreCalls : {D : Type 0} → Ghosts D → Type 0
 TurnsAreCalls {D} g =
     (old new : SharedEngine D g) (start : Store D g) (asks : List (Owned Brought)) (tolds : List (List (ℕ × List ℕ)))
     → old.storage ≡ Disk start → old.desk.open_group.replies.items ≡ [] → old.desk.open_group.batch ≡ []
     → AllTurned asked_written old (asks ++ Now ∷ []) tolds new
     → (calls : List (Done ClientReply)) × AreTurnsOf old.desk.open_group.size calls (asks ++ Now ∷ []) tolds
-    × Made ServesShared old.storage (shared old.host old.desk.owners) calls new.storage (shared new.host new.desk.owners)
+    × Made ServesShared old.storage (shared old.host old.desk.owners) calls new.storage
+    (shared new.host new.desk.owners)
 
 -- ---- a session
 
 -- all turns that were made: what was asked, then ends of clients, and a last *now*
-abbrev pub turns_asked : {D : Type 0} {g : Ghosts D} {input input' : Read} {out out' : Output} {old new : SharedEngine D g} {why : SessionEnd}
+abbrev pub turns_asked : {D : Type 0} {g : Ghosts D} {input input' : Read} {out out' : Output}
+    {old new : SharedEngine D g} {why : SessionEnd}
     → ServesClients is_replacement asked_written starting input input' out out' old new why → List (Owned Brought)
 turns_asked {why = why} is =
-    parted is_replacement is.asked ++ (⊎_elim (λ all. ends_at why is.streams.clients) (λ fails. fails.ends) is.done ++ Now ∷ [])
+    parted is_replacement is.asked
+    ++ (⊎_elim (λ all. ends_at why is.streams.clients) (λ fails. fails.ends) is.done ++ Now ∷ [])
 
 -- the frames that were handed out at each
-abbrev pub turns_told : {D : Type 0} {g : Ghosts D} {input input' : Read} {out out' : Output} {old new : SharedEngine D g} {why : SessionEnd}
+abbrev pub turns_told : {D : Type 0} {g : Ghosts D} {input input' : Read} {out out' : Output}
+    {old new : SharedEngine D g} {why : SessionEnd}
     → ServesClients is_replacement asked_written starting input input' out out' old new why → List (List (ℕ × List ℕ))
 turns_told is = ⊎_elim (λ all. all.told.tolds) (λ fails. fails.loses.given ++ fails.loses.unheard) is.done
 
--- A server of many clients was given this input, and an empty writer. What was read, answered and written is what `serve_shared` says: what
--- the clients' own streams bring, in one order, and the frames of its replies. These are the calls.
-pub record HasWrittenFrames {D : Type 0} {g : Ghosts D} (input : SharedInput) (written : WrittenFrames) (old new : SharedServer D g)
+-- A server of many clients was given this input, and an empty writer. What was read, answered and written is what
+-- `serve_shared` says: what the clients' own streams bring, in one order, and the frames of its replies. These are the
+-- calls.
+pub record HasWrittenFrames {D : Type 0} {g : Ghosts D} (input : SharedInput) (written : WrittenFrames)
+    (old new : SharedServer D g)
     (done : List (Done ClientReply)) : Type 0 where
   pub empty : Gathered
   pub nothing : empty.bytes.items ≡ []
   pub unread : Read
-  pub served : HasServedClients (in_memory input.bytes.items) unread (gathered_output empty) (gathered_output written.output) input.group
+  pub served : HasServedClients (in_memory input.bytes.items) unread (gathered_output empty)
+      (gathered_output written.output) input.group
       old.engine new.engine written.why
   pub are : AreTurnsOf input.group done (turns_asked served.serves) (turns_told served.serves)
 
 -- the state at its last turn, where the clients that had no end still have their locks
-abbrev pub left_by : {D : Type 0} {g : Ghosts D} {input : SharedInput} {written : WrittenFrames} {old new : SharedServer D g}
+abbrev pub left_by : {D : Type 0} {g : Ghosts D} {input : SharedInput} {written : WrittenFrames}
+    {old new : SharedServer D g}
     {done : List (Done ClientReply)} → HasWrittenFrames input written old new done → Shared
 left_by is = shared is.served.left.host is.served.left.desk.owners
 
 -- So where it is over a store: each call was made where the one before was over.
-abbrev pub MakesCalls : {D : Type 0} {g : Ghosts D} → SharedInput → WrittenFrames → SharedServer D g → SharedServer D g → Type 0
+abbrev pub MakesCalls : {D : Type 0} {g : Ghosts D} → SharedInput → WrittenFrames → SharedServer D g → SharedServer D g
+    → Type 0
 MakesCalls input written old new =
-    OverStore old.engine.storage (λ store. Unit {0}) → (done : List (Done ClientReply)) × (is : HasWrittenFrames input written old new done)
-    × Made ServesShared old.engine.storage (shared old.engine.host old.engine.desk.owners) done new.engine.storage (left_by is)
+    OverStore old.engine.storage (λ store. Unit {0})
+    → (done : List (Done ClientReply)) × (is : HasWrittenFrames input written old new done)
+    × Made ServesShared old.engine.storage (shared old.engine.host old.engine.desk.owners) done new.engine.storage
+    (left_by is)

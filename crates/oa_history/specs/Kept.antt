@@ -41,7 +41,8 @@ pub record IsKept (disk : MemoryDisk) (state : State) : Type 0 where
   pub begins : CanBegin state
   pub unlocked : opened state ≡ state
 
--- These are a store of format 1 of the state's library and table, with which a server can begin once it is brought to banks of this size.
+-- These are a store of format 1 of the state's library and table, with which a server can begin once it is brought to
+-- banks of this size.
 pub record CanBecome (bank : ℕ) (contents : List ℕ) (state : State) : Type 0 where
   pub was : IsStoreIn One contents (canonical state.library) (held_of state)
   pub banks : bank ≡ state.bank
@@ -49,7 +50,8 @@ pub record CanBecome (bank : ℕ) (contents : List ℕ) (state : State) : Type 0
   pub unlocked : opened state ≡ state
 
 -- A session of a server was begun on the disk: it serves the state, and so far nothing was asked.
-pub record Sits {S R D : Type 0} {g : Ghosts D} (t : Turns S R) (disk : D) (store : Store D g) (state : S) : Type 0 where
+pub record Sits {S R D : Type 0} {g : Ghosts D} (t : Turns S R) (disk : D) (store : Store D g)
+    (state : S) : Type 0 where
   pub goes_on : store.stopped ≡ false
   pub sits : Sitting t disk store state state []
 
@@ -59,8 +61,8 @@ pub record BeginsServing {D : Type 0} {g : Ghosts D} (disk : D) (server : Server
   pub found : OverStore server.engine.storage (λ store. IsOpened g disk state.library store state.table)
   pub over : OverStore server.engine.storage (λ store. Sits requests disk store state)
 
--- Why a store that stands has no history: memory is wanting, or room on the disk, or a call of it has failed. No opening was refused, and the
--- text of each library is read.
+-- Why a store that stands has no history: memory is wanting, or room on the disk, or a call of it has failed. No
+-- opening was refused, and the text of each library is read.
 abbrev pub IsWanting : HistoryFault → Type 0
 IsWanting (Format fault) = ⊥
 IsWanting (Upgrade fault) = ⊥
@@ -84,8 +86,8 @@ IsUnmade bank size (Checkpoint fault) = fault ≡ writes.Device devices.Write
 IsUnmade bank size (Text fault) = fault ≡ texts.Memory
 IsUnmade bank size Memory = ⊤
 
--- Why a store of format 1 that such banks take was not brought to them on a disk of this size: it has no room for them, or memory is wanting,
--- or a call of it has failed.
+-- Why a store of format 1 that such banks take was not brought to them on a disk of this size: it has no room for them,
+-- or memory is wanting, or a call of it has failed.
 abbrev pub IsNotBrought : ℕ → ℕ → UpgradeFault → Type 0
 IsNotBrought bank size upgrades.TooSmall = size < disk_bytes (Two bank)
 IsNotBrought bank size upgrades.NotAStore = ⊥

@@ -37,7 +37,10 @@ abbrev pub calls_of : List ServerCall → List Answer → List (Done ReplyValue)
 calls_of [] answers = []
 calls_of (call ∷ calls) [] = []
 calls_of (call ∷ calls) (answer ∷ answers) =
-    record { call = record { size = call.group; bodies = bodies_of call; replies = answer.replies.items }; moment = answer.moment }
+    record {
+      call = record { size = call.group; bodies = bodies_of call; replies = answer.replies.items };
+      moment = answer.moment;
+    }
     ∷ calls_of calls answers
 
 -- each of these calls was answered
@@ -46,7 +49,8 @@ pub record HasReplied (calls : List ServerCall) (answers : List Answer) (done : 
   pub are : done ≡ calls_of calls answers
 
 -- Calls were made, or the server was given a stream.
-abbrev pub HasAsked : {D : Type 0} {g : Ghosts D} → Asked → Replies → Server D g → Server D g → List (Done ReplyValue) → Type 0
+abbrev pub HasAsked : {D : Type 0} {g : Ghosts D} → Asked → Replies → Server D g → Server D g → List (Done ReplyValue)
+    → Type 0
 HasAsked (ask.Calls calls) (told.Calls answers) old new done = HasReplied calls.items answers.items done
 HasAsked (ask.Stream input) (told.Stream written) old new done = HasWritten input written old new done
 HasAsked (ask.Calls calls) (told.Stream written) old new done = ⊥
@@ -54,17 +58,19 @@ HasAsked (ask.Stream input) (told.Calls answers) old new done = ⊥
 
 -- ---- a session and its stop
 
--- A session that was asked, and what was heard of it, from a disk with these contents, a store of the state before, to what its stop has left,
--- a store of the state after.
+-- A session that was asked, and what was heard of it, from a disk with these contents, a store of the state before, to
+-- what its stop has left, a store of the state after.
 pub record IsHeardUntilStop (session : Played) (heard : Heard) (found : List ℕ) (before : State) (left : List ℕ)
     (after : State) : Type 0 where
-  -- a server was opened on a disk that holds what was found, whose clock begins with the opening; and it serves the state before
+  -- a server was opened on a disk that holds what was found, whose clock begins with the opening; and it serves the
+  -- state before
   pub start : MemoryDisk
   pub fresh : IsFreshDisk start
   pub holds_found : contents_of start ≡ found
   pub first : Opened
   pub begins : BeginsServing start first.server before
-  -- it was asked what the session asks, as so many calls, each of which was made where the one before was over; and it has handed its disk back
+  -- it was asked what the session asks, as so many calls, each of which was made where the one before was over; and it
+  -- has handed its disk back
   pub last : Opened
   pub calls : List (Done ReplyValue)
   pub asks : HasAsked session.asked heard.replies first.server last.server calls
@@ -89,15 +95,17 @@ IsStepped (Checkpoint stop) heard found before left after =
     IsCheckpointed found stop heard.disk left before × IsSilent heard.replies × (after ≡ before)
 
 -- each on what the one before has left, by what a step comes to
-abbrev pub Lives : {X Y : Type 0} → (X → Y → List ℕ → State → List ℕ → State → Type 0) → List ℕ → State → List X → List Y → List ℕ → State → Type 0
+abbrev pub Lives : {X Y : Type 0} → (X → Y → List ℕ → State → List ℕ → State → Type 0) → List ℕ → State → List X
+    → List Y → List ℕ → State → Type 0
 Lives stepped found before [] [] left after = (found ≡ left) × (before ≡ after)
 Lives stepped found before (step ∷ steps) (heard ∷ others) left after =
-    (image : List ℕ) × (mid : State) × stepped step heard found before image mid × Lives stepped image mid steps others left after
+    (image : List ℕ) × (mid : State) × stepped step heard found before image mid
+    × Lives stepped image mid steps others left after
 Lives stepped found before [] (heard ∷ others) left after = ⊥
 Lives stepped found before (step ∷ steps) [] left after = ⊥
 
--- What is played on a store of a state, and told at last: a server that was opened on what is left, and serves the state that this is a store
--- of; the store's library, and its table.
+-- What is played on a store of a state, and told at last: a server that was opened on what is left, and serves the
+-- state that this is a store of; the store's library, and its table.
 pub record IsLivedOn (found : List ℕ) (state : State) (steps : List Step) (lived : Lived) : Type 0 where
   pub left : List ℕ
   pub last : State

@@ -32,24 +32,27 @@ pub record IsForMany {D : Type 0} {g : Ghosts D} (single : Server D g) (many : S
   pub storage : many.engine.storage ≡ single.engine.storage
   pub owners : many.engine.desk.owners ≡ []
 
--- A session of many clients that was asked, and what was heard of it, from a disk with these contents, a store of the state before, to what
--- its stop has left, a store of the state after.
-pub record IsSharedUntilStop (session : SharedSession) (heard : SharedHeard) (found : List ℕ) (before : State) (left : List ℕ)
+-- A session of many clients that was asked, and what was heard of it, from a disk with these contents, a store of the
+-- state before, to what its stop has left, a store of the state after.
+pub record IsSharedUntilStop (session : SharedSession) (heard : SharedHeard) (found : List ℕ) (before : State)
+    (left : List ℕ)
     (after : State) : Type 0 where
-  -- a server was opened on a disk that holds what was found, whose clock begins with the opening; and it serves the state before
+  -- a server was opened on a disk that holds what was found, whose clock begins with the opening; and it serves the
+  -- state before
   pub start : MemoryDisk
   pub fresh : IsFreshDisk start
   pub holds_found : contents_of start ≡ found
   pub opened : Opened
   pub begins : BeginsServing start opened.server before
-  -- It became one of many clients, and was asked what the session asks, as so many calls, each of which was made where the one before was
-  -- over; and it has handed its disk back.
+  -- It became one of many clients, and was asked what the session asks, as so many calls, each of which was made where
+  -- the one before was over; and it has handed its disk back.
   pub first : SharedOpened
   pub for_many : IsForMany opened.server first.server
   pub last : SharedOpened
   pub calls : List (Done ClientReply)
   pub asks : HasWrittenFrames session.input heard.written first.server last.server calls
-  pub made : Made ServesShared first.server.engine.storage (shared before []) calls last.server.engine.storage (left_by asks)
+  pub made : Made ServesShared first.server.engine.storage (shared before []) calls last.server.engine.storage
+      (left_by asks)
   pub disk : heard.disk ≡ disk_of last.server.engine.storage
   -- what is left is what a crash of this disk at the moment of the stop leaves, as the tear says
   pub torn : IsTornAt heard.disk session.tear (min session.moment (moments_of heard.disk)) left
@@ -60,13 +63,15 @@ pub record IsSharedUntilStop (session : SharedSession) (heard : SharedHeard) (fo
 
 -- A session of many clients is played, or what is done for one.
 abbrev pub IsSharedStepped : SharedStep → StepHeard → List ℕ → State → List ℕ → State → Type 0
-IsSharedStepped (steps.Many session) (heards.Many heard) found before left after = IsSharedUntilStop session heard found before left after
-IsSharedStepped (steps.Single step) (heards.Single heard) found before left after = IsStepped step heard found before left after
+IsSharedStepped (steps.Many session) (heards.Many heard) found before left after =
+    IsSharedUntilStop session heard found before left after
+IsSharedStepped (steps.Single step) (heards.Single heard) found before left after =
+    IsStepped step heard found before left after
 IsSharedStepped (steps.Many session) (heards.Single heard) found before left after = ⊥
 IsSharedStepped (steps.Single step) (heards.Many heard) found before left after = ⊥
 
--- What is played on a store of a state, and told at last: a server that was opened on what is left, and serves the state that this is a store
--- of; the store's library, and its table.
+-- What is played on a store of a state, and told at last: a server that was opened on what is left, and serves the
+-- state that this is a store of; the store's library, and its table.
 pub record IsSharedLivedOn (found : List ℕ) (state : State) (all : List SharedStep) (lived : SharedLived) : Type 0 where
   pub left : List ℕ
   pub last : State

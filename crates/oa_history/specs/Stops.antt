@@ -16,13 +16,15 @@ pub record Done (R : Type 0) : Type 0 where
   pub call : AnsweredCall R
   pub moment : ℕ
 
--- What is said of a call: the size of its groups, the storage of before and the one behind it, the state of before, the bodies, the replies,
--- and the state behind it.
+-- What is said of a call: the size of its groups, the storage of before and the one behind it, the state of before, the
+-- bodies, the replies, and the state behind it.
 abbrev pub Serving : {D : Type 0} → Ghosts D → Type 0 → Type 0 → Type 1
 Serving {D} g S R = ℕ → Storage D g → Storage D g → S → List (List ℕ) → List R → S → Type 0
 
--- Calls of a server, each made where the one before was over: this is said of each, and the moment at which it was over.
-abbrev pub Made : {S R D : Type 0} {g : Ghosts D} → Serving g S R → Storage D g → S → List (Done R) → Storage D g → S → Type 0
+-- Calls of a server, each made where the one before was over: this is said of each, and the moment at which it was
+-- over.
+abbrev pub Made : {S R D : Type 0} {g : Ghosts D} → Serving g S R → Storage D g → S → List (Done R) → Storage D g → S
+    → Type 0
 Made serving old first [] new last = (new ≡ old) × (last ≡ first)
 Made {S} {R} {D} {g} serving old first (one ∷ calls) new last =
     (mid : Storage D g) × (state : S) × serving one.call.size old mid first one.call.bodies one.call.replies state
@@ -34,9 +36,10 @@ Made {S} {R} {D} {g} serving old first (one ∷ calls) new last =
 abbrev pub over_by : ℕ → ℕ → ℕ → ℕ
 over_by stop moment answered = if nat_le moment stop then answered else 0
 
--- The replies of each call are those of a run from the state at which the one before has ended, group for group, up to a fault of the
--- device. So many groups were answered by calls that were over by the stop.
-abbrev pub Plays : {S R : Type 0} → Turns S R → ℕ → Bool → S → List (Done R) → List (List (Exchange R)) → ℕ → Bool → S → Type 0
+-- The replies of each call are those of a run from the state at which the one before has ended, group for group, up to
+-- a fault of the device. So many groups were answered by calls that were over by the stop.
+abbrev pub Plays : {S R : Type 0} → Turns S R → ℕ → Bool → S → List (Done R) → List (List (Exchange R)) → ℕ → Bool → S
+    → Type 0
 Plays t stop was first [] groups count is last = (groups ≡ []) × (count ≡ 0) × (is ≡ was) × (first ≡ last)
 Plays {S} {R} t stop was first (one ∷ calls) groups count is last =
     (mid : S) × (fails : Bool) × (own : List (List (Exchange R))) × (later : List (List (Exchange R)))

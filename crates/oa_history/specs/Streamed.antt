@@ -16,26 +16,38 @@ use Rattle.oa_history.specs.declared.session.Input.{Input}
 use Rattle.oa_history.specs.declared.session.Written.{Written}
 
 -- The parts of a session over a stream as calls: each is over at the moment at which its replies are handed out.
-abbrev pub parts_of : {D : Type 0} {g : Ghosts D} (size : ℕ) (old new : Storage D g) (before after : State) (parts : List Part)
+abbrev pub parts_of : {D : Type 0} {g : Ghosts D} (size : ℕ) (old new : Storage D g) (before after : State)
+    (parts : List Part)
     → Parts size old new before parts after → List (Done ReplyValue)
 parts_of size old new before after [] is = []
 parts_of {D} {g} size old new before after (part ∷ parts) is =
-    record { call = record { size = size; bodies = part.bodies; replies = part.told }; moment = g.moment (disk_of is.0) }
+    record {
+      call = record { size = size; bodies = part.bodies; replies = part.told };
+      moment = g.moment (disk_of is.0);
+    }
     ∷ parts_of size is.0 new is.1 after parts is.3
 
 -- So is what the open group held at the end, behind them.
-abbrev pub calls_in : {D : Type 0} {g : Ghosts D} {size : ℕ} {old new : Storage D g} {before after : State} {bodies : List (List ℕ)}
-    {handed : List (List (List ℕ))} {held : List (List ℕ)} → InParts size old new before after bodies handed held → List (Done ReplyValue)
+abbrev pub calls_in : {D : Type 0} {g : Ghosts D} {size : ℕ} {old new : Storage D g} {before after : State}
+    {bodies : List (List ℕ)}
+    {handed : List (List (List ℕ))} {held : List (List ℕ)} → InParts size old new before after bodies handed held
+    → List (Done ReplyValue)
 calls_in {D} {g} {size} {old} {new} {before} {after} {bodies} {handed} {held} is =
     parts_of size old is.mid before is.state is.parts is.served
-    ++ record { call = record { size = size; bodies = is.open_bodies; replies = is.told }; moment = g.moment (disk_of new) } ∷ []
+    ++ record {
+      call = record { size = size; bodies = is.open_bodies; replies = is.told };
+      moment = g.moment (disk_of new);
+    } ∷ []
 
--- A server was given this input, and an empty writer. What was read, answered and written is what `serve_hex` and `serve` say: the replies to
--- the bodies of the input, in order, each part's behind its last call of the disk. These are the parts.
-pub record HasWritten {D : Type 0} {g : Ghosts D} (input : Input) (written : Written) (old new : Server D g) (done : List (Done ReplyValue)) : Type 0 where
+-- A server was given this input, and an empty writer. What was read, answered and written is what `serve_hex` and
+-- `serve` say: the replies to the bodies of the input, in order, each part's behind its last call of the disk. These
+-- are the parts.
+pub record HasWritten {D : Type 0} {g : Ghosts D} (input : Input) (written : Written) (old new : Server D g)
+    (done : List (Done ReplyValue)) : Type 0 where
   pub empty : Gathered
   pub nothing : empty.bytes.items ≡ []
   pub unread : Read
-  pub talked : HasTalked (frames input.framing) (in_memory input.bytes.items) unread (gathered_output empty) (gathered_output written.output) input.group
+  pub talked : HasTalked (frames input.framing) (in_memory input.bytes.items) unread (gathered_output empty)
+      (gathered_output written.output) input.group
       old.engine new.engine written.served
   pub are : done ≡ calls_in talked.in_parts

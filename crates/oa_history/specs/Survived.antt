@@ -39,9 +39,11 @@ told_calls [] told = []
 told_calls (call ∷ calls) [] = []
 told_calls (call ∷ calls) (one ∷ told) = told_call call one ∷ told_calls calls told
 
--- Calls of a server, each made where the one before has returned: what is said of each by `run`, and how often a call of the disk had
--- failed when it had returned. Where one had failed before, the disk behind the call is the disk before it (`late`).
-abbrev pub Answered : {D : Type 0} {g : Ghosts D} → Storage D g → State → List ServerCall → List Told → Storage D g → State → Type 0
+-- Calls of a server, each made where the one before has returned: what is said of each by `run`, and how often a call
+-- of the disk had failed when it had returned. Where one had failed before, the disk behind the call is the disk before
+-- it (`late`).
+abbrev pub Answered : {D : Type 0} {g : Ghosts D} → Storage D g → State → List ServerCall → List Told → Storage D g
+    → State → Type 0
 Answered old first [] [] new last = (new ≡ old) × (last ≡ first)
 Answered {D} {g} old first (call ∷ calls) (one ∷ told) new last =
     (mid : Storage D g) × (state : State) × Serves call.group old mid first (bodies_of call) one.replies.items state
@@ -50,13 +52,15 @@ Answered old first [] (one ∷ told) new last = ⊥
 Answered old first (call ∷ calls) [] new last = ⊥
 
 abbrev pub AnsweredBy : {D : Type 0} {g : Ghosts D} → Server D g → List ServerCall → List Told → Server D g → Type 0
-AnsweredBy old calls told new = Answered old.engine.storage old.engine.host calls told new.engine.storage new.engine.host
+AnsweredBy old calls told new =
+    Answered old.engine.storage old.engine.host calls told new.engine.storage new.engine.host
 
 -- ---- a disk that fails from some call on
 
--- A server was opened on a disk that passes the calls before that one on to this disk, and fails each one from there on. It serves the
--- state.
-pub record BeginsOver {g : Ghosts (FuseDisk MemoryDisk)} (disk : MemoryDisk) (first_failing : ℕ) (server : Server (FuseDisk MemoryDisk) g) (state : State) : Type 0 where
+-- A server was opened on a disk that passes the calls before that one on to this disk, and fails each one from there
+-- on. It serves the state.
+pub record BeginsOver {g : Ghosts (FuseDisk MemoryDisk)} (disk : MemoryDisk) (first_failing : ℕ)
+    (server : Server (FuseDisk MemoryDisk) g) (state : State) : Type 0 where
   pub fuse : FuseDisk MemoryDisk
   pub within : inner_of fuse ≡ disk
   pub passes : calls_left_of fuse ≡ first_failing - 1
@@ -67,15 +71,16 @@ abbrev pub HoldsAlone : MemoryDisk → State → Type 0
 HoldsAlone disk state = (c : List ℕ) → image_of disk c → HoldsState requests state c
 
 -- Such a server was opened, the calls were made, and it has handed the disk back.
-pub record IsPlayed (disk : MemoryDisk) (first_failing : ℕ) (calls : List ServerCall) (told : List Told) (before : State)
+pub record IsPlayed (disk : MemoryDisk) (first_failing : ℕ) (calls : List ServerCall) (told : List Told)
+    (before : State)
     (groups : List (List (Exchange ReplyValue))) (count : ℕ) (back : MemoryDisk) : Type 0 where
   pub first : Fused
   pub begins : BeginsOver disk first_failing first.server before
   pub last : Fused
   pub answered : AnsweredBy first.server calls told last.server
   pub handed_back : back ≡ inner_of (disk_of last.server.engine.storage)
-  -- The replies are those of a run from the state before, group for group. Where a call of the disk fails, all of the open group is
-  -- answered by that, and all that comes behind it is refused.
+  -- The replies are those of a run from the state before, group for group. Where a call of the disk fails, all of the
+  -- open group is answered by that, and all that comes behind it is refused.
   pub fault : Bool
   pub state : State
   pub plays : ServesCalls requests false before (told_calls calls told) groups count fault state
@@ -83,8 +88,10 @@ pub record IsPlayed (disk : MemoryDisk) (first_failing : ℕ) (calls : List Serv
   pub all : fault ≡ false → length groups ≡ count
   pub all_but_one : fault ≡ true → length groups ≡ count + 1
 
--- A server was refused on such a disk, with this library, by a fault of the device of this kind, and the disk was handed back.
-pub record IsUnopened (g : Ghosts (FuseDisk MemoryDisk)) (disk : MemoryDisk) (first_failing : ℕ) (library : TreeValue) (fault : DeviceFault)
+-- A server was refused on such a disk, with this library, by a fault of the device of this kind, and the disk was
+-- handed back.
+pub record IsUnopened (g : Ghosts (FuseDisk MemoryDisk)) (disk : MemoryDisk) (first_failing : ℕ) (library : TreeValue)
+    (fault : DeviceFault)
     (back : MemoryDisk) : Type 0 where
   pub fuse : FuseDisk MemoryDisk
   pub within : inner_of fuse ≡ disk
@@ -94,7 +101,8 @@ pub record IsUnopened (g : Ghosts (FuseDisk MemoryDisk)) (disk : MemoryDisk) (fi
   pub tells : IsNotOpened g fuse end library (Device fault)
 
 -- What calls over such a disk come to, and what it may hold when it is handed back.
-pub record IsWithstood (g : Ghosts (FuseDisk MemoryDisk)) (disk : MemoryDisk) (first_failing : ℕ) (calls : List ServerCall) (told : Result (Vec Told) DeviceFault)
+pub record IsWithstood (g : Ghosts (FuseDisk MemoryDisk)) (disk : MemoryDisk) (first_failing : ℕ)
+    (calls : List ServerCall) (told : Result (Vec Told) DeviceFault)
     (before : State)
     (back : MemoryDisk) : Type 0 where
   pub groups : List (List (Exchange ReplyValue))
@@ -102,8 +110,8 @@ pub record IsWithstood (g : Ghosts (FuseDisk MemoryDisk)) (disk : MemoryDisk) (f
   pub played : IfOk told (λ all. IsPlayed disk first_failing calls all.items before groups count back)
   -- no server was opened, which tells how it was refused, and so there is no group
   pub unopened : IfErr told (λ fault. IsUnopened g disk first_failing before.library fault back × (groups ≡ []))
-  -- All groups that were answered are kept, and the one in which the device failed, whole or not at all: so what is read, and so whatever
-  -- a loss of power leaves.
+  -- All groups that were answered are kept, and the one in which the device failed, whole or not at all: so what is
+  -- read, and so whatever a loss of power leaves.
   pub kept : (c : List ℕ) → image_of back c → IsAfter requests count before groups c
 
 -- ---- what is found then
@@ -114,8 +122,8 @@ pub record IsTakenUp {D : Type 0} {g : Ghosts D} (disk : D) (server : Server D g
   pub found : OverStore server.engine.storage (λ store. IsOpened g disk state.library store state.table)
   pub over : OverStore server.engine.storage (λ store. AllHoldState requests store state)
 
--- Calls over a store of a state, on a disk that fails from some call on; then the disk is opened as it was handed back, by way of nothing
--- that fails.
+-- Calls over a store of a state, on a disk that fails from some call on; then the disk is opened as it was handed back,
+-- by way of nothing that fails.
 pub record IsSurvivedOn (g : Ghosts (FuseDisk MemoryDisk)) (disk : MemoryDisk) (state : State) (calls : List ServerCall)
     (first_failing : ℕ) (survived : Survived) : Type 0 where
   pub back : MemoryDisk
@@ -127,7 +135,8 @@ pub record IsSurvivedOn (g : Ghosts (FuseDisk MemoryDisk)) (disk : MemoryDisk) (
   pub table : survived.table ≡ held_of kept.state
 
 -- Such a store is new, on a disk of so many bytes.
-pub record IsSurvived (g : Ghosts (FuseDisk MemoryDisk)) (bytes : ℕ) (state : State) (calls : List ServerCall) (first_failing : ℕ)
+pub record IsSurvived (g : Ghosts (FuseDisk MemoryDisk)) (bytes : ℕ) (state : State) (calls : List ServerCall)
+    (first_failing : ℕ)
     (survived : Survived) : Type 0 where
   pub new : MemoryDisk
   pub size : new.first.size ≡ bytes

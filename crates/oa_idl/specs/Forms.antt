@@ -72,9 +72,11 @@ pub record With_is {A : Type 0} (F G : A → List Word → Type 0) (words : List
 abbrev pub with : {A : Type 0} → (A → Form) → (A → Form) → Form
 with F G = With_is F G
 
--- The texts of a list and of what ends it. A state s says what came before; each item has its form by the state and changes the state,
--- after an item a word may stand that passes `apart` of it, and the end has its form by the last state.
-abbrev pub listed : {S A B : Type 0} → (S → A → Form) → (S → A → S) → (A → Word → Bool) → (S → B → Form) → S → List A → B → Form
+-- The texts of a list and of what ends it. A state s says what came before; each item has its form by the state and
+-- changes the state, after an item a word may stand that passes `apart` of it, and the end has its form by the last
+-- state.
+abbrev pub listed : {S A B : Type 0} → (S → A → Form) → (S → A → S) → (A → Word → Bool) → (S → B → Form) → S → List A
+    → B → Form
 listed F grow apart E s [] b = E s b
 listed F grow apart E s (x ∷ xs) b = F s x ▸ optional (this (apart x)) ▸ listed F grow apart E (grow s x) xs b
 
@@ -84,7 +86,8 @@ pub record Gathered_is {S A B : Type 0} (F : S → A → List Word → Type 0) (
   pub all : List A
   pub form : listed F grow apart E s all b words
 
-abbrev pub gathered : {S A B : Type 0} → (S → A → Form) → (S → A → S) → (A → Word → Bool) → (S → B → Form) → S → B → Form
+abbrev pub gathered : {S A B : Type 0} → (S → A → Form) → (S → A → S) → (A → Word → Bool) → (S → B → Form) → S → B
+    → Form
 gathered F grow apart E s b = Gathered_is F grow apart E s b
 
 -- the words begin with front and the first of left; or are front alone, where nothing is left

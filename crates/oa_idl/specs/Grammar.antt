@@ -1,6 +1,6 @@
 -- The grammar of a library text, over its words.
-use Rattle.std.specs.Prelude.{◌≡◌, ℕ, ◌+◌, ◌==◌, ◌||◌, ◌&&◌, Bool, true, false, not, List, [], ◌∷◌, Option, Some, None, ℤ, is_some}
-use Rattle.std.specs.Prelude.{if◌then◌else◌, codes}
+use Rattle.std.specs.Prelude.{◌≡◌, ℕ, ◌+◌, ◌==◌, ◌||◌, ◌&&◌, Bool, true, false, not, List, [], ◌∷◌, Option, Some, None}
+use Rattle.std.specs.Prelude.{ℤ, is_some, if◌then◌else◌, codes}
 use Rattle.uuid.specs.Parts.{zero_bytes}
 use Rattle.oa_model.specs.declared.var_type.VarType.{VarType}
 use Rattle.oa_model.specs.declared.var_type.ValueType.{ValueType}
@@ -26,7 +26,8 @@ use Rattle.oa_idl.specs.declared.seen.MethodHead.{MethodHead}
 use Rattle.oa_idl.specs.declared.seen.ParameterSeen.{ParameterSeen}
 use Rattle.oa_idl.specs.MethodValues.{MethodValue}
 use Rattle.oa_idl.specs.Trees.{TreeValue}
-use Rattle.oa_idl.specs.Forms.{Word, Form, ◌▸◌, nothing, given, this, one, optional, either_of, where_is, with, listed, gathered, nowhere}
+use Rattle.oa_idl.specs.Forms.{Word, Form, ◌▸◌, nothing, given, this, one, optional, either_of, where_is, with, listed}
+use Rattle.oa_idl.specs.Forms.{gathered, nowhere}
 use Rattle.oa_idl.specs.Words.{passes, is_text, name_of, guid_of, part_of, id_of, word_type, amount_of, characters_of}
 
 abbrev pub sign : List ℕ → Form
@@ -43,7 +44,8 @@ abbrev pub last_attribute : {S B : Type 0} → (S → Option B) → S → B → 
 last_attribute finish s b = where_is (finish s ≡ Some b) (sign (codes "]"))
 
 abbrev pub attributes : {S A B : Type 0} → (A → Form) → (S → A → Bool) → (S → A → S) → (S → Option B) → S → B → Form
-attributes attribute may_come grow finish s b = sign (codes "[") ▸ with (λ x. where_is (may_come s x ≡ true) (attribute x))
+attributes attribute may_come grow finish s b =
+    sign (codes "[") ▸ with (λ x. where_is (may_come s x ≡ true) (attribute x))
     (λ x. gathered (next_attribute attribute may_come) grow nowhere (last_attribute finish) (grow s x) b)
 
 -- help = "helpstring" "(" string ")"
@@ -60,7 +62,8 @@ pub data HeadAttribute : Type 0 where
 abbrev pub head_attribute : Bool → HeadAttribute → Form
 head_attribute counts (Guid g) = sign (codes "uuid") ▸ sign (codes "(") ▸ one guid_of g ▸ sign (codes ")")
 head_attribute counts (Numbered v) = sign (codes "version") ▸ sign (codes "(") ▸ one (part_of counts) v.major ▸
-    either_of (sign (codes ".") ▸ one (part_of counts) v.minor ▸ sign (codes ")")) (where_is (v.minor ≡ 0) (sign (codes ")")))
+    either_of (sign (codes ".") ▸ one (part_of counts) v.minor ▸ sign (codes ")"))
+    (where_is (v.minor ≡ 0) (sign (codes ")")))
 head_attribute counts HeadHelp = help
 
 -- version 0.0 where none is given
@@ -79,8 +82,10 @@ head_may s (Numbered v) = not s.version
 head_may s HeadHelp = not s.help
 
 abbrev pub head_grow : HeadSeen → HeadAttribute → HeadSeen
-head_grow s (Guid g) = record { uuid = true; version = s.version; help = s.help; head = record { guid = g; version = s.head.version } }
-head_grow s (Numbered v) = record { uuid = s.uuid; version = true; help = s.help; head = record { guid = s.head.guid; version = v } }
+head_grow s (Guid g) =
+    record { uuid = true; version = s.version; help = s.help; head = record { guid = g; version = s.head.version } }
+head_grow s (Numbered v) =
+    record { uuid = s.uuid; version = true; help = s.help; head = record { guid = s.head.guid; version = v } }
 head_grow s HeadHelp = record { uuid = s.uuid; version = s.version; help = true; head = s.head }
 
 -- there has to be a uuid
@@ -94,7 +99,8 @@ head counts h = attributes (head_attribute counts) head_may head_grow head_finis
 -- ---- type = a type word | "SAFEARRAY" "(" type word of an element ")"
 
 abbrev pub type_word : Bool → VarType → Form
-type_word in_array t = either_of (sign (codes "unsigned") ▸ one (word_type in_array true) t) (one (word_type in_array false) t)
+type_word in_array t =
+    either_of (sign (codes "unsigned") ▸ one (word_type in_array true) t) (one (word_type in_array false) t)
 
 unfoldable pub value_type : ValueType → Form
 value_type (values.One t) = type_word false t
@@ -202,7 +208,8 @@ abbrev pub typed : Parameter → Form
 typed p = value_type p.value_type ▸ one name_of p.name ▸ nothing
 
 unfoldable pub parameter : Parameter → Form
-parameter p = either_of (parameter_head (head_of_parameter p) ▸ typed p) (where_is (head_of_parameter p ≡ no_parameter) (typed p))
+parameter p =
+    either_of (parameter_head (head_of_parameter p) ▸ typed p) (where_is (head_of_parameter p ≡ no_parameter) (typed p))
 
 -- ---- method = "[" att {"," att} "]" (type | "void") name "(" [param {"," param}] ")" ";"
 -- att = "id" "(" ["-"] num ")" | "propget" | "propput" | help
@@ -299,17 +306,20 @@ method m = method_head (record { id = m.id; kind = m.kind }) ▸ method_body m.k
 
 -- the second section, after n members of the first, and the brace that closes the interface
 abbrev pub methods : ℕ → List MethodValue → Form
-methods n ms = either_of (sign (codes "methods") ▸ sign (codes ":") ▸ listed (λ k. method) one_more nowhere closing n ms tt)
+methods n ms =
+    either_of (sign (codes "methods") ▸ sign (codes ":") ▸ listed (λ k. method) one_more nowhere closing n ms tt)
     (where_is (ms ≡ []) (sign (codes "}")))
 
 abbrev pub members : List Property → List MethodValue → Form
-members ps ms = either_of (sign (codes "properties") ▸ sign (codes ":") ▸ listed (λ n. property) one_more nowhere methods 0 ps ms)
+members ps ms =
+    either_of (sign (codes "properties") ▸ sign (codes ":") ▸ listed (λ n. property) one_more nowhere methods 0 ps ms)
     (where_is (ps ≡ []) (methods 0 ms))
 
 abbrev pub interface : List ℕ → List Property → List MethodValue → Form
 interface name ps ms = sign (codes "dispinterface") ▸ one name_of name ▸ sign (codes "{") ▸ members ps ms ▸ nothing
 
--- ---- class = attrs "coclass" name "{" entry {entry} "}"    entry = ["[" "default" "]"] ("dispinterface" | "interface") name ";"
+-- ---- class = attrs "coclass" name "{" entry {entry} "}"
+--      entry = ["[" "default" "]"] ("dispinterface" | "interface") name ";"
 
 abbrev pub entry_word : Word → Bool
 entry_word w = passes (codes "dispinterface") w || passes (codes "interface") w
@@ -343,7 +353,8 @@ coclass name es =
     sign (codes "coclass") ▸ one name_of name ▸ sign (codes "{")
     ▸ listed entry entry_grow nowhere last_entry no_entry es tt ▸ nothing
 
--- ---- text = attrs "library" name "{" {import | (disp | class) [";"]} "}" [";"]    import = "importlib" "(" string ")" ";"
+-- ---- text = attrs "library" name "{" {import | (disp | class) [";"]} "}" [";"]
+--      import = "importlib" "(" string ")" ";"
 
 abbrev pub guid_of_item : Item → List ℕ
 guid_of_item (items.Interface d) = d.guid
@@ -391,8 +402,11 @@ items_in (Import ∷ es) = items_in es
 items_in (OfItem x ∷ es) = x ∷ items_in es
 
 unfoldable pub elements : List Item → Form
-elements xs = with (λ es. listed (λ s. element) elements_grow semicolon_after closing no_items es tt) (λ es. given (xs ≡ items_in es))
+elements xs =
+    with (λ es. listed (λ s. element) elements_grow semicolon_after closing no_items es tt)
+    (λ es. given (xs ≡ items_in es))
 
 abbrev pub library : TreeValue → Form
-library t = head true (record { guid = t.guid; version = t.version }) ▸ sign (codes "library") ▸ one name_of t.name ▸ sign (codes "{") ▸
+library t = head true (record { guid = t.guid; version = t.version }) ▸ sign (codes "library") ▸ one name_of t.name
+    ▸ sign (codes "{") ▸
     elements t.items ▸ optional (sign (codes ";")) ▸ sign [] ▸ nothing

@@ -1,5 +1,6 @@
 -- The grammar as functions that read.
-use Rattle.std.specs.Prelude.{ℕ, ◌&&◌, ◌||◌, ◌==◌, Bool, true, false, not, List, [], length, Option, Some, None, ℤ, is_some, codes}
+use Rattle.std.specs.Prelude.{ℕ, ◌&&◌, ◌||◌, ◌==◌, Bool, true, false, not, List, [], length, Option, Some, None, ℤ}
+use Rattle.std.specs.Prelude.{is_some, codes}
 use Rattle.oa_model.specs.Limits.{max_interfaces, max_coclasses, max_members, max_parameters}
 use Rattle.oa_model.specs.declared.var_type.VarType.{VarType}
 use Rattle.oa_model.specs.declared.var_type.ValueType.{ValueType}
@@ -25,13 +26,15 @@ use Rattle.oa_idl.specs.declared.seen.EntriesSeen.{EntriesSeen}
 use Rattle.oa_idl.specs.declared.seen.ItemsSeen.{ItemsSeen}
 use Rattle.oa_idl.specs.Trees.{TreeValue}
 use Rattle.oa_idl.specs.Forms.{Word, nowhere}
-use Rattle.oa_idl.specs.Words.{passes, is_text, name_of, over, too_long, guid_of, part_of, id_of, word_type, amount_of, characters_of}
-use Rattle.oa_idl.specs.Words.{never_over}
-use Rattle.oa_idl.specs.Reading.{Reading, ◌>>=◌, give, choose, require, demand, this_at, one_at, perhaps_at, until, list_at, gather_at}
-use Rattle.oa_idl.specs.Grammar.{HeadAttribute, no_head, head_grow, head_finish, PropertyAttribute, no_property, property_grow}
-use Rattle.oa_idl.specs.Grammar.{property_finish, one_more, entry_word, no_entry, entry_grow, no_items, semicolon_after, LibraryContent}
-use Rattle.oa_idl.specs.Grammar.{elements_grow, items_in, ParameterAttribute, no_parameter, parameter_grow, parameter_finish}
-use Rattle.oa_idl.specs.Grammar.{MethodAttribute, no_method, method_grow, method_finish, is_form, may_be_void, may_have_type, may_end}
+use Rattle.oa_idl.specs.Words.{passes, is_text, name_of, over, too_long, guid_of, part_of, id_of, word_type, amount_of}
+use Rattle.oa_idl.specs.Words.{characters_of, never_over}
+use Rattle.oa_idl.specs.Reading.{Reading, ◌>>=◌, give, choose, require, demand, this_at, one_at, perhaps_at, until}
+use Rattle.oa_idl.specs.Reading.{list_at, gather_at}
+use Rattle.oa_idl.specs.Grammar.{HeadAttribute, no_head, head_grow, head_finish, PropertyAttribute, no_property}
+use Rattle.oa_idl.specs.Grammar.{property_grow, property_finish, one_more, entry_word, no_entry, entry_grow, no_items}
+use Rattle.oa_idl.specs.Grammar.{semicolon_after, LibraryContent, elements_grow, items_in, ParameterAttribute}
+use Rattle.oa_idl.specs.Grammar.{no_parameter, parameter_grow, parameter_finish, MethodAttribute, no_method}
+use Rattle.oa_idl.specs.Grammar.{method_grow, method_finish, is_form, may_be_void, may_have_type, may_end}
 use Rattle.oa_idl.specs.Grammar.HeadAttribute.{Guid, Numbered, HeadHelp}
 use Rattle.oa_idl.specs.Grammar.PropertyAttribute.{Id, Readonly, PropertyHelp}
 use Rattle.oa_idl.specs.Grammar.ParameterAttribute.{IsIn, IsOptional, HasDefault}
@@ -57,12 +60,15 @@ next_grown_at attribute grow full s = next_at attribute grow full s >>= λ x. gi
 abbrev pub last_at : {S B : Type 0} → (S → Option B) → S → Reading B
 last_at finish s = demand (finish s) (λ b. sign_at (codes "]") >>= λ _. give b)
 
-abbrev pub attributes_at : {S A B : Type 0} → (S → Reading A) → (S → A → S) → (S → Bool) → (S → Option B) → S → Reading B
-attributes_at attribute grow full finish s = sign_at (codes "[") >>= λ _. grown_at attribute grow s >>= λ t. gather_at (passes (codes "]"))
+abbrev pub attributes_at : {S A B : Type 0} → (S → Reading A) → (S → A → S) → (S → Bool) → (S → Option B) → S
+    → Reading B
+attributes_at attribute grow full finish s =
+    sign_at (codes "[") >>= λ _. grown_at attribute grow s >>= λ t. gather_at (passes (codes "]"))
     (next_grown_at attribute grow full) (last_at finish) t
 
 unfoldable pub help_at : Reading (Unit {0})
-help_at = sign_at (codes "helpstring") >>= λ _. sign_at (codes "(") >>= λ _. this_at is_text >>= λ _. sign_at (codes ")")
+help_at =
+    sign_at (codes "helpstring") >>= λ _. sign_at (codes "(") >>= λ _. this_at is_text >>= λ _. sign_at (codes ")")
 
 -- ---- attributes of libraries and items
 
@@ -73,11 +79,13 @@ minor_at counts = choose (passes (codes "."))
     (sign_at (codes ")") >>= λ _. give 0)
 
 unfoldable pub uuid_at : Reading HeadAttribute
-uuid_at = sign_at (codes "uuid") >>= λ _. sign_at (codes "(") >>= λ _. one_at guid_of never_over >>= λ g. sign_at (codes ")") >>= λ _.
+uuid_at = sign_at (codes "uuid") >>= λ _. sign_at (codes "(") >>= λ _. one_at guid_of never_over >>= λ g.
+    sign_at (codes ")") >>= λ _.
     give (Guid g)
 
 unfoldable pub version_at : Bool → Reading HeadAttribute
-version_at counts = sign_at (codes "version") >>= λ _. sign_at (codes "(") >>= λ _. one_at (part_of counts) never_over >>= λ a.
+version_at counts =
+    sign_at (codes "version") >>= λ _. sign_at (codes "(") >>= λ _. one_at (part_of counts) never_over >>= λ a.
     minor_at counts >>= λ b. give (Numbered (record { major = a; minor = b }))
 
 unfoldable pub head_attribute_at : Bool → HeadSeen → Reading HeadAttribute
@@ -102,7 +110,8 @@ type_word_at in_array = choose (passes (codes "unsigned"))
 
 unfoldable pub value_type_at : Reading ValueType
 value_type_at = choose (passes (codes "SAFEARRAY"))
-    (sign_at (codes "SAFEARRAY") >>= λ _. sign_at (codes "(") >>= λ _. type_word_at true >>= λ t. sign_at (codes ")") >>= λ _.
+    (sign_at (codes "SAFEARRAY") >>= λ _. sign_at (codes "(") >>= λ _. type_word_at true >>= λ t.
+    sign_at (codes ")") >>= λ _.
     give (values.Array t))
     (type_word_at false >>= λ t. give (values.One t))
 
@@ -114,7 +123,8 @@ signed_at = choose (passes (codes "-"))
     (one_at (id_of false) never_over)
 
 unfoldable pub numbered_at : Reading ℤ
-numbered_at = sign_at (codes "id") >>= λ _. sign_at (codes "(") >>= λ _. signed_at >>= λ i. sign_at (codes ")") >>= λ _. give i
+numbered_at =
+    sign_at (codes "id") >>= λ _. sign_at (codes "(") >>= λ _. signed_at >>= λ i. sign_at (codes ")") >>= λ _. give i
 
 unfoldable pub id_at : Reading PropertyAttribute
 id_at = numbered_at >>= λ i. give (Id i)
@@ -134,7 +144,8 @@ property_head_at = attributes_at property_attribute_at property_grow property_fu
 
 -- a property after n members of its interface
 unfoldable pub property_at : ℕ → Reading Property
-property_at n = property_head_at >>= λ h. value_type_at >>= λ t. one_at name_of (over limits.Members max_members n) >>= λ name.
+property_at n =
+    property_head_at >>= λ h. value_type_at >>= λ t. one_at name_of (over limits.Members max_members n) >>= λ name.
     sign_at (codes ";") >>= λ _.
     give (record { id = h.id; readonly = h.readonly; value_type = t; name = name })
 
@@ -155,11 +166,14 @@ literal_at = choose (passes (codes "TRUE")) (sign_at (codes "TRUE") >>= λ _. gi
     (amount_at >>= λ i. give (literals.Number i))))
 
 unfoldable pub default_at : Reading Literal
-default_at = sign_at (codes "defaultvalue") >>= λ _. sign_at (codes "(") >>= λ _. literal_at >>= λ v. sign_at (codes ")") >>= λ _. give v
+default_at = sign_at (codes "defaultvalue") >>= λ _. sign_at (codes "(") >>= λ _. literal_at >>= λ v.
+    sign_at (codes ")") >>= λ _. give v
 
 unfoldable pub parameter_attribute_at : ParameterSeen → Reading ParameterAttribute
-parameter_attribute_at s = choose (passes (codes "in")) (require (not s.is_in) (sign_at (codes "in")) >>= λ _. give IsIn)
-    (choose (passes (codes "optional")) (require (not s.is_optional) (sign_at (codes "optional")) >>= λ _. give IsOptional)
+parameter_attribute_at s =
+    choose (passes (codes "in")) (require (not s.is_in) (sign_at (codes "in")) >>= λ _. give IsIn)
+    (choose (passes (codes "optional"))
+    (require (not s.is_optional) (sign_at (codes "optional")) >>= λ _. give IsOptional)
     (require (not (is_some s.default)) default_at >>= λ v. give (HasDefault v)))
 
 abbrev pub parameter_full : ParameterSeen → Bool
@@ -193,9 +207,12 @@ parameters_at k = list_at (passes (codes ")")) nowhere next_parameter_at one_mor
 -- ---- methods
 
 unfoldable pub method_attribute_at : MethodSeen → Reading MethodAttribute
-method_attribute_at s = choose (passes (codes "id")) (require (not (is_some s.id)) numbered_at >>= λ i. give (MethodId i))
-    (choose (passes (codes "propget")) (require (not (is_form s.kind)) (sign_at (codes "propget")) >>= λ _. give Propget)
-    (choose (passes (codes "propput")) (require (not (is_form s.kind)) (sign_at (codes "propput")) >>= λ _. give Propput)
+method_attribute_at s =
+    choose (passes (codes "id")) (require (not (is_some s.id)) numbered_at >>= λ i. give (MethodId i))
+    (choose (passes (codes "propget"))
+    (require (not (is_form s.kind)) (sign_at (codes "propget")) >>= λ _. give Propget)
+    (choose (passes (codes "propput"))
+    (require (not (is_form s.kind)) (sign_at (codes "propput")) >>= λ _. give Propput)
     (require (not s.help) help_at >>= λ _. give MethodHelp)))
 
 abbrev pub method_full : MethodSeen → Bool
@@ -231,12 +248,14 @@ ends_properties w = passes (codes "methods") w || passes (codes "}") w
 
 unfoldable pub members_at : Reading (List Property × List MethodValue)
 members_at = choose (passes (codes "properties"))
-    (sign_at (codes "properties") >>= λ _. sign_at (codes ":") >>= λ _. list_at ends_properties nowhere property_at one_more methods_at 0)
+    (sign_at (codes "properties") >>= λ _. sign_at (codes ":") >>= λ _.
+    list_at ends_properties nowhere property_at one_more methods_at 0)
     (methods_at 0 >>= λ ms. give ([], ms))
 
 unfoldable pub interface_at : ItemsSeen → List ℕ → Reading Item
 interface_at s guid = sign_at (codes "dispinterface") >>= λ _.
-    one_at name_of (over limits.Interfaces max_interfaces s.interfaces) >>= λ name. sign_at (codes "{") >>= λ _. members_at >>= λ all.
+    one_at name_of (over limits.Interfaces max_interfaces s.interfaces) >>= λ name. sign_at (codes "{") >>= λ _.
+    members_at >>= λ all.
     give (items.Interface (record { guid = guid; name = name; properties = all.0; methods = all.1 }))
 
 -- ---- coclasses
@@ -247,7 +266,8 @@ named_at is_default = this_at entry_word >>= λ _. one_at name_of too_long >>= �
 
 unfoldable pub entry_at : EntriesSeen → Reading Entry
 entry_at s = choose (passes (codes "["))
-    (require (not s.default) (sign_at (codes "[") >>= λ _. sign_at (codes "default") >>= λ _. sign_at (codes "]") >>= λ _. named_at true))
+    (require (not s.default)
+    (sign_at (codes "[") >>= λ _. sign_at (codes "default") >>= λ _. sign_at (codes "]") >>= λ _. named_at true))
     (named_at false)
 
 abbrev pub last_entry_at : EntriesSeen → Reading (Unit {0})
@@ -257,7 +277,8 @@ unfoldable pub entries_at : Reading (List Entry × Unit {0})
 entries_at = list_at (passes (codes "}")) nowhere entry_at entry_grow last_entry_at no_entry
 
 unfoldable pub coclass_at : ItemsSeen → List ℕ → Reading Item
-coclass_at s guid = sign_at (codes "coclass") >>= λ _. one_at name_of (over limits.Coclasses max_coclasses s.coclasses) >>= λ name.
+coclass_at s guid =
+    sign_at (codes "coclass") >>= λ _. one_at name_of (over limits.Coclasses max_coclasses s.coclasses) >>= λ name.
     sign_at (codes "{") >>= λ _. entries_at >>= λ es.
     give (items.Coclass (record { guid = guid; name = name; entries = es.0 }))
 
@@ -267,7 +288,8 @@ unfoldable pub item_at : ItemsSeen → Reading Item
 item_at s = head_at false >>= λ h. choose (passes (codes "dispinterface")) (interface_at s h.guid) (coclass_at s h.guid)
 
 unfoldable pub import_at : Reading (Unit {0})
-import_at = sign_at (codes "importlib") >>= λ _. sign_at (codes "(") >>= λ _. this_at is_text >>= λ _. sign_at (codes ")") >>= λ _.
+import_at = sign_at (codes "importlib") >>= λ _. sign_at (codes "(") >>= λ _. this_at is_text >>= λ _.
+    sign_at (codes ")") >>= λ _.
     sign_at (codes ";")
 
 unfoldable pub element_at : ItemsSeen → Reading LibraryContent
@@ -275,13 +297,15 @@ element_at s = choose (passes (codes "importlib")) (import_at >>= λ _. give Imp
 
 -- the items of at most so many imports and items
 unfoldable pub elements_within : ℕ → Reading (List Item)
-elements_within n = until (passes (codes "}")) semicolon_after element_at elements_grow closing_at n no_items >>= λ es. give (items_in es.0)
+elements_within n = until (passes (codes "}")) semicolon_after element_at elements_grow closing_at n no_items >>= λ es.
+    give (items_in es.0)
 
 unfoldable pub elements_at : Reading (List Item)
 elements_at words = elements_within (length words) words
 
 unfoldable pub library_at : Reading TreeValue
-library_at = head_at true >>= λ h. sign_at (codes "library") >>= λ _. one_at name_of too_long >>= λ name. sign_at (codes "{") >>= λ _.
+library_at = head_at true >>= λ h. sign_at (codes "library") >>= λ _. one_at name_of too_long >>= λ name.
+    sign_at (codes "{") >>= λ _.
     elements_at >>= λ xs.
     perhaps_at (passes (codes ";")) >>= λ _. sign_at [] >>= λ _.
     give (record { guid = h.guid; version = h.version; name = name; items = xs })

@@ -47,7 +47,8 @@ pub record Refused (P : TreeValue → Type 0) (text : List ℕ) (place : ℕ) : 
 abbrev pub AnyTree : TreeValue → Type 0
 AnyTree t = Unit {0}
 
--- A limit is broken at a name: no text of the grammar whose tree keeps the limit begins with the tokens up to and with that name.
+-- A limit is broken at a name: no text of the grammar whose tree keeps the limit begins with the tokens up to and with
+-- that name.
 pub record BrokenAt (l : TreeLimit) (text : List ℕ) : Type 0 where
   pub tokens : List Token
   pub are : AreTokens 0 text tokens
@@ -56,7 +57,8 @@ pub record BrokenAt (l : TreeLimit) (text : List ℕ) : Type 0 where
   pub left : List Word
   pub parts : words_of text tokens ≡ front ++ word ∷ left
   pub named : NamedAt l word
-  pub never : (t : TreeValue) (other more : List Word) → KeepsLimit l t → library t other → other ≡ front ++ word ∷ more → ⊥
+  pub never : (t : TreeValue) (other more : List Word) → KeepsLimit l t → library t other → other ≡ front ++ word ∷ more
+      → ⊥
 
 abbrev pub BreaksLimit : TreeLimit → List ℕ → Type 0
 BreaksLimit l text = MayBeText text × BrokenAt l text

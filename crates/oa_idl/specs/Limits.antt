@@ -44,7 +44,8 @@ HasFewMembers (items.Coclass c) = Unit {0}
 
 -- a member has not too many parameters, the new value of a put being one
 abbrev pub HasFewParameters : Item → Type 0
-HasFewParameters (items.Interface d) = AllByRecursion (λ (m : MethodValue). length m.parameters ≤ max_parameters) d.methods
+HasFewParameters (items.Interface d) =
+    AllByRecursion (λ (m : MethodValue). length m.parameters ≤ max_parameters) d.methods
 HasFewParameters (items.Coclass c) = Unit {0}
 
 -- a tree keeps one of the limits

@@ -17,7 +17,9 @@ use Rattle.oa_idl.specs.IsTree.{place_after}
 abbrev pub IsParsed : ℕ → List Token → List Word → Result TreeValue ParseError → Type 0
 IsParsed end tokens words (Ok t) = (left : List Word) × (library_at words ≡ Got t left)
 IsParsed end tokens words (Err (errors.Syntax place)) =
-    (left : List Word) × (library_at words ≡ Stuck Syntax left) × (place ≡ place_after end tokens (length tokens - length left))
+    (left : List Word) × (library_at words ≡ Stuck Syntax left)
+    × (place ≡ place_after end tokens (length tokens - length left))
 IsParsed end tokens words (Err (errors.Limit l)) =
-    (left : List Word) × (broken : TreeLimit) × (l ≡ limit_of broken) × (library_at words ≡ Stuck (stops.Limit broken) left)
+    (left : List Word) × (broken : TreeLimit) × (l ≡ limit_of broken)
+    × (library_at words ≡ Stuck (stops.Limit broken) left)
 IsParsed end tokens words (Err errors.Memory) = Unit {0}

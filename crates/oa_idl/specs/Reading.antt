@@ -1,5 +1,6 @@
 -- Reading as functions on lists of words: the value at the front and what is left, or why not, and from which word on.
-use Rattle.std.specs.Prelude.{◌≡◌, ℕ, zero, suc, Bool, false, if◌then◌else◌, List, [], ◌∷◌, length, Option, Some, None, Result, Ok, Err}
+use Rattle.std.specs.Prelude.{◌≡◌, ℕ, zero, suc, Bool, false, if◌then◌else◌, List, [], ◌∷◌, length, Option, Some, None}
+use Rattle.std.specs.Prelude.{Result, Ok, Err}
 use Rattle.std.specs.Borrow.{Bor}
 use Rattle.oa_idl.specs.declared.stop.TreeLimit.{TreeLimit}
 use Rattle.oa_idl.specs.declared.stop.Stop.{Stop}
@@ -82,18 +83,19 @@ if_meant (Some x) over words = unless_over (over x) x words
 unfoldable pub one_at : {A : Type 0} → (Word → Option A) → (A → Option TreeLimit) → Reading A
 one_at meaning over words = if_meant (meaning_of meaning words) over words
 
--- At most n items by the state that there is, up to a word that passes the test; from there on the end, by the last state. After an
--- item a word may stand that passes `apart` of it.
-unfoldable pub until : {S A B : Type 0} → (Word → Bool) → (A → Word → Bool) → (S → Reading A) → (S → A → S) → (S → Reading B) → ℕ → S
-    → Reading (List A × B)
+-- At most n items by the state that there is, up to a word that passes the test; from there on the end, by the last
+-- state. After an item a word may stand that passes `apart` of it.
+unfoldable pub until : {S A B : Type 0} → (Word → Bool) → (A → Word → Bool) → (S → Reading A) → (S → A → S)
+    → (S → Reading B) → ℕ → S → Reading (List A × B)
 until test apart item grow last zero s = fail Syntax
 until test apart item grow last (suc n) s = choose test
     (last s >>= λ b. give ([], b))
-    (item s >>= λ x. perhaps_at (apart x) >>= λ _. until test apart item grow last n (grow s x) >>= λ r. give (x ∷ r.0, r.1))
+    (item s >>= λ x. perhaps_at (apart x) >>= λ _. until test apart item grow last n (grow s x) >>= λ r.
+    give (x ∷ r.0, r.1))
 
 -- a list, as long as the words may make it
-unfoldable pub list_at : {S A B : Type 0} → (Word → Bool) → (A → Word → Bool) → (S → Reading A) → (S → A → S) → (S → Reading B) → S
-    → Reading (List A × B)
+unfoldable pub list_at : {S A B : Type 0} → (Word → Bool) → (A → Word → Bool) → (S → Reading A) → (S → A → S)
+    → (S → Reading B) → S → Reading (List A × B)
 list_at test apart item grow last s words = until test apart item grow last (length words) s words
 
 -- the same where only the state is kept: a step reads an item and gives the state with it

@@ -1,7 +1,7 @@
 -- Words: what stands for itself, names, types, numbers and GUIDs.
-use Rattle.std.specs.Prelude.{◌≡◌, ℕ, ◌+◌, ◌-◌, ◌*◌, ◌^◌, ◌==◌, ◌<◌, ◌&&◌, ◌||◌, not, Bool, true, false, nat_lt, nat_le, if◌then◌else◌}
-use Rattle.std.specs.Prelude.{List, [], ◌∷◌, ◌++◌, length, take, drop, get_or, map, codes, Option, Some, None, ℤ, pos, negsuc, neg_ℤ}
-use Rattle.std.specs.Prelude.{is_some}
+use Rattle.std.specs.Prelude.{◌≡◌, ℕ, ◌+◌, ◌-◌, ◌*◌, ◌^◌, ◌==◌, ◌<◌, ◌&&◌, ◌||◌, not, Bool, true, false, nat_lt, nat_le}
+use Rattle.std.specs.Prelude.{if◌then◌else◌, List, [], ◌∷◌, ◌++◌, length, take, drop, get_or, map, codes, Option, Some}
+use Rattle.std.specs.Prelude.{None, ℤ, pos, negsuc, neg_ℤ, is_some}
 use Rattle.std.specs.Int.{cast_signed, w32}
 use Rattle.std.specs.Char.{is_ascii_alphabetic}
 use Rattle.std.specs.Str.{bytes_eq}
@@ -79,7 +79,8 @@ if_cell true (Some t) = if is_some (sf_type_of t) then Some t else None
 if_cell false (Some t) = Some t
 
 unfoldable pub word_type : Bool → Bool → Word → Option VarType
-word_type in_array unsigned w = if same_kind w.kind kinds.Name then if_cell in_array (type_named unsigned w.text) else None
+word_type in_array unsigned w = if same_kind w.kind kinds.Name then if_cell in_array (type_named unsigned w.text)
+    else None
 
 -- ---- names
 
@@ -103,7 +104,8 @@ name_of w = if same_kind w.kind kinds.Name && not (is_reserved w.text) then Some
 
 -- the limit that a name breaks: it is too long, or it is that of one item too many
 abbrev pub over : TreeLimit → ℕ → ℕ → List ℕ → Option TreeLimit
-over l bound count name = if nat_lt max_name_characters (length name) then Some limits.Name else if nat_le bound count then Some l else None
+over l bound count name = if nat_lt max_name_characters (length name) then Some limits.Name
+    else if nat_le bound count then Some l else None
 
 abbrev pub too_long : List ℕ → Option TreeLimit
 too_long name = over limits.Name 1 0 name
@@ -178,7 +180,8 @@ id_from negative hexadecimal None = None
 id_from negative hexadecimal (Some n) = usable (id_number negative hexadecimal n)
 
 unfoldable pub id_of : Bool → Word → Option ℤ
-id_of negative w = if same_kind w.kind kinds.Number then id_from negative (is_hexadecimal w.text) (number_of w.text) else None
+id_of negative w = if same_kind w.kind kinds.Number then id_from negative (is_hexadecimal w.text) (number_of w.text)
+    else None
 
 -- ---- defaults of parameters
 

@@ -79,26 +79,36 @@ is_redim (Redim n b) is = refl
 is_redim e is = absurd (omega (arith, is))
 
 unfoldable pub create : Format Event
-create = case event_kind 1 (λ p. Create p.0 p.1) (λ e. (event_number e, event_class e)) (u32 ▸ guid) (λ p is. refl) (λ p. refl) is_create
+create =
+    case event_kind 1 (λ p. Create p.0 p.1) (λ e. (event_number e, event_class e)) (u32 ▸ guid) (λ p is. refl)
+    (λ p. refl) is_create
 
 unfoldable pub release : Format Event
 release = case event_kind 2 (λ n. Release n) event_number u32 (λ n is. refl) (λ n. refl) is_release
 
 unfoldable pub put : Format Event
-put = case event_kind 3 (λ p. Put p.0 p.1) (λ e. (name_in e, event_value e)) (name ▸ value) (λ p is. refl) (λ p. refl) is_put
+put =
+    case event_kind 3 (λ p. Put p.0 p.1) (λ e. (name_in e, event_value e)) (name ▸ value) (λ p is. refl)
+    (λ p. refl) is_put
 
 unfoldable pub indices : Format (List ℤ)
 indices = counted u16 i32
 
 unfoldable pub put_element : Format Event
-put_element = case event_kind 4 (λ p. PutElement p.0 p.1.0 p.1.1) (λ e. (name_in e, (index_in e, event_element e))) (name ▸ indices ▸ scalar)
+put_element =
+    case event_kind 4 (λ p. PutElement p.0 p.1.0 p.1.1) (λ e. (name_in e, (index_in e, event_element e)))
+    (name ▸ indices ▸ scalar)
     (λ p is. refl) (λ p. refl) is_put_element
 
 unfoldable pub redim : Format Event
-redim = case event_kind 5 (λ p. Redim p.0 p.1) (λ e. (name_in e, bound_in e)) (name ▸ bound) (λ p is. refl) (λ p. refl) is_redim
+redim =
+    case event_kind 5 (λ p. Redim p.0 p.1) (λ e. (name_in e, bound_in e)) (name ▸ bound) (λ p is. refl)
+    (λ p. refl) is_redim
 
 unfoldable pub of_kind : ℕ → Format Event
-of_kind n = pick (n == 1) create (pick (n == 2) release (pick (n == 3) put (pick (n == 4) put_element (pick (n == 5) redim never))))
+of_kind n =
+    pick (n == 1) create
+    (pick (n == 2) release (pick (n == 3) put (pick (n == 4) put_element (pick (n == 5) redim never))))
 
 pub kind_agrees : (n : ℕ) (e : Event) → (of_kind n).Is e → event_kind e ≡ n
 unfolding of_kind create release put put_element redim never case

@@ -13,7 +13,9 @@ key = counted u16 scalar
 
 -- interface, DISPID, key
 unfoldable pub place : Format PlaceValue
-place = made (λ p. record { interface = p.0; dispid = p.1.0; key = p.1.1 }) (λ p. (p.interface, (p.dispid, p.key))) (guid ▸ i32 ▸ key)
+place =
+    made (λ p. record { interface = p.0; dispid = p.1.0; key = p.1.1 }) (λ p. (p.interface, (p.dispid, p.key)))
+    (guid ▸ i32 ▸ key)
     (λ p. refl) (λ p. refl)
 
 unfoldable pub name : Format CellName

@@ -1,5 +1,5 @@
--- The images of tables: the next number, and the objects by rising number, each with its cells in the order of their places (this
--- project's choice). Other orders, and a place or a number that stands twice, are no image.
+-- The images of tables: the next number, and the objects by rising number, each with its cells in the order of their
+-- places (this project's choice). Other orders, and a place or a number that stands twice, are no image.
 use Rattle.std.proofs.Common.{ℕ, Bool, List, refl}
 use Rattle.std.specs.Prelude.{nat_lt, ◌&&◌, ◌+◌, ◌≤◌, length}
 use Rattle.std.specs.List.{list_all}
@@ -24,7 +24,9 @@ cells = only (rising before) (counted u32 cell)
 
 -- its number, its coclass, its cells
 unfoldable pub object : Format (ℕ × ObjectValue)
-object = made (λ p. (p.0, record { class = p.1.0; cells = p.1.1 })) (λ o. (o.0, (o.1.class, o.1.cells))) (u32 ▸ guid ▸ cells) (λ p. refl)
+object =
+    made (λ p. (p.0, record { class = p.1.0; cells = p.1.1 })) (λ o. (o.0, (o.1.class, o.1.cells))) (u32 ▸ guid ▸ cells)
+    (λ p. refl)
     (λ o. refl)
 
 abbrev pub older : ℕ × ObjectValue → ℕ × ObjectValue → Bool
@@ -41,14 +43,17 @@ abbrev pub is_numbered : TableValue → Bool
 is_numbered t = nat_lt 0 t.next && list_all (is_used t.next) t.objects
 
 unfoldable pub table : Format TableValue
-table = only is_numbered (made (λ p. record { next = p.0; objects = p.1 }) (λ t. (t.next, t.objects)) (u32 ▸ objects) (λ p. refl)
+table =
+    only is_numbered
+    (made (λ p. record { next = p.0; objects = p.1 }) (λ t. (t.next, t.objects)) (u32 ▸ objects) (λ p. refl)
     (λ t. refl))
 
 -- the bytes of a table; they hold no locks
 abbrev pub table_image : TableValue → List ℕ
 table_image = table.image
 
--- How many bytes of a bank's body the image of a table leaves free: behind the longest text of a library so many are left as are ample.
+-- How many bytes of a bank's body the image of a table leaves free: behind the longest text of a library so many are
+-- left as are ample.
 abbrev pub reserved_bytes : ℕ
 reserved_bytes = 5242880
 

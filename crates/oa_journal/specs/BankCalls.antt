@@ -1,5 +1,6 @@
 -- What the calls of a bank that stands on a disk answer. (This project's choice.)
-use Rattle.std.specs.Prelude.{◌≡◌, ◌↔◌, ℕ, ◌+◌, ◌≤◌, ◌<◌, IsTrue, true, false, List, length, Result, OnOk, OnErr, IfErr, IsErrOf}
+use Rattle.std.specs.Prelude.{◌≡◌, ◌↔◌, ℕ, ◌+◌, ◌≤◌, ◌<◌, IsTrue, true, false, List, length, Result, OnOk, OnErr, IfErr}
+use Rattle.std.specs.Prelude.{IsErrOf}
 use Rattle.oa_disk.specs.Disk.{LeavesStep}
 use Rattle.oa_disk.specs.declared.disk.DeviceFault.{DeviceFault}
 use Rattle.oa_disk.specs.declared.disk.DeviceFault.TheVariants.{Read}
@@ -25,7 +26,8 @@ pub record LiesWithin (size : ℕ) (bank : Bank) : Type 0 where
   pub body : bank.body + body_bytes bank.shape ≤ size
 
 -- The bank is written with a library and a table, and without groups.
-pub record WritesBank {D T E : Type 0} (g : Ghosts D) (bank : Bank) (library : List ℕ) (table : TableValue) (old new : D)
+pub record WritesBank {D T E : Type 0} (g : Ghosts D) (bank : Bank) (library : List ℕ) (table : TableValue)
+    (old new : D)
     (result : Result T E) : Type 0 where
   pub any_moment : IsTrue (g.is_honest old)
       → LeavesStep g.moment g.image_since g.image old new (TornBank bank.head bank.body (body_bytes bank.shape))
@@ -33,15 +35,16 @@ pub record WritesBank {D T E : Type 0} (g : Ghosts D) (bank : Bank) (library : L
   pub written : OnOk result (IsTrue (g.is_honest old)
       → IsBank bank.shape (from_place bank.head (g.contents new)) (from_place bank.body (g.contents new))
       library (unlocked_table table) (first_gate library table))
-  pub others : IsTrue (g.is_honest old) → TornBank bank.head bank.body (body_bytes bank.shape) (g.contents old) (g.contents new)
+  pub others : IsTrue (g.is_honest old)
+      → TornBank bank.head bank.body (body_bytes bank.shape) (g.contents old) (g.contents new)
 
 -- The bank knows its closed gate there, or has stopped.
 pub record MovesGate {T E : Type 0} (gate : ℕ) (old new : Bank) (result : Result T E) : Type 0 where
   pub moved : OnOk result (IsAt old.shape old.head old.body gate old.stopped new)
   pub stopped : OnErr result (IsAt old.shape old.head old.body old.gate true new)
 
--- Why a bank was not read: it is damaged in this way at a place, or memory or the device is wanting. After a fault of the device the bank
--- has stopped.
+-- Why a bank was not read: it is damaged in this way at a place, or memory or the device is wanting. After a fault of
+-- the device the bank has stopped.
 pub record RefusesBank {D T : Type 0} (g : Ghosts D) (damage : ℕ → Type 0) (before after : Bank) (old new : D)
     (result : Result T BankFault) : Type 0 where
   pub damaged : (at : ℕ) → IsErrOf result (Damaged at) → (after ≡ before) × (IsTrue (g.is_honest new) → damage at)
@@ -51,7 +54,8 @@ pub record RefusesBank {D T : Type 0} (g : Ghosts D) (damage : ℕ → Type 0) (
   pub cause : IfErr result (IsCaused (g.failures_of old) (g.failures_of new))
 
 -- The bank was read: this library, and this table after its groups. It knows its closed gate, and else is as it was.
-pub record ReadsBank {D : Type 0} (g : Ghosts D) (before after : Bank) (old new : D) (library : List ℕ) (table : TableValue) : Type 0 where
+pub record ReadsBank {D : Type 0} (g : Ghosts D) (before after : Bank) (old new : D) (library : List ℕ)
+    (table : TableValue) : Type 0 where
   pub found : IsTrue (g.is_honest new) → IsBank before.shape (from_place before.head (g.contents old))
       (from_place before.body (g.contents old)) library table after.gate
   pub numbered : is_numbered table ≡ true
@@ -67,15 +71,19 @@ pub record FindsHead {D : Type 0} (g : Ghosts D) (place : ℕ) (old new : D) (he
   pub room : disk_bytes head.shape ≤ g.size_of old
 
 -- There is none at this place. No memory is wanted.
-pub record RefusesHead {D T : Type 0} (g : Ghosts D) (place : ℕ) (old new : D) (result : Result T BankFault) : Type 0 where
-  pub damaged : (at : ℕ) → IsErrOf result (Damaged at) → (at ≡ place) × (IsTrue (g.is_honest new) → IsDamagedHead place (g.contents old))
+pub record RefusesHead {D T : Type 0} (g : Ghosts D) (place : ℕ) (old new : D)
+    (result : Result T BankFault) : Type 0 where
+  pub damaged : (at : ℕ) → IsErrOf result (Damaged at)
+      → (at ≡ place) × (IsTrue (g.is_honest new) → IsDamagedHead place (g.contents old))
   pub memory : IsErrOf result Memory → ⊥
   pub device : (fault : DeviceFault) → IsErrOf result (Device fault) → fault ≡ Read
   pub cause : IfErr result (IsCaused (g.failures_of old) (g.failures_of new))
 
 -- The group of a batch has no room, or the bank has stopped: nothing has changed.
-pub record RefusesGroup {D T : Type 0} (batch : List ℕ) (before after : Bank) (old new : D) (result : Result T AppendFault) : Type 0 where
-  pub full : IsErrOf result appends.Full ↔ ((before.stopped ≡ false) × (body_bytes before.shape ≤ before.gate + length batch))
+pub record RefusesGroup {D T : Type 0} (batch : List ℕ) (before after : Bank) (old new : D)
+    (result : Result T AppendFault) : Type 0 where
+  pub full : IsErrOf result appends.Full
+      ↔ ((before.stopped ≡ false) × (body_bytes before.shape ≤ before.gate + length batch))
   pub full_same : IsErrOf result appends.Full → (new ≡ old) × (after ≡ before)
   pub stopped : IsErrOf result appends.Stopped ↔ (before.stopped ≡ true)
   pub stopped_same : IsErrOf result appends.Stopped → (new ≡ old) × (after ≡ before)

@@ -8,7 +8,8 @@ use Rattle.oa_layout.specs.Answers.{IsRow}
 use Rattle.oa_image.specs.Events.{event}
 
 -- the table after what follows, where there is one
-abbrev pub followed : (TableValue → Result TableValue TableFault) → Result TableValue TableFault → Result TableValue TableFault
+abbrev pub followed : (TableValue → Result TableValue TableFault) → Result TableValue TableFault
+    → Result TableValue TableFault
 followed next (Ok table) = next table
 followed next (Err fault) = Err fault
 

@@ -1,5 +1,5 @@
--- The two formats of a bank, which differ in the head's bytes, in the size of the body, and in where a store has the body. All that
--- stands in a body is the same in both. (This project's choice.)
+-- The two formats of a bank, which differ in the head's bytes, in the size of the body, and in where a store has the
+-- body. All that stands in a body is the same in both. (This project's choice.)
 use Rattle.std.specs.Prelude.{ℕ, ◌+◌, ◌*◌, ◌≤◌}
 use Rattle.oa_model.specs.Limits.{group_bytes, max_event_bytes}
 use Rattle.oa_journal.specs.declared.shape.Shape.{Shape}
@@ -20,8 +20,8 @@ abbrev pub told_size : Shape → ℕ
 told_size One = 0
 told_size (Two size) = size
 
--- How many bytes of a disk format 1 takes: 8192 before its banks, and two banks of 32 and 16777184 bytes. The bodies of format 2 stand
--- behind all that.
+-- How many bytes of a disk format 1 takes: 8192 before its banks, and two banks of 32 and 16777184 bytes. The bodies of
+-- format 2 stand behind all that.
 abbrev pub format_one_bytes : ℕ
 format_one_bytes = 33562624
 
@@ -50,7 +50,7 @@ IsShape shape = (least_bank_bytes ≤ measured shape) × (measured shape ≤ mos
 abbrev pub default_bank_bytes : ℕ
 default_bank_bytes = least_bank_bytes
 
--- How many bytes a body has from its closed gate on where no checkpoint is due: the greatest group has room there. Its events have
--- fewer bytes than `group_bytes` and one event more, and a gate and a length stand before them.
+-- How many bytes a body has from its closed gate on where no checkpoint is due: the greatest group has room there. Its
+-- events have fewer bytes than `group_bytes` and one event more, and a gate and a length stand before them.
 abbrev pub ample_bytes : ℕ
 ample_bytes = max_event_bytes + group_bytes + 5

@@ -20,14 +20,16 @@ pub record CanBeKept (bank : ℕ) (table : TableValue) : Type 0 where
   pub fits : FitsBank bank table
   pub numbered : is_numbered table ≡ true
 
--- Images hold this table: what is held in memory where the batch has no event, and else what they held before its first.
+-- Images hold this table: what is held in memory where the batch has no event, and else what they held before its
+-- first.
 abbrev pub IsLastCommitted : List ℕ → TableValue → TableValue → Type 0
 IsLastCommitted batch held committed = length batch ≡ 0 → held ≡ committed
 
 -- A stop at any moment of a call leaves what was committed before it.
 abbrev pub LeavesCommitted : {D : Type 0} {g : Ghosts D} → List ℕ → TableValue → Store D g → Store D g → Type 0
 LeavesCommitted batch held old new =
-    (committed : TableValue) → IsLastCommitted batch held committed → AllHold old committed → LeavesTable old new committed
+    (committed : TableValue) → IsLastCommitted batch held committed → AllHold old committed
+    → LeavesTable old new committed
 
 -- After the call each image holds what was committed before it.
 abbrev pub KeepsCommitted : {D : Type 0} {g : Ghosts D} → List ℕ → TableValue → Store D g → Store D g → Type 0
@@ -41,22 +43,27 @@ pub record Carries {D : Type 0} {g : Ghosts D} (batch : List ℕ) (held : TableV
   pub library : new.library.items ≡ old.library.items
   pub once : CallsForOneCheckpoint old new
 
--- There is room for a group before its first event. No checkpoint is made for that where the batch has events, nor one that is not due.
-pub record MakesRoom {D T E : Type 0} {g : Ghosts D} (batch : List ℕ) (old new : Store D g) (result : Result T E) : Type 0 where
+-- There is room for a group before its first event. No checkpoint is made for that where the batch has events, nor one
+-- that is not due.
+pub record MakesRoom {D T E : Type 0} {g : Ghosts D} (batch : List ℕ) (old new : Store D g)
+    (result : Result T E) : Type 0 where
   pub quiet : 0 < length batch → (new.disk ≡ old.disk) × IsOk result
   pub undue : ample_bytes ≤ body_bytes old.bank.shape - old.bank.gate → (new.disk ≡ old.disk) × IsOk result
   pub room : OnOk result (ample_bytes ≤ body_bytes new.bank.shape - new.bank.gate)
   pub room_kept : new.stopped ≡ false → HasRoom batch new
 
--- Whatever table the images hold, and whatever the events of the batch make of it: a stop leaves the one or the other, and the store that goes
--- on has the latter.
+-- Whatever table the images hold, and whatever the events of the batch make of it: a stop leaves the one or the other,
+-- and the store that goes on has the latter.
 pub record Commits {D : Type 0} {g : Ghosts D} (batch : List ℕ) (old new : Store D g) : Type 0 where
-  pub any_moment : (committed now : TableValue) → Replays batch committed now → AllHold old committed → LeavesEither old new committed now
-  pub each : new.stopped ≡ false → (committed now : TableValue) → Replays batch committed now → AllHold old committed → AllHold new now
+  pub any_moment : (committed now : TableValue) → Replays batch committed now → AllHold old committed
+      → LeavesEither old new committed now
+  pub each : new.stopped ≡ false → (committed now : TableValue) → Replays batch committed now → AllHold old committed
+      → AllHold new now
   pub library : new.library.items ≡ old.library.items
 
 -- A commit makes four calls at most, and no checkpoint; none where the batch has no event.
-pub record CallsForGroup {D T E : Type 0} {g : Ghosts D} (batch : List ℕ) (old new : Store D g) (result : Result T E) : Type 0 where
+pub record CallsForGroup {D T E : Type 0} {g : Ghosts D} (batch : List ℕ) (old new : Store D g)
+    (result : Result T E) : Type 0 where
   pub quiet : length batch ≡ 0 → (new.disk ≡ old.disk) × IsOk result × (new.stopped ≡ false)
   pub calls : IsTrue (g.is_honest old.disk) → g.moment new.disk ≤ g.moment old.disk + 8
   pub chosen : new.chosen ≡ old.chosen

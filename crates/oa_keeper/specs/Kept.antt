@@ -1,4 +1,5 @@
--- What a disk holds of a table that a store keeps: a store of its library, and of all of the table but its locks. (This project's choice.)
+-- What a disk holds of a table that a store keeps: a store of its library, and of all of the table but its locks. (This
+-- project's choice.)
 use Rattle.std.specs.Prelude.{◌⊎◌, ℕ, ◌-◌, ◌<◌, ◌≤◌, IsTrue, List, length}
 use Rattle.oa_disk.specs.declared.disk.Disk.{Ghosts}
 use Rattle.oa_disk.specs.Disk.{LeavesOnly}
@@ -15,16 +16,19 @@ EachIs image shape chosen gate library held = (c : List ℕ) → image c → IsS
 -- its disk is honest, and each image of it holds this table
 abbrev pub AllHold : {D : Type 0} {g : Ghosts D} → Store D g → TableValue → Type 0
 AllHold {D} {g} store held =
-    IsTrue (g.is_honest store.disk) × EachIs (g.image store.disk) store.bank.shape store.chosen store.bank.gate store.library.items held
+    IsTrue (g.is_honest store.disk)
+    × EachIs (g.image store.disk) store.bank.shape store.chosen store.bank.gate store.library.items held
 
 -- a crash at any moment of a call leaves a store of this table, of the format and the library of before
 abbrev pub LeavesTable : {D : Type 0} {g : Ghosts D} → Store D g → Store D g → TableValue → Type 0
-LeavesTable {D} {g} old new held = LeavesOnly g.moment g.image_since old.disk new.disk (λ c. IsStoreIn old.bank.shape c old.library.items held)
+LeavesTable {D} {g} old new held =
+    LeavesOnly g.moment g.image_since old.disk new.disk (λ c. IsStoreIn old.bank.shape c old.library.items held)
 
 -- or of the one table or the other
 abbrev pub LeavesEither : {D : Type 0} {g : Ghosts D} → Store D g → Store D g → TableValue → TableValue → Type 0
 LeavesEither {D} {g} old new before after =
-    LeavesOnly g.moment g.image_since old.disk new.disk (λ c. IsStoreIn old.bank.shape c old.library.items before ⊎ IsStoreIn old.bank.shape c old.library.items after)
+    LeavesOnly g.moment g.image_since old.disk new.disk
+    (λ c. IsStoreIn old.bank.shape c old.library.items before ⊎ IsStoreIn old.bank.shape c old.library.items after)
 
 -- Where the batch has events, the bank in use has room for the greatest group.
 abbrev pub HasRoom : {D : Type 0} {g : Ghosts D} → List ℕ → Store D g → Type 0

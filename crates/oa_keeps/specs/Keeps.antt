@@ -1,5 +1,6 @@
 -- Which libraries keep another, so that each table of objects of the old one is one of the new (this project's choice).
-use Rattle.std.specs.Prelude.{◌≡◌, ℕ, ℤ, Bool, true, false, not, ◌&&◌, ◌||◌, if◌then◌else◌, List, slice_get, Option, Some, None, is_some}
+use Rattle.std.specs.Prelude.{◌≡◌, ℕ, ℤ, Bool, true, false, not, ◌&&◌, ◌||◌, if◌then◌else◌, List, slice_get, Option}
+use Rattle.std.specs.Prelude.{Some, None, is_some}
 use Rattle.std.specs.Cmp.Lexicographic.{pointwise}
 use Rattle.std.specs.List.{list_any, list_all}
 use Rattle.std.specs.Option.{option_and_then, option_eq, option_map, option_map_or, option_or}
@@ -13,7 +14,8 @@ use Rattle.oa_checks.specs.DeclarationValues.{DeclarationValue}
 use Rattle.oa_checks.specs.Declarations.{declarations}
 use Rattle.oa_typelib.specs.Descriptions.{classes_of, interfaces_of, members_described}
 use Rattle.oa_typelib.specs.Indexes.{is_put_or_not}
-use Rattle.oa_checks.specs.Libraries.{class_of, default_interface, has_interface, if_entered, interface_of, same, same_name}
+use Rattle.oa_checks.specs.Libraries.{class_of, default_interface, has_interface, if_entered, interface_of, same}
+use Rattle.oa_checks.specs.Libraries.{same_name}
 use Rattle.oa_checks.specs.Repeats.{Has, first_answer}
 use Rattle.oa_checks.specs.declared.declaration.DeclarationKind.{DeclarationKind}
 use Rattle.oa_checks.specs.declared.declaration.DeclarationKind.TheVariants as kinds
@@ -22,8 +24,8 @@ use Rattle.oa_keeps.specs.declared.lost.Lost.TheVariants as losses
 
 -- ---- what it is to keep one, said without a search
 
--- One declaration stands for another: it has the same name, A to Z folded, DISPID, kind (which says whether it is readonly), type and
--- parameters, a put's new value among them, each with the same name, type, flags and default.
+-- One declaration stands for another: it has the same name, A to Z folded, DISPID, kind (which says whether it is
+-- readonly), type and parameters, a put's new value among them, each with the same name, type, flags and default.
 pub record IsKeptBy (was now : DeclarationValue) : Type 0 where
   pub name : same_name was.name now.name ≡ true
   pub id : now.id ≡ was.id
@@ -62,7 +64,8 @@ pub record HasGuid (P : InterfaceValue → Type 0) (guid : List ℕ) : Type 0 wh
   pub is : P interface
   pub has : interface.guid ≡ guid
 
--- The coclass of the same GUID has all interfaces that the old one has, and the same default interface. It may have more.
+-- The coclass of the same GUID has all interfaces that the old one has, and the same default interface. It may have
+-- more.
 pub record KeepsClass (new old : List Item) (was : CoclassValue) : Type 0 where
   pub now : CoclassValue
   pub there : Has (classes_of new) now
@@ -74,8 +77,8 @@ pub record KeepsLibrary (new old : TreeValue) : Type 0 where
   pub interfaces : (i : InterfaceValue) → Has (interfaces_of old.items) i → KeepsInterface new.items i
   pub classes : (c : CoclassValue) → Has (classes_of old.items) c → KeepsClass new.items old.items c
 
--- ---- the first thing that is lost: the old interfaces in the text's order, each with its members as a description has them, so in the
--- order in which their names first stand, a get before its put; then the old coclasses
+-- ---- the first thing that is lost: the old interfaces in the text's order, each with its members as a description has
+-- them, so in the order in which their names first stand, a get before its put; then the old coclasses
 
 abbrev pub same_declaration_kind : DeclarationKind → DeclarationKind → Bool
 same_declaration_kind kinds.Property kinds.Property = true
@@ -99,7 +102,8 @@ lost_declaration now was = if list_any (is_kept_by was) (declarations now) then 
 abbrev pub lost_form : InterfaceValue → InterfaceValue → Bool → ℕ → Option ℤ
 lost_form now was puts place =
     option_and_then (lost_declaration now)
-    (option_and_then (λ (d : DeclarationValue). if is_put_or_not puts d.kind then Some d else None) (slice_get (declarations was) place))
+    (option_and_then (λ (d : DeclarationValue). if is_put_or_not puts d.kind then Some d else None)
+    (slice_get (declarations was) place))
 
 abbrev pub lost_member : InterfaceValue → InterfaceValue → Option ℤ
 lost_member now was = first_answer (lost_declaration now) (members_described was)
@@ -133,7 +137,8 @@ lost_class new old was = if keeps_class new old was then None else Some (losses.
 
 abbrev pub first_lost : TreeValue → TreeValue → Option Lost
 first_lost new old =
-    option_or (first_answer (lost_interface new) (interfaces_of old.items)) (first_answer (lost_class new old) (classes_of old.items))
+    option_or (first_answer (lost_interface new) (interfaces_of old.items))
+    (first_answer (lost_class new old) (classes_of old.items))
 
 -- ---- the parts of what is lost
 

@@ -1,4 +1,5 @@
--- The images of arrays: the bounds, and the cells without their type, or with it in an array of VARIANT (this project's choice).
+-- The images of arrays: the bounds, and the cells without their type, or with it in an array of VARIANT (this project's
+-- choice).
 use Rattle.std.proofs.Common.{◌≡◌, Bool, true, List, length, refl}
 use Rattle.std.specs.Prelude.{nat_lt, nat_le, ◌&&◌, is_some}
 use Rattle.std.proofs.lemmas.Bool.{lt-ltb, le-leb}
@@ -20,7 +21,8 @@ bound = made (λ p. record { count = p.0; lower = p.1 }) (λ b. (b.count, b.lowe
 -- whether there are arrays of the type with these bounds
 abbrev pub is_shape : VarType → List Bound → Bool
 is_shape t bounds =
-    is_some (sf_type_of t) && nat_lt 0 (length bounds) && nat_le (length bounds) max_dimensions && nat_le (box_size bounds) max_cells
+    is_some (sf_type_of t) && nat_lt 0 (length bounds) && nat_le (length bounds) max_dimensions
+    && nat_le (box_size bounds) max_cells
 
 pub shape_here : (t : VarType) (bounds : List Bound) → IsArrayShape t bounds → is_shape t bounds ≡ true
 shape_here t bounds shape = rw (shape.typed, lt-ltb _ _ shape.some, le-leb _ _ shape.few, le-leb _ _ shape.small) refl
@@ -37,7 +39,9 @@ bounds_of t = only (is_shape t) (counted u16 bound)
 -- what an array of the type has behind the number of its type: it has no locks, which last for a session
 unfoldable pub array_of : VarType → Format (ArrayValue Scalar)
 unfolding next_by
-array_of t = made_where (λ a. (a.elem ≡ t) × (a.locks ≡ 0) × (bounds_of t).Is a.bounds × (times (cell_of t) (box_size a.bounds)).Is a.cells)
+array_of t =
+    made_where (λ a. (a.elem ≡ t) × (a.locks ≡ 0) × (bounds_of t).Is a.bounds
+    × (times (cell_of t) (box_size a.bounds)).Is a.cells)
     (λ p. record { elem = t; bounds = p.0; cells = p.1; locks = 0 }) (λ a. (a.bounds, a.cells))
     (next_by (bounds_of t) (λ bounds. times (cell_of t) (box_size bounds)))
     (λ p is ok. ((refl, refl, is.0, is.1), refl)) (λ a h. ((h.2, h.3), rw (← h.0, ← h.1) refl))

@@ -1,8 +1,8 @@
--- Formats: which values have an image, the image of each as bytes, and how it is read. A format holds the proof that reading takes
--- exactly the images, so whoever describes a format by the words below has its reader's laws.
+-- Formats: which values have an image, the image of each as bytes, and how it is read. A format holds the proof that
+-- reading takes exactly the images, so whoever describes a format by the words below has its reader's laws.
 use Rattle.std.specs.Prelude.{⊤}
-use Rattle.std.proofs.Common.{◌≡◌, ℕ, zero, suc, ◌+◌, ◌<◌, ◌≤◌, Bool, true, false, cond, ltb, List, [], ◌∷◌, ◌++◌, length, take, drop}
-use Rattle.std.proofs.Common.{Option, Some, None, refl, sym, ap, subst, ◌∙◌, append_assoc, arith}
+use Rattle.std.proofs.Common.{◌≡◌, ℕ, zero, suc, ◌+◌, ◌<◌, ◌≤◌, Bool, true, false, cond, ltb, List, [], ◌∷◌, ◌++◌}
+use Rattle.std.proofs.Common.{length, take, drop, Option, Some, None, refl, sym, ap, subst, ◌∙◌, append_assoc, arith}
 use Rattle.std.specs.List.{AllByRecursion, flat_map}
 use Rattle.std.proofs.lemmas.Bool.{ltb-false, le-ltb}
 use Rattle.std.proofs.lemmas.List.{take_at, drop_at, take-append-drop, length-append, length-take-le}
@@ -23,7 +23,8 @@ pub record Format (C : Type 0) : Type 1 where
   pub takes : (s : Cursor) (c : C) (t : Cursor) → AllByRecursion (λ b. b < 256) s.rest → read s ≡ Some (c, t)
       → Is c × (s.rest ≡ image c ++ t.rest) × AllByRecursion (λ b. b < 256) t.rest
   -- an image is read as the value whose it is, at any place and whatever follows
-  pub again : (c : C) (place : ℕ) (rest : List ℕ) → Is c → (end : ℕ) × (read (at place (image c ++ rest)) ≡ Some (c, at end rest))
+  pub again : (c : C) (place : ℕ) (rest : List ℕ) → Is c
+      → (end : ℕ) × (read (at place (image c ++ rest)) ≡ Some (c, at end rest))
 
 -- ---- what answers of readings say
 
@@ -33,8 +34,8 @@ some x = Some x
 pub same_content : {A : Type 0} (x y : A) → some x ≡ some y → x ≡ y
 same_content x y e = cc
 
-pub first_part : {A B : Type 0} (r : Option (A × Cursor)) (next : A → Reading B) (y : B × Cursor) → and_then r next ≡ Some y
-    → (x : A × Cursor) × (r ≡ Some x) × (next x.0 x.1 ≡ Some y)
+pub first_part : {A B : Type 0} (r : Option (A × Cursor)) (next : A → Reading B) (y : B × Cursor)
+    → and_then r next ≡ Some y → (x : A × Cursor) × (r ≡ Some x) × (next x.0 x.1 ≡ Some y)
 first_part None next y e = absurd cc
 first_part (Some x) next y e = (x, refl, e)
 
@@ -84,7 +85,13 @@ nothing = record {
 -- no value
 unfoldable pub never : {C : Type 0} → Format C
 unfolding fail
-never = record { Is = λ c. ⊥; image = λ c. []; read = fail; takes = λ s c t ok e. absurd cc; again = λ c place rest h. absurd h }
+never = record {
+  Is = λ c. ⊥;
+  image = λ c. [];
+  read = fail;
+  takes = λ s c t ok e. absurd cc;
+  again = λ c place rest h. absurd h;
+}
 
 -- ---- one value behind another
 
@@ -100,7 +107,8 @@ next_by {A} {B} F G = record {
       let one = F.takes s x.0.0 x.0.1 ok x.1 in
       let y = first_part ((G x.0.0).read x.0.1) (λ b. give (x.0.0, b)) (c, t) x.2 in
       let two = (G x.0.0).takes x.0.1 y.0.0 y.0.1 one.2 y.1 in
-      subst (λ (z : (A × B) × Cursor). (F.Is z.0.0 × (G z.0.0).Is z.0.1) × (s.rest ≡ (F.image z.0.0 ++ (G z.0.0).image z.0.1) ++ z.1.rest)
+      subst (λ (z : (A × B) × Cursor). (F.Is z.0.0 × (G z.0.0).Is z.0.1)
+      × (s.rest ≡ (F.image z.0.0 ++ (G z.0.0).image z.0.1) ++ z.1.rest)
       × IsBytes z.1.rest) (same_content ((x.0.0, y.0.0), y.0.1) (c, t) y.2) (
         (one.0, two.0),
         one.1 ∙ ap (λ (xs : List ℕ). F.image x.0.0 ++ xs) two.1
@@ -144,7 +152,8 @@ made_where {A} {C} P make back F there here = record {
 -- as many values as the other format has
 abbrev pub made : {A C : Type 0} (make : A → C) (back : C → A) (F : Format A) → ((a : A) → back (make a) ≡ a)
     → ((c : C) → make (back c) ≡ c) → Format C
-made make back F there here = made_where (λ c. F.Is (back c)) make back F (λ a is ok. (subst F.Is (sym (there a)) is, there a))
+made make back F there here =
+    made_where (λ c. F.Is (back c)) make back F (λ a is ok. (subst F.Is (sym (there a)) is, there a))
     (λ c is. (is, here c))
 
 -- what an option has, where it has something
@@ -152,7 +161,8 @@ abbrev pub found : {A : Type 0} → Option A → Reading A
 found None s = None
 found (Some x) s = Some (x, s)
 
-pub found_there : {A : Type 0} (o : Option A) (s : Cursor) (c : A) (t : Cursor) → found o s ≡ Some (c, t) → (o ≡ Some c) × (s ≡ t)
+pub found_there : {A : Type 0} (o : Option A) (s : Cursor) (c : A) (t : Cursor) → found o s ≡ Some (c, t)
+    → (o ≡ Some c) × (s ≡ t)
 found_there {A} None s c t e = absurd cc
 found_there {A} (Some x) s c t e = let p = same_content (x, s) (c, t) e in
     (ap (λ (y : A × Cursor). some y.0) p, ap (λ (y : A × Cursor). y.1) p)
@@ -186,14 +196,16 @@ pub times_takes : {A : Type 0} (F : Format A) (n : ℕ) (s : Cursor) (xs : List 
     → ((length xs ≡ n) × AllByRecursion F.Is xs) × (s.rest ≡ flat_map F.image xs ++ t.rest) × IsBytes t.rest
 unfolding many bind give
 times_takes {A} F zero s xs t ok e =
-    subst (λ (y : List A × Cursor). ((length y.0 ≡ 0) × AllByRecursion F.Is y.0) × (s.rest ≡ flat_map F.image y.0 ++ y.1.rest)
+    subst (λ (y : List A × Cursor). ((length y.0 ≡ 0) × AllByRecursion F.Is y.0)
+    × (s.rest ≡ flat_map F.image y.0 ++ y.1.rest)
     × IsBytes y.1.rest) (same_content ([], s) (xs, t) e) ((refl, tt), refl, ok)
 times_takes {A} F (suc n) s xs t ok e =
     let x = first_part (F.read s) (λ first. bind (many F.read n) (λ others. give (first ∷ others))) (xs, t) e in
     let one = F.takes s x.0.0 x.0.1 ok x.1 in
     let y = first_part (many F.read n x.0.1) (λ others. give (x.0.0 ∷ others)) (xs, t) x.2 in
     let two = times_takes F n x.0.1 y.0.0 y.0.1 one.2 y.1 in
-    subst (λ (z : List A × Cursor). ((length z.0 ≡ suc n) × AllByRecursion F.Is z.0) × (s.rest ≡ flat_map F.image z.0 ++ z.1.rest)
+    subst (λ (z : List A × Cursor). ((length z.0 ≡ suc n) × AllByRecursion F.Is z.0)
+    × (s.rest ≡ flat_map F.image z.0 ++ z.1.rest)
     × IsBytes z.1.rest) (same_content (x.0.0 ∷ y.0.0, y.0.1) (xs, t) y.2) (
       (ap suc two.0.0, (one.0, two.0.1)),
       one.1 ∙ ap (λ (ys : List ℕ). F.image x.0.0 ++ ys) two.1
@@ -201,7 +213,8 @@ times_takes {A} F (suc n) s xs t ok e =
       two.2,
     )
 
-pub times_again : {A : Type 0} (F : Format A) (n : ℕ) (xs : List A) (place : ℕ) (rest : List ℕ) → length xs ≡ n → AllByRecursion F.Is xs
+pub times_again : {A : Type 0} (F : Format A) (n : ℕ) (xs : List A) (place : ℕ) (rest : List ℕ) → length xs ≡ n
+    → AllByRecursion F.Is xs
     → (end : ℕ) × (many F.read n (at place (flat_map F.image xs ++ rest)) ≡ Some (xs, at end rest))
 unfolding many bind give
 times_again F zero [] place rest len all = (place, refl)
@@ -226,9 +239,11 @@ times {A} F n = record {
 -- a number of values, and then the values
 unfoldable pub counted : {A : Type 0} → Format ℕ → Format A → Format (List A)
 unfolding next_by times
-counted {A} N F = made_where (λ xs. N.Is (length xs) × AllByRecursion F.Is xs) (λ (p : ℕ × List A). p.1) (λ xs. (length xs, xs))
+counted {A} N F =
+    made_where (λ xs. N.Is (length xs) × AllByRecursion F.Is xs) (λ (p : ℕ × List A). p.1) (λ xs. (length xs, xs))
     (next_by N (times F))
-    (λ p is ok. ((subst N.Is (sym is.1.0) is.0, is.1.1), ap (λ (n : ℕ). with_count n p.1) is.1.0)) (λ xs h. ((h.0, (refl, h.1)), refl))
+    (λ p is ok. ((subst N.Is (sym is.1.0) is.0, is.1.1), ap (λ (n : ℕ). with_count n p.1) is.1.0))
+    (λ xs h. ((h.0, (refl, h.1)), refl))
   where
     with_count : ℕ → List A → ℕ × List A
     with_count n xs = (n, xs)
@@ -252,7 +267,8 @@ only {C} test F = coded (λ c. F.Is c × (test c ≡ true)) (passing test) (λ c
 
 -- the values with the tag t, which are those that make gives of a content
 unfoldable pub case : {A C T : Type 0} (tag : C → T) (t : T) (make : A → C) (content : C → A) (F : Format A)
-    → ((a : A) → F.Is a → tag (make a) ≡ t) → ((a : A) → content (make a) ≡ a) → ((c : C) → tag c ≡ t → make (content c) ≡ c) → Format C
+    → ((a : A) → F.Is a → tag (make a) ≡ t) → ((a : A) → content (make a) ≡ a)
+    → ((c : C) → tag c ≡ t → make (content c) ≡ c) → Format C
 unfolding bind give
 case {A} {C} {T} tag t make content F same there here = record {
   Is = λ c. (tag c ≡ t) × F.Is (content c);
@@ -262,7 +278,8 @@ case {A} {C} {T} tag t make content F same there here = record {
       let x = first_part (F.read s) (λ a. give (make a)) (c, u) e in
       let one = F.takes s x.0.0 x.0.1 ok x.1 in
       let back = sym (there x.0.0) in
-      subst (λ (z : C × Cursor). ((tag z.0 ≡ t) × F.Is (content z.0)) × (s.rest ≡ F.image (content z.0) ++ z.1.rest) × IsBytes z.1.rest)
+      subst (λ (z : C × Cursor). ((tag z.0 ≡ t) × F.Is (content z.0)) × (s.rest ≡ F.image (content z.0) ++ z.1.rest)
+      × IsBytes z.1.rest)
       (same_content (make x.0.0, x.0.1) (c, u) x.2)
       ((same x.0.0 one.0, subst F.Is back one.0), one.1 ∙ ap (λ (a : A). F.image a ++ x.0.1.rest) back, one.2);
   again = λ c place rest h.
@@ -271,8 +288,8 @@ case {A} {C} {T} tag t make content F same there here = record {
 }
 
 -- a tag, and then the values that have it
-unfoldable pub tagged : {T C : Type 0} (tag : C → T) (F : Format T) (G : T → Format C) → ((t : T) (c : C) → (G t).Is c → tag c ≡ t)
-    → Format C
+unfoldable pub tagged : {T C : Type 0} (tag : C → T) (F : Format T) (G : T → Format C)
+    → ((t : T) (c : C) → (G t).Is c → tag c ≡ t) → Format C
 unfolding bind
 tagged {T} {C} tag F G agree = record {
   Is = λ c. F.Is (tag c) × (G (tag c)).Is c;
@@ -284,7 +301,8 @@ tagged {T} {C} tag F G agree = record {
       let two = (G x.0.0).takes x.0.1 c u one.2 x.2 in
       let t : x.0.0 ≡ tag c = sym (agree x.0.0 c two.0) in (
         (subst F.Is t one.0, subst (λ (k : T). (G k).Is c) t two.0),
-        one.1 ∙ ap (λ (xs : List ℕ). F.image x.0.0 ++ xs) two.1 ∙ sym (append_assoc (F.image x.0.0) ((G x.0.0).image c) u.rest)
+        one.1 ∙ ap (λ (xs : List ℕ). F.image x.0.0 ++ xs) two.1
+            ∙ sym (append_assoc (F.image x.0.0) ((G x.0.0).image c) u.rest)
             ∙ ap (λ (k : T). (F.image k ++ (G k).image c) ++ u.rest) t,
         two.2,
       );
@@ -299,8 +317,8 @@ abbrev pub pick : {C : Type 0} → Bool → Format C → Format C → Format C
 pick true F G = F
 pick false F G = G
 
-pub picked : {C : Type 0} (b : Bool) (F G : Format C) (c : C) (P : Type 0) → (b ≡ true → F.Is c → P) → (b ≡ false → G.Is c → P)
-    → (pick b F G).Is c → P
+pub picked : {C : Type 0} (b : Bool) (F G : Format C) (c : C) (P : Type 0) → (b ≡ true → F.Is c → P)
+    → (b ≡ false → G.Is c → P) → (pick b F G).Is c → P
 picked true F G c P one other h = one refl h
 picked false F G c P one other h = other refl h
 

@@ -1,6 +1,6 @@
 -- The formats of numbers, the lowest byte first, of GUIDs and of truth values (this project's choice).
-use Rattle.std.proofs.Common.{◌≡◌, ℕ, zero, suc, ◌<◌, ◌^◌, Bool, true, false, cond, eqb, List, [], ◌∷◌, length, get_or, Option, Some, None}
-use Rattle.std.proofs.Common.{refl, sym, ap, ◌∙◌, arith, rules, ℤ}
+use Rattle.std.proofs.Common.{◌≡◌, ℕ, zero, suc, ◌<◌, ◌^◌, Bool, true, false, cond, eqb, List, [], ◌∷◌, length, get_or}
+use Rattle.std.proofs.Common.{Option, Some, None, refl, sym, ap, ◌∙◌, arith, rules, ℤ}
 use Rattle.std.specs.Prelude.{⊤}
 use Rattle.std.specs.Prelude.{FitsSigned, ◌==◌, if◌then◌else◌}
 use Rattle.std.specs.Int.{w8, w16, w32, w64, from_le_bytes, to_le_bytes, cast_signed, cast_unsigned}
@@ -8,8 +8,8 @@ use mir.Facts.{Fits-of_z, to_z-of_z}
 use Rattle.std.proofs.lemmas.Int.{of_z-to_z}
 use Rattle.std.proofs.Math.Facts.{sfits_to_z}
 use Rattle.std.proofs.lemmas.Bool.{eqb-true}
-use Rattle.std.proofs.lemmas.Nat.{le_bytes_2, le_bytes_4, le_bytes_8, from_le_bytes-to_le_bytes_2, from_le_bytes-to_le_bytes_4}
-use Rattle.std.proofs.lemmas.Nat.{from_le_bytes-to_le_bytes_8}
+use Rattle.std.proofs.lemmas.Nat.{le_bytes_2, le_bytes_4, le_bytes_8, from_le_bytes-to_le_bytes_2}
+use Rattle.std.proofs.lemmas.Nat.{from_le_bytes-to_le_bytes_4, from_le_bytes-to_le_bytes_8}
 use Rattle.uuid.proofs.RoundTrips.{swap_twice}
 use Rattle.oa_model.specs.Guids.{wire_order}
 use Rattle.oa_layout.specs.Formats.{Format, IsBytes, raw, made_where, coded, same_content}
@@ -40,7 +40,8 @@ u16 = made_where (λ n. n < 2 ^ 16) (from_le_bytes w16) (to_le_bytes w16) (raw 2
 unfoldable pub u32 : Format ℕ
 unfolding raw
 u32 = made_where (λ n. n < 2 ^ 32) (from_le_bytes w32) (to_le_bytes w32) (raw 4)
-    (λ bs len ok. let e = byte_at bs ok in (omega (arith, e 0, e 1, e 2, e 3), le_bytes_4 bs (from_le_bytes w32 bs) len e refl))
+    (λ bs len ok. let e = byte_at bs ok in
+    (omega (arith, e 0, e 1, e 2, e 3), le_bytes_4 bs (from_le_bytes w32 bs) len e refl))
     (λ n h. (refl, from_le_bytes-to_le_bytes_4 n h))
 
 unfoldable pub u64 : Format ℕ

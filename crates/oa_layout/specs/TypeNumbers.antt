@@ -28,8 +28,8 @@ type_here types.Int = refl
 type_here types.Uint = refl
 
 -- the test of one number
-pub tested : (b : Bool) (n m : ℕ) (j : VarType) (others : Option VarType) (t : VarType) → vt_of j ≡ m → (b ≡ true → n ≡ m)
-    → cond b (Some j) others ≡ Some t → (others ≡ Some t → vt_of t ≡ n) → vt_of t ≡ n
+pub tested : (b : Bool) (n m : ℕ) (j : VarType) (others : Option VarType) (t : VarType) → vt_of j ≡ m
+    → (b ≡ true → n ≡ m) → cond b (Some j) others ≡ Some t → (others ≡ Some t → vt_of t ≡ n) → vt_of t ≡ n
 tested true n m j others t is same e next = ap vt_of (sym (same_content j t e)) ∙ is ∙ sym (same refl)
 tested false n m j others t is same e next = next e
 

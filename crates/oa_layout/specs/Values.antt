@@ -1,6 +1,6 @@
 -- The images of texts, DECIMAL and scalars (this project's choice).
-use Rattle.std.proofs.Common.{◌≡◌, ℕ, ℤ, ◌+◌, ◌*◌, ◌<◌, ◌≤◌, ◌^◌, Bool, true, false, cond, eqb, leb, List, length, Option, Some, None, refl}
-use Rattle.std.proofs.Common.{sym, ap, subst, arith, rules}
+use Rattle.std.proofs.Common.{◌≡◌, ℕ, ℤ, ◌+◌, ◌*◌, ◌<◌, ◌≤◌, ◌^◌, Bool, true, false, cond, eqb, leb, List, length}
+use Rattle.std.proofs.Common.{Option, Some, None, refl, sym, ap, subst, arith, rules}
 use Rattle.std.specs.Prelude.{⊤}
 use Rattle.std.specs.Prelude.{◌==◌, nat_le, if◌then◌else◌, pos}
 use Rattle.std.proofs.lemmas.Bool.{eqb-true, leb-true, le-leb}
@@ -14,7 +14,8 @@ use Rattle.oa_variant.specs.Keys.{decimal_of}
 use Rattle.oa_variant.specs.Scalars.{type_of, text_of}
 use Rattle.oa_variant.specs.declared.scalar.Scalar.{Scalar}
 use Rattle.oa_variant.specs.declared.scalar.Scalar.TheVariants as scalars
-use Rattle.oa_layout.specs.Formats.{Format, some, same_content, raw, ◌▸◌, next_by, made_where, coded, nothing, never, case, tagged}
+use Rattle.oa_layout.specs.Formats.{Format, some, same_content, raw, ◌▸◌, next_by, made_where, coded, nothing, never}
+use Rattle.oa_layout.specs.Formats.{case, tagged}
 use Rattle.oa_layout.specs.Numbers.{u8, u16, u32, u64, i8, i16, i32, i64, truth}
 use Rattle.oa_layout.specs.TypeNumbers.{type_there, type_here, vt_low}
 
@@ -37,8 +38,10 @@ IsSize (Some n) = n ≤ max_text_bytes
 
 pub size_chosen : (p q : Bool) (n : ℕ) (s : Option ℕ) → (p ≡ true → n ≡ 4294967295) → (q ≡ true → n ≤ max_text_bytes)
     → cond p (Some None) (cond q (Some (Some n)) None) ≡ Some s → IsSize s × (size_code s ≡ n)
-size_chosen true q n s is le e = subst (λ (o : Option ℕ). IsSize o × (size_code o ≡ n)) (same_content None s e) (tt, sym (is refl))
-size_chosen false true n s is le e = subst (λ (o : Option ℕ). IsSize o × (size_code o ≡ n)) (same_content (Some n) s e) (le refl, refl)
+size_chosen true q n s is le e =
+    subst (λ (o : Option ℕ). IsSize o × (size_code o ≡ n)) (same_content None s e) (tt, sym (is refl))
+size_chosen false true n s is le e =
+    subst (λ (o : Option ℕ). IsSize o × (size_code o ≡ n)) (same_content (Some n) s e) (le refl, refl)
 size_chosen false false n s is le e = absurd cc
 
 pub size_here : (s : Option ℕ) → IsSize s → (size_code s < 2 ^ 32) × (size_of (size_code s) ≡ Some s)
@@ -50,7 +53,9 @@ size_here (Some n) h =
 
 unfoldable pub text_header : Format (Option ℕ)
 unfolding u32 made_where
-text_header = coded IsSize size_of size_code u32 (λ n s _ e. size_chosen (eqb n 4294967295) (leb n max_text_bytes) n s (eqb-true _ _)
+text_header =
+    coded IsSize size_of size_code u32
+    (λ n s _ e. size_chosen (eqb n 4294967295) (leb n max_text_bytes) n s (eqb-true _ _)
     (leb-true _ _) e) size_here
 
 pub null_text : (t : Option (List ℕ)) → text_size t ≡ None → None ≡ t
@@ -64,7 +69,8 @@ some_text n (Some text) e = refl
 unfoldable pub text_of_size : Option ℕ → Format (Option (List ℕ))
 unfolding raw
 text_of_size None = case text_size None (λ u. None) (λ t. tt) nothing (λ u is. refl) (λ u. refl) null_text
-text_of_size (Some n) = case text_size (Some n) (λ xs. Some xs) bytes_of (raw n) (λ xs len. ap some len) (λ xs. refl) (some_text n)
+text_of_size (Some n) =
+    case text_size (Some n) (λ xs. Some xs) bytes_of (raw n) (λ xs len. ap some len) (λ xs. refl) (some_text n)
 
 pub size_agrees : (s : Option ℕ) (t : Option (List ℕ)) → (text_of_size s).Is t → text_size t ≡ s
 unfolding text_of_size case
@@ -96,8 +102,8 @@ IsDecimal d = (d.scale ≤ 28) × (d.magnitude < 2 ^ 96)
 abbrev pub decimal_fields : Format DecimalParts
 decimal_fields = u8 ▸ truth ▸ u32 ▸ u64
 
-pub decimal_chosen : (b : Bool) (p : DecimalParts) (d : DecimalValue) → (b ≡ true → p.0 ≤ 28) → p.1.1.0 < 2 ^ 32 → p.1.1.1 < 2 ^ 64
-    → cond b (Some (decimal_with p)) None ≡ Some d → IsDecimal d × (decimal_parts d ≡ p)
+pub decimal_chosen : (b : Bool) (p : DecimalParts) (d : DecimalValue) → (b ≡ true → p.0 ≤ 28) → p.1.1.0 < 2 ^ 32
+    → p.1.1.1 < 2 ^ 64 → cond b (Some (decimal_with p)) None ≡ Some d → IsDecimal d × (decimal_parts d ≡ p)
 decimal_chosen false p d small high low e = absurd cc
 decimal_chosen true p d small high low e =
     let back = halves p.1.1.0 p.1.1.1 low in
@@ -109,7 +115,8 @@ pub decimal_there : (p : DecimalParts) (d : DecimalValue) → decimal_fields.Is 
 unfolding next_by u8 u32 u64 made_where truth coded
 decimal_there p d is e = decimal_chosen (leb p.0 28) p d (leb-true _ _) is.1.1.0 is.1.1.1 e
 
-pub decimal_here : (d : DecimalValue) → IsDecimal d → decimal_fields.Is (decimal_parts d) × (decimal_of_parts (decimal_parts d) ≡ Some d)
+pub decimal_here : (d : DecimalValue) → IsDecimal d
+    → decimal_fields.Is (decimal_parts d) × (decimal_of_parts (decimal_parts d) ≡ Some d)
 unfolding next_by u8 u32 u64 made_where truth coded
 decimal_here d h =
     let small : leb d.scale 28 ≡ true = le-leb _ _ h.0 in
@@ -214,7 +221,8 @@ is_decimal s e = absurd cc
 
 -- what a scalar of a type has behind the number of the type; there is none of VARIANT
 unfoldable pub of_type : VarType → Format Scalar
-of_type types.Empty = case type_of types.Empty (λ u. scalars.Empty) (λ s. tt) nothing (λ u is. refl) (λ u. refl) is_empty
+of_type types.Empty =
+    case type_of types.Empty (λ u. scalars.Empty) (λ s. tt) nothing (λ u is. refl) (λ u. refl) is_empty
 of_type types.Null = case type_of types.Null (λ u. scalars.Null) (λ s. tt) nothing (λ u is. refl) (λ u. refl) is_null
 of_type types.I1 = case type_of types.I1 (λ x. scalars.I1 x) signed_in i8 (λ x is. refl) (λ x. refl) is_i1
 of_type types.I2 = case type_of types.I2 (λ x. scalars.I2 x) signed_in i16 (λ x is. refl) (λ x. refl) is_i2
@@ -227,10 +235,12 @@ of_type types.Ui2 = case type_of types.Ui2 (λ x. scalars.Ui2 x) unsigned_in u16
 of_type types.Ui4 = case type_of types.Ui4 (λ x. scalars.Ui4 x) unsigned_in u32 (λ x is. refl) (λ x. refl) is_ui4
 of_type types.Ui8 = case type_of types.Ui8 (λ x. scalars.Ui8 x) unsigned_in u64 (λ x is. refl) (λ x. refl) is_ui8
 of_type types.Uint = case type_of types.Uint (λ x. scalars.Uint x) unsigned_in u32 (λ x is. refl) (λ x. refl) is_uint
-of_type types.Error = case type_of types.Error (λ x. scalars.Error x) unsigned_in u32 (λ x is. refl) (λ x. refl) is_error
+of_type types.Error =
+    case type_of types.Error (λ x. scalars.Error x) unsigned_in u32 (λ x is. refl) (λ x. refl) is_error
 of_type types.Bool = case type_of types.Bool (λ x. scalars.Bool x) truth_in truth (λ x is. refl) (λ x. refl) is_bool
 of_type types.Bstr = case type_of types.Bstr (λ x. scalars.Bstr x) text_of text (λ x is. refl) (λ x. refl) is_bstr
-of_type types.Decimal = case type_of types.Decimal (λ x. scalars.Decimal x) decimal_of decimal (λ x is. refl) (λ x. refl) is_decimal
+of_type types.Decimal =
+    case type_of types.Decimal (λ x. scalars.Decimal x) decimal_of decimal (λ x is. refl) (λ x. refl) is_decimal
 of_type types.Variant = never
 
 pub type_agrees : (t : VarType) (s : Scalar) → (of_type t).Is s → type_of s ≡ t
@@ -256,7 +266,9 @@ type_agrees types.Decimal s h = h.0
 
 unfoldable pub vt : Format VarType
 unfolding u16 made_where
-vt = coded (λ t. Unit {0}) type_at vt_of u16 (λ n t is e. (tt, type_there n t e)) (λ t is. (omega (arith, vt_low t), type_here t))
+vt =
+    coded (λ t. Unit {0}) type_at vt_of u16 (λ n t is e. (tt, type_there n t e))
+    (λ t is. (omega (arith, vt_low t), type_here t))
 
 unfoldable pub scalar : Format Scalar
 scalar = tagged type_of vt of_type type_agrees

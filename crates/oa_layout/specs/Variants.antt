@@ -1,7 +1,7 @@
--- The images of values: the number of the type, which has VT_ARRAY for an array, and the scalar's content or the array (this
--- project's choice).
-use Rattle.std.proofs.Common.{◌≡◌, ℕ, ◌+◌, ◌-◌, ◌<◌, ◌≤◌, ◌^◌, Bool, true, false, cond, leb, [], Option, Some, None, refl, sym, ap, ◌∙◌}
-use Rattle.std.proofs.Common.{arith}
+-- The images of values: the number of the type, which has VT_ARRAY for an array, and the scalar's content or the array
+-- (this project's choice).
+use Rattle.std.proofs.Common.{◌≡◌, ℕ, ◌+◌, ◌-◌, ◌<◌, ◌≤◌, ◌^◌, Bool, true, false, cond, leb, [], Option, Some, None}
+use Rattle.std.proofs.Common.{refl, sym, ap, ◌∙◌, arith}
 use Rattle.std.specs.Prelude.{⊤}
 use Rattle.std.specs.Prelude.{nat_le, if◌then◌else◌}
 use Rattle.std.proofs.lemmas.Bool.{leb-true, le-leb, lt-leb}
@@ -39,10 +39,11 @@ pub one_there : (n : ℕ) (o : Option VarType) (k : ValueType) → type_at n ≡
 one_there n None k is e = absurd cc
 one_there n (Some t) k is e = sym (ap vt_of_value (same_content (kinds.One t) k e)) ∙ type_there n t is
 
-pub array_there : (n : ℕ) (o : Option VarType) (k : ValueType) → vt_array ≤ n → type_at (n - vt_array) ≡ o → array_at o ≡ Some k
-    → vt_of_value k ≡ n
+pub array_there : (n : ℕ) (o : Option VarType) (k : ValueType) → vt_array ≤ n → type_at (n - vt_array) ≡ o
+    → array_at o ≡ Some k → vt_of_value k ≡ n
 array_there n None k le is e = absurd cc
-array_there n (Some t) k le is e = let v = type_there (n - vt_array) t is in sym (ap vt_of_value (same_content (kinds.Array t) k e))
+array_there n (Some t) k le is e =
+    let v = type_there (n - vt_array) t is in sym (ap vt_of_value (same_content (kinds.Array t) k e))
     ∙ omega (arith, le, v)
 
 pub kind_there : (b : Bool) (n : ℕ) (k : ValueType) → (b ≡ true → vt_array ≤ n)
@@ -61,7 +62,8 @@ kind_here (kinds.Array t) =
 
 unfoldable pub kind : Format ValueType
 unfolding u16 made_where
-kind = coded (λ k. Unit {0}) kind_at vt_of_value u16 (λ n k is e. (tt, kind_there (leb vt_array n) n k (leb-true _ _) e))
+kind =
+    coded (λ k. Unit {0}) kind_at vt_of_value u16 (λ n k is e. (tt, kind_there (leb vt_array n) n k (leb-true _ _) e))
     (λ k is. kind_here k)
 
 -- what a value holds; of one of another kind nothing is meant
@@ -81,14 +83,16 @@ pub is_array : (t : VarType) (v : Variant) → value_type_of v ≡ kinds.Array t
 is_array t (variants.Array a) e = refl
 is_array t v e = absurd cc
 
-pub array_agrees : (t : VarType) (a : ArrayValue Scalar) → (array_of t).Is a → value_type_of (variants.Array a) ≡ kinds.Array t
+pub array_agrees : (t : VarType) (a : ArrayValue Scalar) → (array_of t).Is a
+    → value_type_of (variants.Array a) ≡ kinds.Array t
 unfolding array_of made_where
 array_agrees t a is = ap (λ (t : VarType). kinds.Array t) is.0
 
 unfoldable pub content : ValueType → Format Variant
 content (kinds.One t) = case value_type_of (kinds.One t) (λ s. variants.One s) scalar_in (of_type t)
     (λ s is. ap (λ (t : VarType). kinds.One t) (type_agrees t s is)) (λ s. refl) (is_one t)
-content (kinds.Array t) = case value_type_of (kinds.Array t) (λ a. variants.Array a) array_in (array_of t) (array_agrees t) (λ a. refl)
+content (kinds.Array t) =
+    case value_type_of (kinds.Array t) (λ a. variants.Array a) array_in (array_of t) (array_agrees t) (λ a. refl)
     (is_array t)
 
 pub content_agrees : (k : ValueType) (v : Variant) → (content k).Is v → value_type_of v ≡ k

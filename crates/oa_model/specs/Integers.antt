@@ -1,5 +1,5 @@
--- The integer types, as data, and the numbers of each: the numbers of its values, which for CY are counts of ten-thousandths (MS-OAUT
--- sections 2.2.7 and 2.2.24).
+-- The integer types, as data, and the numbers of each: the numbers of its values, which for CY are counts of
+-- ten-thousandths (MS-OAUT sections 2.2.7 and 2.2.24).
 use Rattle.std.specs.Prelude.{ℕ, ℤ, ◌^◌, ◌&&◌, nat_lt, pos, negsuc, Bool, true, false}
 use Rattle.oa_model.specs.Types.{is_signed_type}
 use Rattle.oa_model.specs.declared.var_type.VarType.{VarType}
@@ -23,7 +23,8 @@ is_integer_type t = false
 abbrev pub is_signed_integer : VarType → Bool
 is_signed_integer t = is_integer_type t && is_signed_type t
 
--- the numbers of an integer type, and of CY, are below 2^bits, and begin at -2^bits where the type is signed and else at 0
+-- the numbers of an integer type, and of CY, are below 2^bits, and begin at -2^bits where the type is signed and else
+-- at 0
 abbrev pub bits_of : VarType → ℕ
 bits_of types.I1 = 7
 bits_of types.I2 = 15

@@ -1,7 +1,8 @@
 -- How values lie in bytes (C706 chapter 14, little-endian).
 --
--- A form relates the place at which a stretch of bytes begins, counted from the first byte of its field, to the bytes of that stretch. The
--- form of a value is stated in the direction of reading: these bytes stand for that value. So a part that is ignored holds any bytes.
+-- A form relates the place at which a stretch of bytes begins, counted from the first byte of its field, to the bytes
+-- of that stretch. The form of a value is stated in the direction of reading: these bytes stand for that value. So a
+-- part that is ignored holds any bytes.
 use Rattle.std.specs.Prelude.{◌≡◌, ℕ, ◌+◌, ◌-◌, ◌%◌, ◌==◌, Bool, not, if◌then◌else◌, List, [], ◌∷◌, ◌++◌, length, drop}
 use Rattle.byteorder.specs.Endian.{little_number}
 
@@ -85,7 +86,8 @@ pairwise F [] (y ∷ ys) = given ⊥
 pairwise F (x ∷ xs) [] = given ⊥
 
 -- the value that make gives of a value that a stretch stands for
-pub record Made_is {A C : Type 0} (make : A → C) (F : A → ℕ → List ℕ → Type 0) (c : C) (place : ℕ) (bytes : List ℕ) : Type 0 where
+pub record Made_is {A C : Type 0} (make : A → C) (F : A → ℕ → List ℕ → Type 0) (c : C) (place : ℕ)
+    (bytes : List ℕ) : Type 0 where
   pub value : A
   pub is : make value ≡ c
   pub form : F value place bytes

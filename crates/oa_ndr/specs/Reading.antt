@@ -1,9 +1,10 @@
 -- Reading as functions on lists: the value at the front and what is left, or None.
 --
--- The steps are unfoldable, so that the laws in proofs/Laws need no continuation written out, and the code's clauses show names.
+-- The steps are unfoldable, so that the laws in proofs/Laws need no continuation written out, and the code's clauses
+-- show names.
 use Rattle.std.specs.Prelude.{⊤}
-use Rattle.std.specs.Prelude.{◌≡◌, ℕ, zero, suc, ◌+◌, ◌==◌, Bool, not, nat_lt, if◌then◌else◌, List, [], ◌∷◌, length, take, drop, Option}
-use Rattle.std.specs.Prelude.{Some, None, Result, Ok, Err}
+use Rattle.std.specs.Prelude.{◌≡◌, ℕ, zero, suc, ◌+◌, ◌==◌, Bool, not, nat_lt, if◌then◌else◌, List, [], ◌∷◌, length}
+use Rattle.std.specs.Prelude.{take, drop, Option, Some, None, Result, Ok, Err}
 use Rattle.byteorder.specs.Endian.{little_number}
 use Rattle.oa_ndr.specs.Forms.{padding}
 
@@ -49,7 +50,8 @@ unfoldable pub steps : ⊤
 unfolding bind give fail choose
 steps = tt
 
--- What a call on a reader returned, seen by view, and left is what reading gives; without a value the reader is as before.
+-- What a call on a reader returned, seen by view, and left is what reading gives; without a value the reader is as
+-- before.
 abbrev pub Gives : {X Y E : Type 0} → (X → Y) → Result X E → Cursor → Cursor → Option (Y × Cursor) → Type 0
 Gives view (Ok x) old new read = read ≡ Some (view x, new)
 Gives view (Err e) old new read = (read ≡ None) × (new ≡ old)

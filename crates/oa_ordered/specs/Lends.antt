@@ -13,9 +13,14 @@ abbrev pub OrdMembers : Type 0 → Type 0
 OrdMembers K = record { partial_cmp : K → K → Option Ordering; eq : K → K → Bool; cmp : K → K → Ordering }
 
 -- the key's value is the last one written through r, and at `None` the map stays as it is
-abbrev pub lends_get : (K V : RattleType) (o : OrdMembers K.Denot) → MutBor (List (K.Denot × V.Denot)) → K.Denot → Option (MutBor V.Denot) → Fml
-lends_get K V o m key r = LendsSo (the_row K V (record { cmp = o.cmp }) (record { eq = o.eq }) (record { partial_cmp = o.partial_cmp })) V m r (λ n w. n ≡ set_value (is_at (o.cmp key)) m.now w) (λ n. n ≡ m.now)
+abbrev pub lends_get : (K V : RattleType) (o : OrdMembers K.Denot) → MutBor (List (K.Denot × V.Denot)) → K.Denot
+    → Option (MutBor V.Denot) → Fml
+lends_get K V o m key r =
+    LendsSo (the_row K V (record { cmp = o.cmp }) (record { eq = o.eq }) (record { partial_cmp = o.partial_cmp })) V m r
+    (λ n w. n ≡ set_value (is_at (o.cmp key)) m.now w) (λ n. n ≡ m.now)
 
 -- the same of a block
-abbrev pub lends_in_block : (K V : RattleType) (o : OrdMembers K.Denot) → MutBor (List (K.Denot × V.Denot)) → K.Denot → Option (MutBor V.Denot) → Fml
-lends_in_block K V o m key r = LendsSo (block.the_row K V) V m r (λ n w. n ≡ set_value (is_at (o.cmp key)) m.now w) (λ n. n ≡ m.now)
+abbrev pub lends_in_block : (K V : RattleType) (o : OrdMembers K.Denot) → MutBor (List (K.Denot × V.Denot)) → K.Denot
+    → Option (MutBor V.Denot) → Fml
+lends_in_block K V o m key r =
+    LendsSo (block.the_row K V) V m r (λ n w. n ≡ set_value (is_at (o.cmp key)) m.now w) (λ n. n ≡ m.now)

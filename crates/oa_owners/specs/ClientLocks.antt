@@ -1,5 +1,6 @@
 -- Locks with their owners, the clients of a server, in the order in which they were taken. (This project's choice.)
-use Rattle.std.specs.Prelude.{ℕ, ◌==◌, ◌&&◌, not, is_some, Bool, if◌then◌else◌, List, [], ◌∷◌, filter, position, remove, Option, Some, None}
+use Rattle.std.specs.Prelude.{ℕ, ◌==◌, ◌&&◌, not, is_some, Bool, if◌then◌else◌, List, [], ◌∷◌, filter, position, remove}
+use Rattle.std.specs.Prelude.{Option, Some, None}
 use Rattle.std.specs.Ordering.{is_eq}
 use Rattle.oa_table.specs.Places.{place_cmp}
 use Rattle.oa_table.specs.declared.name.CellName.{CellName}
@@ -32,4 +33,5 @@ of_others client locks = filter (λ lock. not (lock.client == client)) locks
 -- the cells that the client's locks are of, one for each
 unfoldable pub cells_of : ℕ → List ClientLock → List CellName
 cells_of client [] = []
-cells_of client (lock ∷ locks) = if lock.client == client then lock.name ∷ cells_of client locks else cells_of client locks
+cells_of client (lock ∷ locks) = if lock.client == client then lock.name ∷ cells_of client locks
+    else cells_of client locks

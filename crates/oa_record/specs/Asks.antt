@@ -1,6 +1,6 @@
 -- Which body asks which request, and the refusal of a body that asks none (this project's choice).
-use Rattle.std.specs.Prelude.{◌≡◌, ◌⊎◌, ℕ, ◌+◌, ◌<◌, ◌≤◌, ◌==◌, nat_lt, if◌then◌else◌, List, [], ◌∷◌, ◌++◌, length, Option, Some, None, Result}
-use Rattle.std.specs.Prelude.{Ok, Err}
+use Rattle.std.specs.Prelude.{◌≡◌, ◌⊎◌, ℕ, ◌+◌, ◌<◌, ◌≤◌, ◌==◌, nat_lt, if◌then◌else◌, List, [], ◌∷◌, ◌++◌, length}
+use Rattle.std.specs.Prelude.{Option, Some, None, Result, Ok, Err}
 use Rattle.std.specs.List.{AllByRecursion}
 use Rattle.byteorder.specs.Endian.{little_number}
 use Rattle.oa_model.specs.Limits.{max_request_bytes}
@@ -15,8 +15,9 @@ use Rattle.oa_record.specs.declared.opcode.Opcode.{Opcode}
 use Rattle.oa_record.specs.declared.opcode.Opcode.TheVariants as opcodes
 use Rattle.oa_record.specs.declared.request.Call.{Call}
 use Rattle.oa_record.specs.declared.request.Request.{Request}
-use Rattle.oa_record.specs.declared.request.Request.TheVariants.{Create, Release, GetIds, Invoke, GetElement, PutElement, Redimension, Lock}
-use Rattle.oa_record.specs.declared.request.Request.TheVariants.{Unlock, TypeInfo, Objects}
+use Rattle.oa_record.specs.declared.request.Request.TheVariants.{Create, Release, GetIds, Invoke, GetElement}
+use Rattle.oa_record.specs.declared.request.Request.TheVariants.{PutElement, Redimension, Lock, Unlock, TypeInfo}
+use Rattle.oa_record.specs.declared.request.Request.TheVariants.{Objects}
 use Rattle.oa_record.specs.declared.fault.RecordFault.{RecordFault}
 use Rattle.oa_record.specs.declared.fault.RecordFault.TheVariants.{Stub, BadVarType, Memory}
 
@@ -50,7 +51,8 @@ request_of (Layout.GetIdsBody call) values = Some (GetIds call)
 request_of (Layout.InvokeBody call) values = Some (Invoke (call_of call values))
 request_of (Layout.GetElementBody element) values = Some (GetElement (call_of element.call values) element.indices)
 request_of (Layout.PutElementBody put) values =
-    with_last values (λ arguments value. Some (PutElement (call_of put.element.call arguments) put.element.indices value))
+    with_last values
+    (λ arguments value. Some (PutElement (call_of put.element.call arguments) put.element.indices value))
 request_of (Layout.RedimensionBody redim) values = Some (Redimension (call_of redim.call values) redim.bound)
 request_of (Layout.LockBody call) values = Some (Lock (call_of call values))
 request_of (Layout.UnlockBody call) values = Some (Unlock (call_of call values))
@@ -123,7 +125,8 @@ pub record IsBroken (body : List ℕ) : Type 0 where
 abbrev pub IsStub : List ℕ → Type 0
 IsStub body = HasNoLayout body ⊎ IsBroken body
 
--- what a refusal calls the field of this place: its index in rgvarg; the new value of an element, which is no argument, has none
+-- what a refusal calls the field of this place: its index in rgvarg; the new value of an element, which is no argument,
+-- has none
 abbrev pub field_index : Layout → ℕ → Option ℕ
 field_index (Layout.CreateBody class) place = Some place
 field_index (Layout.ReleaseBody object) place = Some place
@@ -137,8 +140,8 @@ field_index (Layout.UnlockBody call) place = Some place
 field_index (Layout.TypeInfoBody index) place = Some place
 field_index Layout.ObjectsBody place = Some place
 
--- the body is refused for the type of a value: it has a layout with no broken field, and this is the index of the first field with a type
--- of no value
+-- the body is refused for the type of a value: it has a layout with no broken field, and this is the index of the first
+-- field with a type of no value
 pub record IsBadVarType (body : List ℕ) (index : Option ℕ) : Type 0 where
   pub parts : Layout
   pub lies : HasLayout parts body
@@ -150,8 +153,9 @@ pub record IsBadVarType (body : List ℕ) (index : Option ℕ) : Type 0 where
 abbrev pub tag_at : List ℕ → ℕ
 tag_at body = if nat_lt (length body) 8 then 0 else little_number 4 body
 
--- The body is of an opcode whose bodies take memory to be read, and has the 8 bytes before the fields and those of the fields behind which
--- memory is taken: 56 in all of a look-up, 64 of a call. No other body is answered with want of memory.
+-- The body is of an opcode whose bodies take memory to be read, and has the 8 bytes before the fields and those of the
+-- fields behind which memory is taken: 56 in all of a look-up, 64 of a call. No other body is answered with want of
+-- memory.
 pub record MayStarve (body : List ℕ) : Type 0 where
   pub opcode : 0 < opcode_before_memory (opcode_at body)
   pub long : 8 + opcode_before_memory (opcode_at body) ≤ length body

@@ -1,8 +1,8 @@
--- How the fields of a request lie in its body (this project's choice). Each opcode has a case of `Layout`, `opcode_of`, `fields` and
--- `variant_fields`.
+-- How the fields of a request lie in its body (this project's choice). Each opcode has a case of `Layout`, `opcode_of`,
+-- `fields` and `variant_fields`.
 --
--- In each body: a tag of 4 bytes, the opcode in 2, 2 reserved bytes, and from the offset 8 on the opcode's own fields, which fill the body
--- exactly.
+-- In each body: a tag of 4 bytes, the opcode in 2, 2 reserved bytes, and from the offset 8 on the opcode's own fields,
+-- which fill the body exactly.
 use Rattle.std.specs.Prelude.{◌≡◌, ℕ, ℤ, ◌≤◌, List, [], ◌∷◌, ◌++◌, length}
 use Rattle.std.specs.Int.{w32, cast_signed}
 use Rattle.oa_model.specs.Limits.{max_arguments, max_dimensions, max_names}
@@ -69,16 +69,19 @@ dispid z = with (unit 4) (λ x. given (z ≡ cast_signed w32 x))
 abbrev pub field : List ℕ → Form
 field bytes = unit 4 (length bytes) ▸ ignored 4 ▸ exactly bytes ▸ align 8
 
--- what is called, and how: object, DISPID, interface, riid, lcid, flags, a reserved number (MS-OAUT section 3.1.4.4 has the meaning of
--- each)
+-- what is called, and how: object, DISPID, interface, riid, lcid, flags, a reserved number (MS-OAUT section 3.1.4.4 has
+-- the meaning of each)
 abbrev pub call_head : CallHead → Form
-call_head h = unit 4 h.object ▸ dispid h.dispid ▸ guid h.interface ▸ guid h.riid ▸ unit 4 h.lcid ▸ unit 2 h.flags ▸ ignored 2 ▸ nothing
+call_head h = unit 4 h.object ▸ dispid h.dispid ▸ guid h.interface ▸ guid h.riid ▸ unit 4 h.lcid ▸ unit 2 h.flags
+    ▸ ignored 2 ▸ nothing
 
--- a call: these, cArgs, cNamed, the DISPIDs of the named arguments, padding up to a multiple of 8, and the arguments in the order of rgvarg
+-- a call: these, cArgs, cNamed, the DISPIDs of the named arguments, padding up to a multiple of 8, and the arguments in
+-- the order of rgvarg
 abbrev pub call_parts : CallParts → Form
 call_parts c =
     call_head c.head
-    ▸ unit 4 (length c.fields) ▸ unit 4 (length c.named) ▸ given ((length c.fields ≤ max_arguments) × (length c.named ≤ max_arguments))
+    ▸ unit 4 (length c.fields) ▸ unit 4 (length c.named)
+    ▸ given ((length c.fields ≤ max_arguments) × (length c.named ≤ max_arguments))
     ▸ each dispid c.named ▸ align 8 ▸ each field c.fields
 
 -- an index list: how many, a reserved number, the indices, padding up to a multiple of 8
@@ -93,7 +96,8 @@ element_parts e = call_parts e.call ▸ indices e.indices
 abbrev pub put_parts : PutParts → Form
 put_parts p = element_parts p.element ▸ field p.value
 
--- a call that names an array, and its new first listed bound: cElements, lLbound (SAFEARRAYBOUND, MS-OAUT section 2.2.30.1)
+-- a call that names an array, and its new first listed bound: cElements, lLbound (SAFEARRAYBOUND, MS-OAUT section
+-- 2.2.30.1)
 abbrev pub redim_parts : RedimParts → Form
 redim_parts r = call_parts r.call ▸ bound r.bound
 
@@ -101,8 +105,8 @@ redim_parts r = call_parts r.call ▸ bound r.bound
 abbrev pub string : List ℕ → Form
 string units = unit 4 (length units) ▸ ignored 4 ▸ each (unit 2) units ▸ align 8
 
--- a look-up: object, a reserved number, interface, riid, lcid, the number of names, the names (MS-OAUT section 3.1.4.3 has the meaning of
--- each)
+-- a look-up: object, a reserved number, interface, riid, lcid, the number of names, the names (MS-OAUT section 3.1.4.3
+-- has the meaning of each)
 abbrev pub get_ids : GetIds → Form
 get_ids g =
     unit 4 g.object ▸ ignored 4 ▸ guid g.interface ▸ guid g.riid ▸ unit 4 g.lcid

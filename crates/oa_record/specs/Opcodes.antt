@@ -32,7 +32,8 @@ opcode_named n =
     else if n == 11 then Some opcodes.Objects
     else None
 
--- The number of no request: a body with it asks for another library (Replacement), which no layout describes, since its text is borrowed.
+-- The number of no request: a body with it asks for another library (Replacement), which no layout describes, since its
+-- text is borrowed.
 abbrev pub replacement_opcode : ℕ
 replacement_opcode = 12
 
@@ -44,8 +45,8 @@ opcode_at body = little_number 2 (drop 4 body)
 abbrev pub opcode_in : List ℕ → Option Opcode
 opcode_in body = if nat_lt (length body) 8 then None else opcode_named (opcode_at body)
 
--- How many bytes of its fields a body has before memory is taken to read it: those before the names of a look-up, and before the lists of a
--- call; 0 of an opcode whose fields have a fixed length.
+-- How many bytes of its fields a body has before memory is taken to read it: those before the names of a look-up, and
+-- before the lists of a call; 0 of an opcode whose fields have a fixed length.
 abbrev pub before_memory : Opcode → ℕ
 before_memory opcodes.Create = 0
 before_memory opcodes.Release = 0

@@ -1,4 +1,5 @@
--- Reading a layout as a function on lists, which says the same as the forms (proofs/LayoutLaws has the laws). (This project's choice.)
+-- Reading a layout as a function on lists, which says the same as the forms (proofs/LayoutLaws has the laws). (This
+-- project's choice.)
 use Rattle.std.specs.Prelude.{◌≡◌, ℕ, ℤ, ◌+◌, ◌<◌, ◌≤◌, ◌&&◌, nat_le, List, length, Option, Some, None, Result, Ok, Err}
 use Rattle.std.specs.Int.{w32, cast_signed}
 use Rattle.oa_model.specs.Limits.{max_arguments, max_dimensions, max_names}
@@ -61,7 +62,8 @@ StarvesAt (Err e) opcode s = IsStarved e opcode s
 abbrev pub IsStarvedBody : RecordFault → List ℕ → Type 0
 IsStarvedBody Stub body = Unit {0}
 IsStarvedBody (BadVarType i) body = Unit {0}
-IsStarvedBody Memory body = (0 < opcode_before_memory (opcode_at body)) × (8 + opcode_before_memory (opcode_at body) ≤ length body)
+IsStarvedBody Memory body =
+    (0 < opcode_before_memory (opcode_at body)) × (8 + opcode_before_memory (opcode_at body) ≤ length body)
 
 abbrev pub Starves : {X : Type 0} → Result X RecordFault → List ℕ → Type 0
 Starves (Ok x) body = Unit {0}
@@ -168,7 +170,8 @@ string_at = do
   give units
 
 abbrev pub ids_of : ℕ → List ℕ → List ℕ → ℕ → List (List ℕ) → GetIds
-ids_of object interface riid lcid names = record { object = object; interface = interface; riid = riid; lcid = lcid; names = names }
+ids_of object interface riid lcid names =
+    record { object = object; interface = interface; riid = riid; lcid = lcid; names = names }
 
 -- the names behind their number
 unfoldable pub names_at : ℕ → List ℕ → List ℕ → ℕ → ℕ → Reading GetIds

@@ -1,6 +1,7 @@
--- A body that asks for another library: the opcode 12, and one field, the library's text (this project's choice). The field is laid out as
--- a variant field is: how many bytes, a reserved number, the bytes, padding up to a multiple of 8.
-use Rattle.std.specs.Prelude.{ℕ, ◌+◌, ◌==◌, nat_lt, Bool, false, if◌then◌else◌, List, length, take, drop, Option, Some, None}
+-- A body that asks for another library: the opcode 12, and one field, the library's text (this project's choice). The
+-- field is laid out as a variant field is: how many bytes, a reserved number, the bytes, padding up to a multiple of 8.
+use Rattle.std.specs.Prelude.{ℕ, ◌+◌, ◌==◌, nat_lt, Bool, false, if◌then◌else◌, List, length, take, drop, Option, Some}
+use Rattle.std.specs.Prelude.{None}
 use Rattle.byteorder.specs.Endian.{little_number}
 use Rattle.oa_model.specs.Limits.{max_request_bytes}
 use Rattle.oa_ndr.specs.Forms.{padding}

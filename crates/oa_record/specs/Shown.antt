@@ -2,8 +2,9 @@
 use Rattle.oa_record.specs.Layouts.{Layout}
 use Rattle.oa_record.specs.Reading.{parts_of_element, put_of, redim_of}
 use Rattle.oa_record.specs.declared.body_parts.Parts.{Parts}
-use Rattle.oa_record.specs.declared.body_parts.Parts.TheVariants.{Create, Release, GetIds, Invoke, GetElement, PutElement, Redimension}
-use Rattle.oa_record.specs.declared.body_parts.Parts.TheVariants.{Lock, Unlock, TypeInfo, Objects}
+use Rattle.oa_record.specs.declared.body_parts.Parts.TheVariants.{Create, Release, GetIds, Invoke, GetElement}
+use Rattle.oa_record.specs.declared.body_parts.Parts.TheVariants.{PutElement, Redimension, Lock, Unlock, TypeInfo}
+use Rattle.oa_record.specs.declared.body_parts.Parts.TheVariants.{Objects}
 
 abbrev pub shown : Parts → Layout
 shown (Create class) = Layout.CreateBody class

@@ -25,8 +25,8 @@ use Rattle.oa_turn.specs.Turns.{Turn}
 abbrev pub MakesNoEvent : State → List ℕ → Type 0
 MakesNoEvent state body = (request : Request) → Asks body request → change_bytes (outcome state request).event ≡ []
 
--- A body that keeps the library makes four calls of the device at most, and where a checkpoint is due before its event those of one beside
--- them.
+-- A body that keeps the library makes four calls of the device at most, and where a checkpoint is due before its event
+-- those of one beside them.
 abbrev pub CallsForOne : {D : Type 0} {g : Ghosts D} → Store D g → Store D g → State → List ℕ → Type 0
 CallsForOne {D} {g} old new before body =
     (g.moment new.disk ≤ g.moment old.disk + 8)
@@ -36,15 +36,19 @@ CallsForOne {D} {g} old new before body =
 -- One that asks for another library makes those of a checkpoint of it at most.
 abbrev pub CallsForLibrary : {D : Type 0} {g : Ghosts D} → Store D g → Store D g → State → Type 0
 CallsForLibrary {D} {g} old new after =
-    IsTrue (g.is_honest old.disk) → g.moment new.disk ≤ g.moment old.disk + 2 * checkpoint_calls (canonical after.library) after.table
+    IsTrue (g.is_honest old.disk)
+    → g.moment new.disk ≤ g.moment old.disk + 2 * checkpoint_calls (canonical after.library) after.table
 
--- After a fault of the device a body is answered that the store has failed, and nothing is done. Before one it is answered by a turn,
--- or a call of the device fails in it: then the reply says that, and the state is the one after some turn of the body.
+-- After a fault of the device a body is answered that the store has failed, and nothing is done. Before one it is
+-- answered by a turn, or a call of the device fails in it: then the reply says that, and the state is the one after
+-- some turn of the body.
 pub record IsAnswered {D : Type 0} {g : Ghosts D} (old new : Store D g) (before after : State) (body : List ℕ)
     (reply : ReplyValue) : Type 0 where
-  pub late : old.stopped ≡ true → (reply ≡ failed body) × (after ≡ before) × (new.disk ≡ old.disk) × (new.stopped ≡ true)
+  pub late : old.stopped ≡ true
+      → (reply ≡ failed body) × (after ≡ before) × (new.disk ≡ old.disk) × (new.stopped ≡ true)
   pub going : old.stopped ≡ false → new.stopped ≡ false → Turn before body reply after
-  pub doubt : old.stopped ≡ false → new.stopped ≡ true → (reply ≡ faulted body) × ((due : ReplyValue) × Turn before body due after)
+  pub doubt : old.stopped ≡ false → new.stopped ≡ true
+      → (reply ≡ faulted body) × ((due : ReplyValue) × Turn before body due after)
   -- where it fails in a replacement, that is one which is done: the state is the one with the other library
   pub replaced : old.stopped ≡ false → new.stopped ≡ true → is_replacement body ≡ true
       → (due : ReplyValue) × Turn before body due after × (is_done due ≡ true)
@@ -52,12 +56,17 @@ pub record IsAnswered {D : Type 0} {g : Ghosts D} (old new : Store D g) (before 
   pub any_moment : old.stopped ≡ false → AllHoldState requests old before
       → LeavesState old new (λ c. HoldsState requests before c ⊎ HoldsState requests after c)
   -- and without a fault, at the end, those after
-  pub each : old.stopped ≡ false → new.stopped ≡ false → AllHoldState requests old before → AllHoldState requests new after
+  pub each : old.stopped ≡ false → new.stopped ≡ false → AllHoldState requests old before
+      → AllHoldState requests new after
   pub goes : Goes old new
-  -- A body that makes no event makes no call of the device, and so none fails; nor does one of which no other library comes.
-  pub quiet : old.stopped ≡ false → is_replacement body ≡ false → MakesNoEvent before body → (new.disk ≡ old.disk) × (new.stopped ≡ false)
-  pub refused : old.stopped ≡ false → new.stopped ≡ false → is_replacement body ≡ true → is_done reply ≡ false → new.disk ≡ old.disk
-  pub calls : old.stopped ≡ false → is_replacement body ≡ false → IsTrue (g.is_honest old.disk) → CallsForOne old new before body
+  -- A body that makes no event makes no call of the device, and so none fails; nor does one of which no other library
+  -- comes.
+  pub quiet : old.stopped ≡ false → is_replacement body ≡ false → MakesNoEvent before body
+      → (new.disk ≡ old.disk) × (new.stopped ≡ false)
+  pub refused : old.stopped ≡ false → new.stopped ≡ false → is_replacement body ≡ true → is_done reply ≡ false
+      → new.disk ≡ old.disk
+  pub calls : old.stopped ≡ false → is_replacement body ≡ false → IsTrue (g.is_honest old.disk)
+      → CallsForOne old new before body
   pub library_calls : old.stopped ≡ false → is_replacement body ≡ true → CallsForLibrary old new after
   -- it is a group of one, with its moments
   pub served : old.stopped ≡ false → IsServed requests 1 old new before after (body ∷ []) (reply ∷ [])
@@ -66,25 +75,30 @@ pub record IsAnswered {D : Type 0} {g : Ghosts D} (old new : Store D g) (before 
 pub record RenewsStore {D : Type 0} {g : Ghosts D} (old new : Store D g) (before after : State) : Type 0 where
   pub same : unlocked_table after.table ≡ unlocked_table before.table
   -- A stop at any moment leaves the old library or the new, with the table.
-  pub any_moment : AllHoldState requests old before → LeavesState old new (λ c. HoldsState requests before c ⊎ HoldsState requests after c)
+  pub any_moment : AllHoldState requests old before
+      → LeavesState old new (λ c. HoldsState requests before c ⊎ HoldsState requests after c)
   pub each : new.stopped ≡ false → AllHoldState requests old before → AllHoldState requests new after
   pub calls : CallsForLibrary old new after
   pub once : CallsForOneCheckpoint old new
   pub goes : Goes old new
 
 -- A body that asks for another library is answered, where no group is open: as a group of its own.
-pub record IsRenewed {D : Type 0} {g : Ghosts D} (old new : Store D g) (before after : State) (body : List ℕ) (reply : ReplyValue) : Type 0 where
+pub record IsRenewed {D : Type 0} {g : Ghosts D} (old new : Store D g) (before after : State) (body : List ℕ)
+    (reply : ReplyValue) : Type 0 where
   pub due : ReplyValue
-  pub replaced : IsAnsweredAlone requests (exchange body due []) (reply ∷ []) (grouping old before [] []) (grouping new after [] [])
+  pub replaced : IsAnsweredAlone requests (exchange body due []) (reply ∷ []) (grouping old before [] [])
+      (grouping new after [] [])
   pub calls : CallsForLibrary old new after
 
-abbrev pub IsRenewedOrLate : {D : Type 0} {g : Ghosts D} → Store D g → Store D g → State → State → List ℕ → ReplyValue → Type 0
+abbrev pub IsRenewedOrLate : {D : Type 0} {g : Ghosts D} → Store D g → Store D g → State → State → List ℕ → ReplyValue
+    → Type 0
 IsRenewedOrLate old new before after body reply =
     (old.stopped ≡ false → IsRenewed old new before after body reply)
     × (old.stopped ≡ true → (reply ≡ failed body) × (new ≡ old) × (after ≡ before))
 
 -- The device has failed before: all bodies are answered that, and nothing is done.
-pub record AnswersAfterFault {D : Type 0} {g : Ghosts D} (old new : Store D g) (before after : State) (bodies : List (List ℕ))
+pub record AnswersAfterFault {D : Type 0} {g : Ghosts D} (old new : Store D g) (before after : State)
+    (bodies : List (List ℕ))
     (replies : List ReplyValue) : Type 0 where
   pub told : replies ≡ map failed bodies
   pub state : after ≡ before

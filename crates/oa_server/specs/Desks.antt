@@ -28,7 +28,8 @@ told_to [] replies = []
 told_to (asker ∷ askers) [] = []
 told_to (asker ∷ askers) (reply ∷ replies) = told_with asker.client asker.why reply ∷ told_to askers replies
 
--- the frames of what a client is told: a reply; behind its end the stub, where it has one, and then that it has had its last
+-- the frames of what a client is told: a reply; behind its end the stub, where it has one, and then that it has had its
+-- last
 abbrev pub frames_with : ℕ → List (List ℕ) → List (ℕ × List ℕ)
 frames_with client replies = map (λ bytes. (client, bytes)) replies
 
@@ -41,13 +42,14 @@ all_frames [] = []
 all_frames (told ∷ tolds) = frames_of told ++ all_frames tolds
 
 -- the store, the state, what is held back, and the events that are not committed yet
-abbrev pub shared_grouping : {D : Type 0} {g : Ghosts D} → Store D g → State → List ClientLock → List Asker → List ReplyValue → List ℕ
-    → Grouping Shared ClientReply D g
+abbrev pub shared_grouping : {D : Type 0} {g : Ghosts D} → Store D g → State → List ClientLock → List Asker
+    → List ReplyValue → List ℕ → Grouping Shared ClientReply D g
 shared_grouping store state locks askers pending events =
     record { store = store; state = shared state locks; pending = told_to askers pending; events = events }
 
 abbrev pub desk_grouping : {D : Type 0} {g : Ghosts D} → Store D g → State → Desk → Grouping Shared ClientReply D g
-desk_grouping store state desk = shared_grouping store state desk.owners desk.askers.items desk.open_group.replies.items desk.open_group.batch
+desk_grouping store state desk =
+    shared_grouping store state desk.owners desk.askers.items desk.open_group.replies.items desk.open_group.batch
 
 -- where what is held back was handed out
 abbrev pub cleared_desk : {D : Type 0} {g : Ghosts D} → Store D g → State → Desk → Grouping Shared ClientReply D g
@@ -75,10 +77,12 @@ pub record IsEventless (body : List ℕ) (told : ClientReply) (before after : Sh
   pub same : held_of after.state ≡ held_of before.state
 
 -- Whatever such a turn has led to this state, it is taken by what follows.
-abbrev pub HoldsFrom : {D : Type 0} {g : Ghosts D} → Store D g → Desk → ClientReply → Shared → List ClientReply → Grouping Shared ClientReply D g → Type 0
+abbrev pub HoldsFrom : {D : Type 0} {g : Ghosts D} → Store D g → Desk → ClientReply → Shared → List ClientReply
+    → Grouping Shared ClientReply D g → Type 0
 HoldsFrom {D} {g} store desk reply after told new =
     (before : Shared) (body : List ℕ) → IsEventless body reply before after
-    → IsTaken shared_requests desk.open_group.size body told (record { store = store; state = before; pending = told_at desk; events = desk.open_group.batch }) new
+    → IsTaken shared_requests desk.open_group.size body told
+    (record { store = store; state = before; pending = told_at desk; events = desk.open_group.batch }) new
 
 -- What is held is let go of; all else stays.
 pub record ClearsDesk (old new : Desk) : Type 0 where

@@ -24,15 +24,18 @@ use Rattle.oa_server.specs.Talks.{Part, Parts, calls_of}
 use Rattle.oa_turn.specs.Turns.{Run}
 use Rattle.oa_server.specs.declared.storage.Storage.TheVariants.{Disk}
 
--- Where a crash leaves nothing but the contents of the disk, an opening begins a session with the table that it has found.
+-- Where a crash leaves nothing but the contents of the disk, an opening begins a session with the table that it has
+-- found.
 abbrev pub OpenedBegins : {D : Type 0} → Ghosts D → Type 0
 OpenedBegins {D} g =
     (disk : D) (library : TreeValue) (store : Store D g) (table : TableValue) → IsOpened g disk library store table
     → IsTrue (g.is_honest store.disk) → NothingPending g.contents g.image disk
-    → Sitting requests disk store (state_of (body_bytes store.bank.shape) library table) (state_of (body_bytes store.bank.shape) library table) []
+    → Sitting requests disk store (state_of (body_bytes store.bank.shape) library table)
+    (state_of (body_bytes store.bank.shape) library table) []
 
--- Where something was pending too, an opening goes on with what came before: a stop at the end of that may leave what the disk holds once
--- it is opened, and what a stop within the opening leaves. With it, which has the table that was found, a session begins.
+-- Where something was pending too, an opening goes on with what came before: a stop at the end of that may leave what
+-- the disk holds once it is opened, and what a stop within the opening leaves. With it, which has the table that was
+-- found, a session begins.
 abbrev pub OpenedJoins : {D : Type 0} → Ghosts D → Type 0
 OpenedJoins {D} g =
     (disk : D) (library : TreeValue) (store : Store D g) (table : TableValue) → IsOpened g disk library store table
@@ -43,32 +46,38 @@ OpenedJoins {D} g =
     × HoldsState requests (state_of (body_bytes store.bank.shape) library table) (g.contents store.disk)
     × ((m : ℕ) (c : List ℕ) → g.moment disk ≤ m → MayBeLeft g store.disk m c → MayBeLeft g disk (g.moment disk) c)
 
--- What an opening finds in an image that a stop may leave is the state that the image holds, without locks: its banks, its library and its
--- table.
+-- What an opening finds in an image that a stop may leave is the state that the image holds, without locks: its banks,
+-- its library and its table.
 abbrev pub FoundIsKept : Type 0
 FoundIsKept =
-    (bank : ℕ) (library : TreeValue) (first : State) (count : ℕ) (groups : List (List (Exchange ReplyValue))) (image : List ℕ) (table : TableValue)
+    (bank : ℕ) (library : TreeValue) (first : State) (count : ℕ) (groups : List (List (Exchange ReplyValue)))
+    (image : List ℕ) (table : TableValue)
     → IsChecked library → IsChecked first.library → (after : IsAfter requests count first groups image)
-    → IsStoreIn (Two bank) image (canonical library) table → unlocked_table table ≡ table → opened after.state ≡ state_of bank library table
+    → IsStoreIn (Two bank) image (canonical library) table → unlocked_table table ≡ table
+    → opened after.state ≡ state_of bank library table
 
 -- The parts of a session over streams go on with a session over the store, call by call.
 abbrev pub PartsGoOn : {D : Type 0} → Ghosts D → Type 0
 PartsGoOn {D} g =
     (start : D) (mid new : Store D g) (first last after : State) (calls : List (AnsweredCall ReplyValue)) (size : ℕ)
-    (parts : List Part) → Sitting requests start mid first last calls → Parts size (Disk mid) (Disk new) last parts after
+    (parts : List Part) → Sitting requests start mid first last calls
+    → Parts size (Disk mid) (Disk new) last parts after
     → new.stopped ≡ false → Sitting requests start new first after (calls ++ calls_of size parts)
 
--- They are calls of the session also where the device fails in one of them: from its start on all counts that was answered before them.
+-- They are calls of the session also where the device fails in one of them: from its start on all counts that was
+-- answered before them.
 abbrev pub PartsCount : {D : Type 0} → Ghosts D → Type 0
 PartsCount {D} g =
-    (start : D) (mid new : Store D g) (first last after : State) (calls : List (AnsweredCall ReplyValue)) (size : ℕ) (parts : List Part)
+    (start : D) (mid new : Store D g) (first last after : State) (calls : List (AnsweredCall ReplyValue)) (size : ℕ)
+    (parts : List Part)
     → (was : Sitting requests start mid first last calls) → mid.stopped ≡ false
     → Parts size (Disk mid) (Disk new) last parts after
-    → (session : IsSessionOn requests g start new.disk first (calls ++ calls_of size parts) after) × (session.stopped ≡ new.stopped)
+    → (session : IsSessionOn requests g start new.disk first (calls ++ calls_of size parts) after)
+    × (session.stopped ≡ new.stopped)
     × ((m : ℕ) → g.moment mid.disk ≤ m → was.session.count ≤ answered_by m session.moments)
 
--- Of a call on a store the bodies of the groups that were answered have the replies of one run of turns; without a fault of the device all
--- have.
+-- Of a call on a store the bodies of the groups that were answered have the replies of one run of turns; without a
+-- fault of the device all have.
 abbrev pub AnsweredAreRun : {D : Type 0} → Ghosts D → Type 0
 AnsweredAreRun {D} g =
     (size : ℕ) (old new : Store D g) (before after : State) (bodies : List (List ℕ)) (replies : List ReplyValue)

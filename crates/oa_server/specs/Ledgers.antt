@@ -16,7 +16,8 @@ use Rattle.oa_table.specs.Locks.{locks_at}
 use Rattle.oa_table.specs.declared.name.CellName.{CellName}
 use Rattle.oa_turn.specs.Turns.{Run, Turn}
 
--- Each array of the table has as many locks as clients have taken of it; its objects are numbered, in the order of their numbers.
+-- Each array of the table has as many locks as clients have taken of it; its objects are numbered, in the order of
+-- their numbers.
 pub record HasLedger (one : Shared) : Type 0 where
   pub numbered : is_numbered one.state.table ≡ true
   pub ledger : IsLedger one.locks one.state.table
@@ -27,15 +28,18 @@ OwnsAll client one = of_others client one.locks ≡ []
 
 -- so is every state behind a turn, and so behind many
 abbrev pub TurnsKeepLedger : Type 0
-TurnsKeepLedger = (asked : Exchange ClientReply) (old new : Shared) → HasLedger old → IsSharedTurn asked old new → HasLedger new
+TurnsKeepLedger =
+    (asked : Exchange ClientReply) (old new : Shared) → HasLedger old → IsSharedTurn asked old new → HasLedger new
 
 abbrev pub RunsKeepLedger : Type 0
-RunsKeepLedger = (old new : Shared) (entries : List (Exchange ClientReply)) → HasLedger old → TurnsOver shared_requests old entries new → HasLedger new
+RunsKeepLedger = (old new : Shared) (entries : List (Exchange ClientReply)) → HasLedger old
+    → TurnsOver shared_requests old entries new → HasLedger new
 
 -- and at the start of a session, at which no lock is held
 abbrev pub OpeningHasLedger : Type 0
 OpeningHasLedger =
-    (one : Shared) → is_numbered one.state.table ≡ true → IsStrictlySortedBy nat_cmp (keys_of one.state.table.objects) → HasLedger (opened one)
+    (one : Shared) → is_numbered one.state.table ≡ true → IsStrictlySortedBy nat_cmp (keys_of one.state.table.objects)
+    → HasLedger (opened one)
 
 -- behind the end of a session no array has a lock
 abbrev pub EndUnlocksAll : Type 0
@@ -49,7 +53,8 @@ IsTurnOfOne =
 
 abbrev pub IsRunOfOne : Type 0
 IsRunOfOne =
-    (client : ℕ) (old new : Shared) (entries : List (Exchange ClientReply)) (bodies : List (List ℕ)) (replies : List ReplyValue)
+    (client : ℕ) (old new : Shared) (entries : List (Exchange ClientReply)) (bodies : List (List ℕ))
+    (replies : List ReplyValue)
     → HasLedger old → OwnsAll client old → TurnsOver shared_requests old entries new
-    → map body_of entries ≡ map (λ body. tagged client (Body body)) bodies → map reply_of entries ≡ map (λ reply. Replies client reply) replies
-    → Run old.state bodies replies new.state
+    → map body_of entries ≡ map (λ body. tagged client (Body body)) bodies
+    → map reply_of entries ≡ map (λ reply. Replies client reply) replies → Run old.state bodies replies new.state

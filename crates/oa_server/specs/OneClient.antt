@@ -22,14 +22,16 @@ AsksBodies client [] (body ∷ bodies) = ⊥
 AsksBodies client (Now ∷ asks) bodies = AsksBodies client asks bodies
 AsksBodies client (Of other (Ends why) ∷ asks) bodies = ⊥
 AsksBodies client (Of other (Body own) ∷ asks) [] = ⊥
-AsksBodies client (Of other (Body own) ∷ asks) (body ∷ bodies) = (other ≡ client) × (own ≡ body) × AsksBodies client asks bodies
+AsksBodies client (Of other (Body own) ∷ asks) (body ∷ bodies) =
+    (other ≡ client) × (own ≡ body) × AsksBodies client asks bodies
 
 -- one frame for each reply, with its bytes
 abbrev pub frames_to : ℕ → List ReplyValue → List (ℕ × List ℕ)
 frames_to client replies = map (λ reply. (client, reply_record reply)) replies
 
 -- They are answered by a run of turns, as a server of one client has them, and a frame is handed out for each reply.
-pub record AnswersOneClient (client : ℕ) (old : State) (bodies : List (List ℕ)) (frames : List (ℕ × List ℕ)) (new : State) : Type 0 where
+pub record AnswersOneClient (client : ℕ) (old : State) (bodies : List (List ℕ)) (frames : List (ℕ × List ℕ))
+    (new : State) : Type 0 where
   pub replies : List ReplyValue
   pub run : Run old bodies replies new
   pub are : frames ≡ frames_to client replies
@@ -37,14 +39,18 @@ pub record AnswersOneClient (client : ℕ) (old : State) (bodies : List (List �
 -- So in memory
 abbrev pub OneClientInMemory : {D : Type 0} → Ghosts D → Type 0
 OneClientInMemory {D} g =
-    (client : ℕ) (disk : D) (old new : SharedEngine D g) (asks : List (Owned Brought)) (bodies : List (List ℕ)) (tolds : List (List (ℕ × List ℕ)))
-    → old.storage ≡ Memory disk → HasLedger (shared old.host old.desk.owners) → OwnsAll client (shared old.host old.desk.owners)
+    (client : ℕ) (disk : D) (old new : SharedEngine D g) (asks : List (Owned Brought)) (bodies : List (List ℕ))
+    (tolds : List (List (ℕ × List ℕ)))
+    → old.storage ≡ Memory disk → HasLedger (shared old.host old.desk.owners)
+    → OwnsAll client (shared old.host old.desk.owners)
     → AsksBodies client asks bodies → AllTurned asked_written old asks tolds new
     → AnswersOneClient client old.host bodies (all_told tolds) new.host
 
 -- and over a store, where no call of the device fails.
 abbrev pub OneClientOverStore : {D : Type 0} → Ghosts D → Type 0
 OneClientOverStore {D} g =
-    (client size : ℕ) (old new : Store D g) (before after : Shared) (asks : List (Owned Brought)) (bodies : List (List ℕ)) (frames : List (ℕ × List ℕ))
+    (client size : ℕ) (old new : Store D g) (before after : Shared) (asks : List (Owned Brought))
+    (bodies : List (List ℕ)) (frames : List (ℕ × List ℕ))
     → new.stopped ≡ false → HasLedger before → OwnsAll client before → AsksBodies client asks bodies
-    → AnswersStretches size old new before (asks ++ Now ∷ []) frames after → AnswersOneClient client before.state bodies frames after.state
+    → AnswersStretches size old new before (asks ++ Now ∷ []) frames after
+    → AnswersOneClient client before.state bodies frames after.state

@@ -1,5 +1,6 @@
 -- A body that is a group of its own is answered with its own reply, where no group is open. (This project's choice.)
-use Rattle.std.proofs.Common.{◌≡◌, ◌≤◌, inl, inr, ℕ, Bool, true, false, true≢false, List, [], ◌∷◌, ◌++◌, length, map, refl, sym, ap, ◌∙◌, subst, arith}
+use Rattle.std.proofs.Common.{◌≡◌, ◌≤◌, inl, inr, ℕ, Bool, true, false, true≢false, List, [], ◌∷◌, ◌++◌, length, map}
+use Rattle.std.proofs.Common.{refl, sym, ap, ◌∙◌, subst, arith}
 use Rattle.oa_disk.specs.declared.disk.Disk.{Ghosts}
 use Rattle.oa_groups.specs.Groupings.{Grouping, IsApart, IsFlushed, IsAnsweredAlone, IsTaken}
 use Rattle.oa_groups.specs.Turns.{Turns, exchange}
@@ -24,12 +25,14 @@ at_most_one x xs is = omega (arith, ap length is)
 at_most_none : {X : Type 0} (xs : List X) → xs ≡ [] → length xs ≤ 1
 at_most_none xs is = omega (arith, ap length is)
 
-as_many : (replies : List (List ℕ)) (told : List ReplyValue) → replies ≡ map reply_record told → length told ≤ 1 → length replies ≤ 1
+as_many : (replies : List (List ℕ)) (told : List ReplyValue) → replies ≡ map reply_record told → length told ≤ 1
+    → length replies ≤ 1
 as_many replies [] are few = at_most_none replies are
 as_many replies (x ∷ []) are few = at_most_one (reply_record x) replies are
 as_many replies (x ∷ (y ∷ told)) are few = absurd (omega (arith, few))
 
-module _ {S R D : Type 0} {g : Ghosts D} (t : Turns S R) (size : ℕ) (body : List ℕ) (told : List R) (old new : Grouping S R D g) (is : t.alone body ≡ true) (none : old.pending ≡ []) where
+module _ {S R D : Type 0} {g : Ghosts D} (t : Turns S R) (size : ℕ) (body : List ℕ) (told : List R)
+    (old new : Grouping S R D g) (is : t.alone body ≡ true) (none : old.pending ≡ []) where
   apart_told : IsApart t body told old new → length told ≤ 1
   apart_told apart =
       let nothing : apart.before ≡ [] = by apart.flushed in
@@ -56,16 +59,20 @@ module _ {S R D : Type 0} {g : Ghosts D} (t : Turns S R) (size : ℕ) (body : Li
   taken_told (inr (inr (inr (inl late)))) = at_most_one (t.failed body) told late.told_is
   taken_told (inr (inr (inr (inr apart)))) = apart_told apart
 
-pub one_reply : {D : Type 0} {g : Ghosts D} (old mid new : Engine D g) (held own : List (List ℕ)) (body : List ℕ) → ended_written old held mid → is_replacement body ≡ true → taken_written mid body own new → length own ≤ 1
+pub one_reply : {D : Type 0} {g : Ghosts D} (old mid new : Engine D g) (held own : List (List ℕ)) (body : List ℕ)
+    → ended_written old held mid → is_replacement body ≡ true → taken_written mid body own new → length own ≤ 1
 one_reply {D} {g} old mid new held own body ended is taken = by old.storage mid.storage new.storage ended taken
   where
-    over : (a b c : Storage D g) → (before between after : State) (one two three : OpenGroup) → InputEnds a before one held b between two
-        → Taken b between two body own c after three → length own ≤ 1
+    over : (a b c : Storage D g) → (before between after : State) (one two three : OpenGroup)
+        → InputEnds a before one held b between two → Taken b between two body own c after three → length own ≤ 1
     over a (Memory disk) c before between after one two three e t = at_most_one (reply_record t.1.0) own t.1.1
     over (Disk a) (Disk b) (Disk c) before between after one two three e t =
-        as_many own t.told t.are (taken_told requests two.size body t.told (grouping_of b between two) (grouping_of c after three) is e.none t.taken)
+        as_many own t.told t.are
+        (taken_told requests two.size body t.told (grouping_of b between two)
+        (grouping_of c after three) is e.none t.taken)
     over (Disk a) (Disk b) (Memory c) before between after one two three e t = absurd t.taken
-    over (Memory a) (Disk b) c before between after one two three e t = absurd (true≢false (ap (λ (s : Storage D g). is_disk s) e.0))
+    over (Memory a) (Disk b) c before between after one two three e t =
+        absurd (true≢false (ap (λ (s : Storage D g). is_disk s) e.0))
 
     by : (a b c : Storage D g) → InputEnds a old.host old.open_group held b mid.host mid.open_group
         → Taken b mid.host mid.open_group body own c new.host new.open_group → length own ≤ 1

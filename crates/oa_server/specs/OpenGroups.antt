@@ -1,5 +1,6 @@
 -- A server at work over a store, and the open group. (This project's choice.)
-use Rattle.std.specs.Prelude.{◌≡◌, ◌⊎◌, ◌-◌, ◌<◌, ◌≤◌, ◌++◌, ◌+◌, ◌*◌, ℕ, IsTrue, true, false, List, [], length, vec_capacity, Result, IsOk, IsErrOf, OnOk, OnErr}
+use Rattle.std.specs.Prelude.{◌≡◌, ◌⊎◌, ◌-◌, ◌<◌, ◌≤◌, ◌++◌, ◌+◌, ◌*◌, ℕ, IsTrue, true, false, List, [], length}
+use Rattle.std.specs.Prelude.{vec_capacity, Result, IsOk, IsErrOf, OnOk, OnErr}
 use Rattle.oa_disk.specs.Disk.{HasCounted}
 use Rattle.oa_disk.specs.declared.disk.Disk.{Ghosts}
 use Rattle.oa_groups.specs.Groupings.{Grouping, IsDue}
@@ -25,22 +26,24 @@ use Rattle.oa_decision.specs.Limits.{allowed}
 use Rattle.oa_decision.specs.States.{State}
 
 -- the store, the state, the replies that are held back, the events that are not committed yet
-abbrev pub grouping : {D : Type 0} {g : Ghosts D} → Store D g → State → List ReplyValue → List ℕ → Grouping State ReplyValue D g
+abbrev pub grouping : {D : Type 0} {g : Ghosts D} → Store D g → State → List ReplyValue → List ℕ
+    → Grouping State ReplyValue D g
 grouping store state pending events = record { store = store; state = state; pending = pending; events = events }
 
 -- with the open group, and where the replies of that were handed out
 abbrev pub grouping_of : {D : Type 0} {g : Ghosts D} → Store D g → State → OpenGroup → Grouping State ReplyValue D g
 grouping_of store state open_group = grouping store state open_group.replies.items open_group.batch
 
-abbrev pub cleared_grouping : {D : Type 0} {g : Ghosts D} → Store D g → State → OpenGroup → Grouping State ReplyValue D g
+abbrev pub cleared_grouping : {D : Type 0} {g : Ghosts D} → Store D g → State → OpenGroup
+    → Grouping State ReplyValue D g
 cleared_grouping store state open_group = grouping store state [] open_group.batch
 
 -- the state is one over the store's banks
 abbrev pub HasBanks : {D : Type 0} {g : Ghosts D} → Store D g → State → Type 0
 HasBanks store state = body_bytes store.bank.shape ≡ state.bank
 
--- One request more can be taken: there are places for a group's replies, and a group that goes on is not full. After a fault nothing
--- is held.
+-- One request more can be taken: there are places for a group's replies, and a group that goes on is not full. After a
+-- fault nothing is held.
 pub record IsReady {D : Type 0} {g : Ghosts D} (store : Store D g) (size places : ℕ) (pending : List ReplyValue)
     (events : List ℕ) : Type 0 where
   pub place : size ≤ places
@@ -51,7 +54,8 @@ pub record IsReady {D : Type 0} {g : Ghosts D} (store : Store D g) (size places 
 
 -- the open group can take one
 abbrev pub CanTake : {D : Type 0} {g : Ghosts D} → Store D g → OpenGroup → Type 0
-CanTake store open_group = IsReady store open_group.size (vec_capacity open_group.replies) open_group.replies.items open_group.batch
+CanTake store open_group =
+    IsReady store open_group.size (vec_capacity open_group.replies) open_group.replies.items open_group.batch
 
 -- it can when its replies were handed out
 abbrev pub CanTakeCleared : {D : Type 0} {g : Ghosts D} → Store D g → OpenGroup → Type 0
@@ -70,8 +74,8 @@ abbrev pub CallsForCheckpoint : {D : Type 0} {g : Ghosts D} → Store D g → St
 CallsForCheckpoint {D} {g} old new table =
     IsTrue (g.is_honest old.disk) → g.moment new.disk ≤ g.moment old.disk + 2 * checkpoint_calls old.library.items table
 
--- What a turn over a store leaves of it. What was committed stands; no checkpoint is made that is not due; the store has stopped exactly
--- where that failed.
+-- What a turn over a store leaves of it. What was committed stands; no checkpoint is made that is not due; the store
+-- has stopped exactly where that failed.
 pub record HoldsOn {D T E : Type 0} {g : Ghosts D} (events events' : List ℕ) (held : TableValue) (old new : Store D g)
     (result : Result T E) : Type 0 where
   pub carries : Carries events held old new
@@ -81,8 +85,10 @@ pub record HoldsOn {D T E : Type 0} {g : Ghosts D} (events events' : List ℕ) (
   pub stops : OnErr result (new.stopped ≡ true)
   pub goes : Goes old new
 
--- The checkpoint before a body's event, which was due, has failed: the turn is one that changes nothing that images hold.
-pub record IsCutOff {D : Type 0} {g : Ghosts D} (store : Store D g) (body events events' : List ℕ) (old new : State) : Type 0 where
+-- The checkpoint before a body's event, which was due, has failed: the turn is one that changes nothing that images
+-- hold.
+pub record IsCutOff {D : Type 0} {g : Ghosts D} (store : Store D g) (body events events' : List ℕ)
+    (old new : State) : Type 0 where
   pub turn : HasTurn body old new
   pub same : events' ≡ events
   pub due : IsDueFor store old events body
@@ -100,7 +106,8 @@ pub record IsAdded (event : Event) (events events' : List ℕ) (old new : State)
   pub behind : events' ≡ events ++ event_image event
 
 -- The device is called for a checkpoint alone, which is due and comes before the first event of a group.
-pub record CallsForRoom {D T : Type 0} {g : Ghosts D} (batch held : List ℕ) (old new : Store D g) (result : Result T HoldFault) : Type 0 where
+pub record CallsForRoom {D T : Type 0} {g : Ghosts D} (batch held : List ℕ) (old new : Store D g)
+    (result : Result T HoldFault) : Type 0 where
   pub quiet : 0 < length batch → new.disk ≡ old.disk
   pub undue : ample_bytes ≤ body_bytes old.bank.shape - old.bank.gate → new.disk ≡ old.disk
   pub first : IsErrOf result faults.Device → length batch ≡ 0
@@ -108,9 +115,11 @@ pub record CallsForRoom {D T : Type 0} {g : Ghosts D} (batch held : List ℕ) (o
   pub room : new.stopped ≡ false → HasRoom held new
 
 -- The store stops exactly where a checkpoint fails.
-pub record StopsAtCheckpoint {D T : Type 0} {g : Ghosts D} (old new : Store D g) (result : Result T HoldFault) : Type 0 where
+pub record StopsAtCheckpoint {D T : Type 0} {g : Ghosts D} (old new : Store D g)
+    (result : Result T HoldFault) : Type 0 where
   pub going : (IsErrOf result faults.Device → ⊥) → new.stopped ≡ false
-  pub stops : IsErrOf result faults.Device → (new.stopped ≡ true) × HasCounted (g.failures_of old.disk) (g.failures_of new.disk)
+  pub stops : IsErrOf result faults.Device
+      → (new.stopped ≡ true) × HasCounted (g.failures_of old.disk) (g.failures_of new.disk)
 
 -- what a checkpoint before an event leaves of the store, which stops exactly where it fails
 pub record MakesWay {D T : Type 0} {g : Ghosts D} (events : List ℕ) (held : TableValue) (old new : Store D g)

@@ -41,8 +41,8 @@ FindsOneOf image bank library table =
 abbrev pub HoldsOther : List ℕ → TreeValue → State → Type 0
 HoldsOther contents library state = HoldsState requests state contents × (canonical state.library ≢ canonical library)
 
--- Where a stop has left one of two states with which a server can begin, what is refused is the library: the contents hold that of
--- another one.
+-- Where a stop has left one of two states with which a server can begin, what is refused is the library: the contents
+-- hold that of another one.
 abbrev pub RefusesOneOf : (List ℕ → Type 0) → List ℕ → TreeValue → OpenFault → Type 0
 RefusesOneOf image contents library fault =
     (one two : State) → EachOneOf image one two → CanBegin one → CanBegin two
@@ -58,9 +58,10 @@ pub record IsUnfit (library : TreeValue) (contents : List ℕ) (fault : OpenFaul
   pub holds : IsStoreIn (Two bank) contents (canonical library) table
   pub cannot : CanServe bank library table → ⊥
 
--- What an opening has found on an honest disk. It writes nothing; at the end each image is a store of the table, and the contents were one
--- at the start.
-pub record IsFound {D : Type 0} (g : Ghosts D) (disk : D) (library : TreeValue) (store : Store D g) (table : TableValue) : Type 0 where
+-- What an opening has found on an honest disk. It writes nothing; at the end each image is a store of the table, and
+-- the contents were one at the start.
+pub record IsFound {D : Type 0} (g : Ghosts D) (disk : D) (library : TreeValue) (store : Store D g)
+    (table : TableValue) : Type 0 where
   pub honest : IsTrue (g.is_honest disk)
   pub reads : WritesNothing g.image g.moment g.image_since disk store.disk
   pub each : EachIs (g.image store.disk) store.bank.shape store.chosen store.bank.gate store.library.items table
@@ -69,7 +70,8 @@ pub record IsFound {D : Type 0} (g : Ghosts D) (disk : D) (library : TreeValue) 
   pub formatted : IsForeign (g.size_of disk) (g.contents disk) → ⊥
 
 -- a store of the library was opened on the disk, with a table, which has no locks
-pub record IsOpened {D : Type 0} (g : Ghosts D) (disk : D) (library : TreeValue) (store : Store D g) (table : TableValue) : Type 0 where
+pub record IsOpened {D : Type 0} (g : Ghosts D) (disk : D) (library : TreeValue) (store : Store D g)
+    (table : TableValue) : Type 0 where
   pub serves : CanServe (body_bytes store.bank.shape) library table
   pub numbered : is_numbered table ≡ true
   pub unlocked : unlocked_table table ≡ table
@@ -79,27 +81,32 @@ pub record IsOpened {D : Type 0} (g : Ghosts D) (disk : D) (library : TreeValue)
   pub size : g.size_of store.disk ≡ g.size_of disk
   pub unfailed : g.failures_of store.disk ≡ g.failures_of disk
   -- at most ten calls, and one for two bytes of snapshot and groups
-  pub calls : IsTrue (g.is_honest store.disk) → g.moment store.disk + length (canonical library) ≤ g.moment disk + (20 + store.bank.gate)
+  pub calls : IsTrue (g.is_honest store.disk)
+      → g.moment store.disk + length (canonical library) ≤ g.moment disk + (20 + store.bank.gate)
   pub found : IsTrue (g.is_honest store.disk) → IsFound g disk library store table
 
 -- What a refusal says of an honest disk: it is true of the contents at the start, and nothing was written.
 pub record IsTold {D : Type 0} (g : Ghosts D) (disk back : D) (library : TreeValue) (fault : OpenFault) : Type 0 where
   pub honest : IsTrue (g.is_honest disk)
   pub reads : WritesNothing g.image g.moment g.image_since disk back
-  pub says : RefusalSays (Some (canonical library)) (g.size_of disk) (g.contents disk) fault ⊎ IsUnfit library (g.contents disk) fault
+  pub says : RefusalSays (Some (canonical library)) (g.size_of disk) (g.contents disk) fault
+      ⊎ IsUnfit library (g.contents disk) fault
   -- a disk that is too small or not formatted is found to be that before memory is taken
   pub early : IsForeign (g.size_of disk) (g.contents disk) → ComesOfForeign fault
   -- where the contents hold another library, that is told, unless memory or the device is wanting
-  pub differs : (state : State) → HoldsOther (g.contents disk) library state → SpeaksOfContents fault → fault ≡ LibraryDiffers
+  pub differs : (state : State) → HoldsOther (g.contents disk) library state → SpeaksOfContents fault
+      → fault ≡ LibraryDiffers
   -- where a stop has left one of two states, nothing else is
   pub late : SpeaksOfContents fault → RefusesOneOf (g.image disk) (g.contents disk) library fault
   -- Read is told once all that was written is on the device, and Write where the sync at the start failed.
   pub tells : DeviceTells (g.contents disk) (g.image disk) (g.image back) fault
 
 -- nothing was opened, and the disk is handed back
-pub record IsNotOpened {D : Type 0} (g : Ghosts D) (disk back : D) (library : TreeValue) (fault : OpenFault) : Type 0 where
+pub record IsNotOpened {D : Type 0} (g : Ghosts D) (disk back : D) (library : TreeValue)
+    (fault : OpenFault) : Type 0 where
   pub size : g.size_of back ≡ g.size_of disk
   pub cause : IsCaused (g.failures_of disk) (g.failures_of back) fault
-  -- at most twelve calls, and one for two bytes of the disk; two where it is no store, four for its format, six for its library
+  -- at most twelve calls, and one for two bytes of the disk; two where it is no store, four for its format, six for its
+  -- library
   pub calls : IsTrue (g.is_honest back) → g.moment back ≤ g.moment disk + moments_until (24 + g.size_of disk) fault
   pub told : IsTrue (g.is_honest back) → IsTold g disk back library fault

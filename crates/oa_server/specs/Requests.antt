@@ -73,6 +73,7 @@ requests = record {
   sized = λ asked old new one. turn_bank old new asked.body asked.reply one.turn;
   stays = λ asked old new one plain. ap canonical (plain_library old new asked.body asked.reply one.turn plain);
   replays = λ asked old new one. one.replays;
-  tells = λ asked old new one. ap (λ (tag : ℕ). refusal tag stg_e_writefault None) (turn_tag old new asked.body asked.reply one.turn);
+  tells = λ asked old new one.
+      ap (λ (tag : ℕ). refusal tag stg_e_writefault None) (turn_tag old new asked.body asked.reply one.turn);
   leaves = λ asked old new one is. quiet_turn old new asked.body asked.reply one.turn (not_done asked.reply is);
 }

@@ -18,25 +18,30 @@ use Rattle.oa_share.specs.Readers.{Brought}
 use Rattle.oa_share.specs.Talking.{parted}
 use Rattle.oa_share.specs.declared.session_end.SessionEnd.{SessionEnd}
 
--- A whole session: what was asked, some ends, and a last *now* were answered by calls that were served, one for each *now*. The frames of
--- their replies were written, but for those that nobody heard since the writer had failed. Behind them all locks are taken back.
-pub record IsCallsOf {D : Type 0} {g : Ghosts D} (asked : List (Owned Brought)) (out out' : Output) (size : ℕ) (old new : Store D g)
+-- A whole session: what was asked, some ends, and a last *now* were answered by calls that were served, one for each
+-- *now*. The frames of their replies were written, but for those that nobody heard since the writer had failed. Behind
+-- them all locks are taken back.
+pub record IsCallsOf {D : Type 0} {g : Ghosts D} (asked : List (Owned Brought)) (out out' : Output) (size : ℕ)
+    (old new : Store D g)
     (before after : Shared) : Type 0 where
   pub ends : List (Owned Brought)
   pub heard : List (List (ℕ × List ℕ))
   pub unheard : List (List (ℕ × List ℕ))
   pub last : Shared
-  pub answers : AnswersStretches size old new before (parted is_replacement asked ++ (ends ++ Now ∷ [])) (all_told (heard ++ unheard)) last
+  pub answers : AnswersStretches size old new before (parted is_replacement asked ++ (ends ++ Now ∷ []))
+      (all_told (heard ++ unheard)) last
   pub written : (Writes out out' (spelled_told heard) × (unheard ≡ [])) ⊎ Breaks out out' (spelled_told heard)
   pub behind : after ≡ behind_all last
 
 -- So is each session of many clients over a store.
 abbrev pub SessionsAreCalls : {D : Type 0} → Ghosts D → Type 0
 SessionsAreCalls {D} g =
-    (input input' : Input) (out out' : Output) (size : ℕ) (old new : SharedEngine D g) (start : Store D g) (why : SessionEnd)
+    (input input' : Input) (out out' : Output) (size : ℕ) (old new : SharedEngine D g) (start : Store D g)
+    (why : SessionEnd)
     → old.storage ≡ Disk start → (session : HasServedClients input input' out out' size old new why)
     → (end : Store D g) × (new.storage ≡ Disk end)
-    × IsCallsOf session.serves.asked out out' size start end (shared old.host old.desk.owners) (shared new.host new.desk.owners)
+    × IsCallsOf session.serves.asked out out' size start end (shared old.host old.desk.owners)
+    (shared new.host new.desk.owners)
 
 abbrev pub stretch_calls : ℕ → List Stretch → List (AnsweredCall ClientReply)
 stretch_calls size [] = []
@@ -47,14 +52,17 @@ stretch_calls size (stretch ∷ stretches) =
 abbrev pub StretchesGoOn : {D : Type 0} → Ghosts D → Type 0
 StretchesGoOn {D} g =
     (start : D) (mid new : Store D g) (first last after : Shared) (calls : List (AnsweredCall ClientReply)) (size : ℕ)
-    (stretches : List Stretch) → Sitting shared_requests start mid first last calls → ServesStretches size mid new last stretches after
+    (stretches : List Stretch) → Sitting shared_requests start mid first last calls
+    → ServesStretches size mid new last stretches after
     → new.stopped ≡ false → Sitting shared_requests start new first after (calls ++ stretch_calls size stretches)
 
--- They are calls of it also where the device fails in one of them: from its start on all counts that was answered before them.
+-- They are calls of it also where the device fails in one of them: from its start on all counts that was answered
+-- before them.
 abbrev pub StretchesCount : {D : Type 0} → Ghosts D → Type 0
 StretchesCount {D} g =
     (start : D) (mid new : Store D g) (first last after : Shared) (calls : List (AnsweredCall ClientReply)) (size : ℕ)
     (stretches : List Stretch) → (was : Sitting shared_requests start mid first last calls) → mid.stopped ≡ false
     → ServesStretches size mid new last stretches after
     → (session : IsSessionOn shared_requests g start new.disk first (calls ++ stretch_calls size stretches) after)
-    × (session.stopped ≡ new.stopped) × ((m : ℕ) → g.moment mid.disk ≤ m → was.session.count ≤ answered_by m session.moments)
+    × (session.stopped ≡ new.stopped)
+    × ((m : ℕ) → g.moment mid.disk ≤ m → was.session.count ≤ answered_by m session.moments)

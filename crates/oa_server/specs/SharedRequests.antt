@@ -1,5 +1,6 @@
 -- The requests of many clients, as the theory of groups sees them. (This project's choice.)
-use Rattle.std.proofs.Common.{◌≡◌, inl, inr, ℕ, Bool, false, true≢false, List, [], ◌∷◌, map, Some, None, Result, Ok, Err, refl, sym, ap, ◌∙◌}
+use Rattle.std.proofs.Common.{◌≡◌, inl, inr, ℕ, Bool, false, true≢false, List, [], ◌∷◌, map, Some, None, Result, Ok}
+use Rattle.std.proofs.Common.{Err, refl, sym, ap, ◌∙◌}
 use Rattle.oa_canonical.specs.Canonical.{canonical}
 use Rattle.oa_frame.specs.declared.ends.End.TheVariants.{Closed, Cut, TooLong, BadHex, ReadFault, WriteFault}
 use Rattle.oa_groups.specs.Turns.{Turns}
@@ -9,7 +10,8 @@ use Rattle.oa_owners.specs.declared.owners.ClientLock.{ClientLock}
 use Rattle.oa_record.specs.Replies.{ReplyValue}
 use Rattle.oa_server.specs.Requests as one_client
 use Rattle.oa_server.specs.Sharing.{ClientReply, IsSharedTurn, Replies, Shared, TurnOf, TurnsFor}
-use Rattle.oa_server.specs.Sharing.{behind_all, behind_end, brought_by, failed, faulted, is_apart, is_done, shared, tagged, taken_back, withdrawn}
+use Rattle.oa_server.specs.Sharing.{behind_all, behind_end, brought_by, failed, faulted, is_apart, is_done, shared}
+use Rattle.oa_server.specs.Sharing.{tagged, taken_back, withdrawn}
 use Rattle.oa_share.specs.Readers.{Body, Brought, Ends}
 use Rattle.oa_decision.specs.Decided.{refusal}
 use Rattle.oa_decision.specs.States.{State}
@@ -34,7 +36,8 @@ KeepsBank old new = (new.bank ≡ old.bank) × HoldsSame old new
 one_back : (state : State) (name : CellName) → KeepsBank state (after_locks state (Some (Unlock name)))
 one_back state name = by (relocked (Unlock name) state.table) (λ table is. unlock_stays name state.table table is)
   where
-    by : (due : Result TableValue TableFault) → ((table : TableValue) → due ≡ Ok table → unlocked_table table ≡ unlocked_table state.table)
+    by : (due : Result TableValue TableFault)
+        → ((table : TableValue) → due ≡ Ok table → unlocked_table table ≡ unlocked_table state.table)
         → KeepsBank state (with_table state due)
     by (Ok table) same = (refl, record { table = same table refl; library = refl })
     by (Err fault) same = (refl, record { table = refl; library = refl })
@@ -75,7 +78,8 @@ module _ (client : ℕ) (told : ClientReply) (old new : Shared) where
       by (inr refused) = ap bank_of refused.same
   turn_sized (Ends why) one = ap bank_of one.behind ∙ (end_keeps client old).0
 
-  pub turn_stays : (brought : Brought) → TurnOf client brought told old new → is_alone (tagged client brought) ≡ false → text_of new ≡ text_of old
+  pub turn_stays : (brought : Brought) → TurnOf client brought told old new → is_alone (tagged client brought) ≡ false
+      → text_of new ≡ text_of old
   turn_stays (Body body) one plain = by one.turn
     where
       by : TurnsFor client body one.reply old new → text_of new ≡ text_of old
@@ -83,11 +87,13 @@ module _ (client : ℕ) (told : ClientReply) (old new : Shared) where
       by (inr refused) = ap text_of refused.same
   turn_stays (Ends why) one plain = ap text_of one.behind ∙ ap canonical (end_keeps client old).1.library
 
-  pub turn_tells : (brought : Brought) → TurnOf client brought told old new → withdrawn told ≡ faulted (tagged client brought)
+  pub turn_tells : (brought : Brought) → TurnOf client brought told old new
+      → withdrawn told ≡ faulted (tagged client brought)
   turn_tells (Body body) one = ap withdrawn one.told_is ∙ ap (λ (r : ReplyValue). Replies client r) (by one.turn)
     where
       by : TurnsFor client body one.reply old new → one_client.withdrawn one.reply ≡ one_client.faulted body
-      by (inl turn) = ap (λ (tag : ℕ). refusal tag stg_e_writefault None) (turn_tag old.state new.state body one.reply turn.turn)
+      by (inl turn) =
+          ap (λ (tag : ℕ). refusal tag stg_e_writefault None) (turn_tag old.state new.state body one.reply turn.turn)
       by (inr refused) = ap one_client.withdrawn refused.told
   turn_tells (Ends Closed) one = ap withdrawn one.told_is
   turn_tells (Ends Cut) one = ap withdrawn one.told_is
@@ -103,7 +109,9 @@ module _ (client : ℕ) (told : ClientReply) (old new : Shared) where
       undone = ap is_done (sym one.told_is) ∙ is
 
       by : TurnsFor client body one.reply old new → new ≡ old
-      by (inl turn) = ap (λ (s : State). shared s new.locks) (quiet_turn old.state new.state body one.reply turn.turn (not_done one.reply undone))
+      by (inl turn) =
+          ap (λ (s : State). shared s new.locks)
+          (quiet_turn old.state new.state body one.reply turn.turn (not_done one.reply undone))
           ∙ ap (λ (l : List ClientLock). shared old.state l) (turn.owners.undone undone)
       by (inr refused) = refused.same
   turn_leaves (Ends why) one is = absurd (true≢false (ap is_done (sym one.told_is) ∙ is))
@@ -126,8 +134,10 @@ shared_requests = record {
   opened = opened;
   reopens = λ one. (unlocked_twice one.state.table, refl, refl);
   sized = λ asked old new one. turn_sized one.client asked.reply old new one.brought one.turn;
-  stays = λ asked old new one plain. turn_stays one.client asked.reply old new one.brought one.turn (ap is_alone (sym one.body_is) ∙ plain);
+  stays = λ asked old new one plain.
+      turn_stays one.client asked.reply old new one.brought one.turn (ap is_alone (sym one.body_is) ∙ plain);
   replays = λ asked old new one. one.replays;
-  tells = λ asked old new one. turn_tells one.client asked.reply old new one.brought one.turn ∙ ap faulted (sym one.body_is);
+  tells = λ asked old new one.
+      turn_tells one.client asked.reply old new one.brought one.turn ∙ ap faulted (sym one.body_is);
   leaves = λ asked old new one is. turn_leaves one.client asked.reply old new one.brought one.turn is;
 }

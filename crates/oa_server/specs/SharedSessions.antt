@@ -16,9 +16,10 @@ use Rattle.oa_share.specs.Shared.{starting}
 use Rattle.oa_share.specs.Talking.{AllTurned, ServesClients}
 use Rattle.oa_share.specs.declared.session_end.SessionEnd.{SessionEnd}
 
--- A session of many clients: from a state with an empty open group on, all that was read, answered and written; and then the locks that
--- clients still had, since their streams had no end, are taken back.
-pub record HasServedClients {D : Type 0} {g : Ghosts D} (input input' : Input) (out out' : Output) (size : ℕ) (old new : SharedEngine D g)
+-- A session of many clients: from a state with an empty open group on, all that was read, answered and written; and
+-- then the locks that clients still had, since their streams had no end, are taken back.
+pub record HasServedClients {D : Type 0} {g : Ghosts D} (input input' : Input) (out out' : Output) (size : ℕ)
+    (old new : SharedEngine D g)
     (why : SessionEnd) : Type 0 where
   pub begun : SharedEngine D g
   pub storage : begun.storage ≡ old.storage
@@ -32,11 +33,13 @@ pub record HasServedClients {D : Type 0} {g : Ghosts D} (input input' : Input) (
   pub kept : new.storage ≡ left.storage
   pub behind : shared new.host new.desk.owners ≡ behind_all (shared left.host left.desk.owners)
 
--- Over a store, where no group was open: whatever is asked up to a last *now* is answered by calls that were served, one for each *now*.
+-- Over a store, where no group was open: whatever is asked up to a last *now* is answered by calls that were served,
+-- one for each *now*.
 abbrev pub StretchesAreServed : {D : Type 0} → Ghosts D → Type 0
 StretchesAreServed {D} g =
     (old new : SharedEngine D g) (start : Store D g) (asks : List (Owned Brought)) (tolds : List (List (ℕ × List ℕ)))
     → old.storage ≡ Disk start → old.desk.open_group.replies.items ≡ [] → old.desk.open_group.batch ≡ []
     → AllTurned asked_written old (asks ++ Now ∷ []) tolds new
-    → (last : Store D g) × (new.storage ≡ Disk last) × AnswersStretches old.desk.open_group.size start last (shared old.host old.desk.owners)
+    → (last : Store D g) × (new.storage ≡ Disk last)
+    × AnswersStretches old.desk.open_group.size start last (shared old.host old.desk.owners)
     (asks ++ Now ∷ []) (all_told tolds) (shared new.host new.desk.owners)

@@ -20,8 +20,8 @@ DeskCanTake (Memory disk) desk = ⊤
 DeskCanTake (Disk store) desk = DeskIsReady store desk
 
 -- a client's body or its end is taken; or *now* ends the open group
-abbrev pub TakenOver : {D : Type 0} {g : Ghosts D} → Owned Brought → ℕ → List ClientReply → Grouping Shared ClientReply D g → Grouping Shared ClientReply D g
-    → Type 0
+abbrev pub TakenOver : {D : Type 0} {g : Ghosts D} → Owned Brought → ℕ → List ClientReply
+    → Grouping Shared ClientReply D g → Grouping Shared ClientReply D g → Type 0
 TakenOver (Of client brought) size told old new = IsTaken shared_requests size (tagged client brought) told old new
 TakenOver Now size told old new = IsEnded shared_requests told old new × (new.pending ≡ []) × (new.events ≡ [])
 
@@ -35,10 +35,12 @@ pub record TakesOver {D : Type 0} {g : Ghosts D} (old : Store D g) (before : Sta
 
 -- In memory each is told at once, and nothing is held.
 abbrev pub AnswersInMemory : Shared → Owned Brought → List (ℕ × List ℕ) → Shared → Type 0
-AnswersInMemory before (Of client brought) frames after = (told : ClientReply) × (frames ≡ frames_of told) × TurnOf client brought told before after
+AnswersInMemory before (Of client brought) frames after =
+    (told : ClientReply) × (frames ≡ frames_of told) × TurnOf client brought told before after
 AnswersInMemory before Now frames after = (frames ≡ []) × (after ≡ before)
 
-abbrev pub AsksIn : {D : Type 0} {g : Ghosts D} → Storage D g → State → Desk → Owned Brought → List (ℕ × List ℕ) → Storage D g → State → Desk → Type 0
+abbrev pub AsksIn : {D : Type 0} {g : Ghosts D} → Storage D g → State → Desk → Owned Brought → List (ℕ × List ℕ)
+    → Storage D g → State → Desk → Type 0
 AsksIn (Memory old) before desk ask frames new after desk' =
     (new ≡ Memory old) × AnswersInMemory (shared before desk.owners) ask frames (shared after desk'.owners)
 AsksIn (Disk old) before desk ask frames (Disk new) after desk' = TakesOver old before desk ask frames new after desk'
@@ -49,5 +51,6 @@ abbrev pub TakesAsked : {D : Type 0} {g : Ghosts D} → SharedEngine D g → Typ
 TakesAsked engine = DeskCanTake engine.storage engine.desk
 
 -- one turn, with the frames that are handed out at it
-abbrev pub asked_written : {D : Type 0} {g : Ghosts D} → SharedEngine D g → Owned Brought → List (ℕ × List ℕ) → SharedEngine D g → Type 0
+abbrev pub asked_written : {D : Type 0} {g : Ghosts D} → SharedEngine D g → Owned Brought → List (ℕ × List ℕ)
+    → SharedEngine D g → Type 0
 asked_written old ask frames new = AsksIn old.storage old.host old.desk ask frames new.storage new.host new.desk

@@ -1,5 +1,7 @@
--- A server of many clients: its state with the owners of its locks, and what becomes of it at what a client brings. (This project's choice.)
-use Rattle.std.specs.Prelude.{◌≡◌, ◌⊎◌, ℕ, ◌==◌, Bool, true, false, if◌then◌else◌, List, [], ◌∷◌, ◌++◌, map, Some, None, ⊤}
+-- A server of many clients: its state with the owners of its locks, and what becomes of it at what a client brings.
+-- (This project's choice.)
+use Rattle.std.specs.Prelude.{◌≡◌, ◌⊎◌, ℕ, ◌==◌, Bool, true, false, if◌then◌else◌, List, [], ◌∷◌, ◌++◌, map, Some, None}
+use Rattle.std.specs.Prelude.{⊤}
 use Rattle.oa_frame.specs.declared.ends.End.{End}
 use Rattle.oa_frame.specs.declared.ends.End.TheVariants.{Closed, Cut, TooLong, BadHex, ReadFault, WriteFault}
 use Rattle.oa_groups.specs.Turns.{Exchange}
@@ -69,7 +71,8 @@ brought_by [] = Body []
 brought_by (client ∷ []) = Body []
 brought_by (client ∷ (kind ∷ rest)) = meant kind rest
 
--- what a client is told: the reply to a body; or that it has ended, with a stub where its last record was cut or too long
+-- what a client is told: the reply to a body; or that it has ended, with a stub where its last record was cut or too
+-- long
 pub data ClientReply : Type 0 where
   Replies : ℕ → ReplyValue → ClientReply
   Leaves : ℕ → End → ClientReply
@@ -108,7 +111,8 @@ relocked_by client (Lock name) locks = locks ++ record { client = client; name =
 relocked_by client (Unlock name) locks = without_one client name locks
 
 -- Locks change their owners by a LOCK and an UNLOCK that are done, and by no other body.
-pub record HasOwners (client : ℕ) (old : Shared) (body : List ℕ) (reply : ReplyValue) (locks : List ClientLock) : Type 0 where
+pub record HasOwners (client : ℕ) (old : Shared) (body : List ℕ) (reply : ReplyValue)
+    (locks : List ClientLock) : Type 0 where
   pub done : (change : LockChange) → AsksLock old.state body change → turns.is_done reply ≡ true
       → MayChange client change old.locks × (locks ≡ relocked_by client change old.locks)
   pub others : ((change : LockChange) → AsksLock old.state body change → ⊥) → locks ≡ old.locks
@@ -125,7 +129,8 @@ taken_back (name ∷ names) state = taken_back names (after_locks state (Some (U
 
 -- behind a client's end: all of its locks are taken back
 abbrev pub behind_end : ℕ → Shared → Shared
-behind_end client old = record { state = taken_back (cells_of client old.locks) old.state; locks = of_others client old.locks }
+behind_end client old =
+    record { state = taken_back (cells_of client old.locks) old.state; locks = of_others client old.locks }
 
 -- behind the end of a session: all locks that clients still have are taken back
 abbrev pub behind_all : Shared → Shared

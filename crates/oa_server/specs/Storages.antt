@@ -28,20 +28,23 @@ bank_of (Memory disk) = default_bank_bytes
 bank_of (Disk store) = body_bytes store.bank.shape
 
 -- One body is answered: by a turn in memory, where no call of the disk is made, or over a store.
-abbrev pub AnswersOne : {D : Type 0} {g : Ghosts D} → Storage D g → Storage D g → State → List ℕ → ReplyValue → State → Type 0
+abbrev pub AnswersOne : {D : Type 0} {g : Ghosts D} → Storage D g → Storage D g → State → List ℕ → ReplyValue → State
+    → Type 0
 AnswersOne (Memory old) (Memory new) before body reply after = (new ≡ old) × Turn before body reply after
 AnswersOne (Disk old) (Disk new) before body reply after = IsAnswered old new before after body reply
 AnswersOne (Memory old) (Disk new) before body reply after = ⊥
 AnswersOne (Disk old) (Memory new) before body reply after = ⊥
 
--- Bodies are answered in groups of a size: by a run in memory; over a store by a run with its moments, up to a fault of the device;
--- after a fault all are answered that.
-pub record ServesStore {D : Type 0} {g : Ghosts D} (size : ℕ) (old new : Store D g) (before : State) (bodies : List (List ℕ))
+-- Bodies are answered in groups of a size: by a run in memory; over a store by a run with its moments, up to a fault of
+-- the device; after a fault all are answered that.
+pub record ServesStore {D : Type 0} {g : Ghosts D} (size : ℕ) (old new : Store D g) (before : State)
+    (bodies : List (List ℕ))
     (replies : List ReplyValue) (after : State) : Type 0 where
   pub served : old.stopped ≡ false → IsServed requests size old new before after bodies replies
   pub late : old.stopped ≡ true → AnswersAfterFault old new before after bodies replies
 
-abbrev pub Serves : {D : Type 0} {g : Ghosts D} → ℕ → Storage D g → Storage D g → State → List (List ℕ) → List ReplyValue → State → Type 0
+abbrev pub Serves : {D : Type 0} {g : Ghosts D} → ℕ → Storage D g → Storage D g → State → List (List ℕ)
+    → List ReplyValue → State → Type 0
 Serves size (Memory old) (Memory new) before bodies replies after = (new ≡ old) × Run before bodies replies after
 Serves size (Disk old) (Disk new) before bodies replies after = ServesStore size old new before bodies replies after
 Serves size (Memory old) (Disk new) before bodies replies after = ⊥

@@ -23,16 +23,19 @@ pub record IsLateFor {D : Type 0} {g : Ghosts D} (old new : Store D g) (before a
   pub stopped : new.stopped ≡ true
 
 -- a stretch is a call that was served, in groups of a size
-pub record ServesStretch {D : Type 0} {g : Ghosts D} (size : ℕ) (old new : Store D g) (before : Shared) (stretch : Stretch)
+pub record ServesStretch {D : Type 0} {g : Ghosts D} (size : ℕ) (old new : Store D g) (before : Shared)
+    (stretch : Stretch)
     (after : Shared) : Type 0 where
   pub served : old.stopped ≡ false → IsServed shared_requests size old new before after stretch.bodies stretch.told
   pub late : old.stopped ≡ true → IsLateFor old new before after stretch.bodies stretch.told
 
 -- one behind the other
-abbrev pub ServesStretches : {D : Type 0} {g : Ghosts D} → ℕ → Store D g → Store D g → Shared → List Stretch → Shared → Type 0
+abbrev pub ServesStretches : {D : Type 0} {g : Ghosts D} → ℕ → Store D g → Store D g → Shared → List Stretch → Shared
+    → Type 0
 ServesStretches size old new before [] after = (new ≡ old) × (after ≡ before)
 ServesStretches {D} {g} size old new before (stretch ∷ stretches) after =
-    (mid : Store D g) × (state : Shared) × ServesStretch size old mid before stretch state × ServesStretches size mid new state stretches after
+    (mid : Store D g) × (state : Shared) × ServesStretch size old mid before stretch state
+    × ServesStretches size mid new state stretches after
 
 -- what was asked, cut behind each *now*; what no *now* follows is left out
 unfoldable pub cut_at_now : List (List ℕ) → List (Owned Brought) → List (List (List ℕ))
@@ -51,8 +54,10 @@ unfoldable pub all_told : List (List (ℕ × List ℕ)) → List (ℕ × List �
 all_told [] = []
 all_told (told ∷ tolds) = told ++ all_told tolds
 
--- Over a store: what was asked up to each *now* is a call that was served, and the frames are those of the replies of these calls, in order.
-pub record AnswersStretches {D : Type 0} {g : Ghosts D} (size : ℕ) (old new : Store D g) (before : Shared) (asks : List (Owned Brought))
+-- Over a store: what was asked up to each *now* is a call that was served, and the frames are those of the replies of
+-- these calls, in order.
+pub record AnswersStretches {D : Type 0} {g : Ghosts D} (size : ℕ) (old new : Store D g) (before : Shared)
+    (asks : List (Owned Brought))
     (frames : List (ℕ × List ℕ)) (after : Shared) : Type 0 where
   pub stretches : List Stretch
   pub are : cut_at_now [] asks ≡ map bodies_of stretches

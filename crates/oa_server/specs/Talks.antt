@@ -38,13 +38,16 @@ TakenIn (Disk old) before open_group body told (Disk new) after open_group' =
 TakenIn (Disk old) before open_group body told (Memory new) after open_group' = ⊥
 TakenIn (Memory old) before open_group body told new after open_group' = ⊥
 
-abbrev pub EndedIn : {D : Type 0} {g : Ghosts D} → Storage D g → State → OpenGroup → List ReplyValue → Storage D g → State → OpenGroup → Type 0
-EndedIn (Disk old) before open_group told (Disk new) after open_group' = IsEnded requests told (grouping_of old before open_group) (grouping_of new after open_group')
+abbrev pub EndedIn : {D : Type 0} {g : Ghosts D} → Storage D g → State → OpenGroup → List ReplyValue → Storage D g
+    → State → OpenGroup → Type 0
+EndedIn (Disk old) before open_group told (Disk new) after open_group' =
+    IsEnded requests told (grouping_of old before open_group) (grouping_of new after open_group')
 EndedIn (Disk old) before open_group told (Memory new) after open_group' = ⊥
 EndedIn (Memory old) before open_group told new after open_group' = ⊥
 
 -- the same, with the bytes of the replies, which have no length before them
-pub record IsTakenOver {D : Type 0} {g : Ghosts D} (old : Storage D g) (before : State) (open_group : OpenGroup) (body : List ℕ)
+pub record IsTakenOver {D : Type 0} {g : Ghosts D} (old : Storage D g) (before : State) (open_group : OpenGroup)
+    (body : List ℕ)
     (replies : List (List ℕ)) (new : Storage D g) (after : State) (open_group' : OpenGroup) : Type 0 where
   pub told : List ReplyValue
   pub are : replies ≡ map reply_record told
@@ -61,24 +64,32 @@ pub record IsEndedOver {D : Type 0} {g : Ghosts D} (old : Storage D g) (before :
   pub ended : EndedIn old before open_group told new after open_group'
 
 -- In memory every body has one reply, handed out at that body. Over a store the open group takes it.
-abbrev pub Taken : {D : Type 0} {g : Ghosts D} → Storage D g → State → OpenGroup → List ℕ → List (List ℕ) → Storage D g → State → OpenGroup → Type 0
-Taken (Memory old) before open_group body replies new after open_group' = (new ≡ Memory old) × turn_written before body replies after
-Taken (Disk old) before open_group body replies new after open_group' = IsTakenOver (Disk old) before open_group body replies new after open_group'
+abbrev pub Taken : {D : Type 0} {g : Ghosts D} → Storage D g → State → OpenGroup → List ℕ → List (List ℕ) → Storage D g
+    → State → OpenGroup → Type 0
+Taken (Memory old) before open_group body replies new after open_group' =
+    (new ≡ Memory old) × turn_written before body replies after
+Taken (Disk old) before open_group body replies new after open_group' =
+    IsTakenOver (Disk old) before open_group body replies new after open_group'
 
 -- So none is held when the input ends. Over a store the open group ends, and its replies are handed out.
-abbrev pub InputEnds : {D : Type 0} {g : Ghosts D} → Storage D g → State → OpenGroup → List (List ℕ) → Storage D g → State → OpenGroup → Type 0
-InputEnds (Memory old) before open_group replies new after open_group' = (new ≡ Memory old) × none_held before replies after
-InputEnds (Disk old) before open_group replies new after open_group' = IsEndedOver (Disk old) before open_group replies new after open_group'
+abbrev pub InputEnds : {D : Type 0} {g : Ghosts D} → Storage D g → State → OpenGroup → List (List ℕ) → Storage D g
+    → State → OpenGroup → Type 0
+InputEnds (Memory old) before open_group replies new after open_group' =
+    (new ≡ Memory old) × none_held before replies after
+InputEnds (Disk old) before open_group replies new after open_group' =
+    IsEndedOver (Disk old) before open_group replies new after open_group'
 
 -- what holds of a server between two bodies
 abbrev pub TakesBodies : {D : Type 0} {g : Ghosts D} → Engine D g → Type 0
 TakesBodies engine = OpenGroupIsReady engine.storage engine.open_group
 
 abbrev pub taken_written : {D : Type 0} {g : Ghosts D} → Engine D g → List ℕ → List (List ℕ) → Engine D g → Type 0
-taken_written old body replies new = Taken old.storage old.host old.open_group body replies new.storage new.host new.open_group
+taken_written old body replies new =
+    Taken old.storage old.host old.open_group body replies new.storage new.host new.open_group
 
 abbrev pub ended_written : {D : Type 0} {g : Ghosts D} → Engine D g → List (List ℕ) → Engine D g → Type 0
-ended_written old replies new = InputEnds old.storage old.host old.open_group replies new.storage new.host new.open_group
+ended_written old replies new =
+    InputEnds old.storage old.host old.open_group replies new.storage new.host new.open_group
 
 -- what was read and written, whatever the server does
 abbrev pub any_turn : Unit {0} → List ℕ → List (List ℕ) → Unit {0} → Type 0
@@ -110,20 +121,23 @@ abbrev pub handed_of : List Part → List (List (List ℕ))
 handed_of [] = []
 handed_of (part ∷ parts) = at_last part.bodies (map reply_record part.told) ++ handed_of parts
 
--- The last of these bodies ends a group: it fills it, or the checkpoint before its event, the group's first, has failed. Before it no
--- group is whole, and none of them is a group of its own.
-pub record IsWholeGroup {D : Type 0} {g : Ghosts D} (size : ℕ) (new : Store D g) (before : State) (bodies : List (List ℕ))
+-- The last of these bodies ends a group: it fills it, or the checkpoint before its event, the group's first, has
+-- failed. Before it no group is whole, and none of them is a group of its own.
+pub record IsWholeGroup {D : Type 0} {g : Ghosts D} (size : ℕ) (new : Store D g) (before : State)
+    (bodies : List (List ℕ))
     (told : List ReplyValue) (after : State) : Type 0 where
   pub group : List (Exchange ReplyValue)
   pub bodies_are : bodies ≡ map body_of group
   pub plain : NoneAlone is_replacement bodies
   pub run : TurnsOver requests before group after
-  pub short : (front : List (Exchange ReplyValue)) (last : Exchange ReplyValue) → group ≡ front ++ last ∷ [] → is_full size front ≡ false
+  pub short : (front : List (Exchange ReplyValue)) (last : Exchange ReplyValue) → group ≡ front ++ last ∷ []
+      → is_full size front ≡ false
   pub ends : IsWhole requests size before group
   pub whole : new.stopped ≡ false → (is_full size group ≡ true) × (told ≡ map reply_of group)
 
 -- These bodies are no group yet: another request could have come to them. None of them is a group of its own.
-pub record IsNoGroupYet {D : Type 0} {g : Ghosts D} (size : ℕ) (new : Store D g) (before : State) (bodies : List (List ℕ))
+pub record IsNoGroupYet {D : Type 0} {g : Ghosts D} (size : ℕ) (new : Store D g) (before : State)
+    (bodies : List (List ℕ))
     (told : List ReplyValue) (after : State) : Type 0 where
   pub held : List (Exchange ReplyValue)
   pub bodies_are : bodies ≡ map body_of held
@@ -132,8 +146,8 @@ pub record IsNoGroupYet {D : Type 0} {g : Ghosts D} (size : ℕ) (new : Store D 
   pub short : is_full size held ≡ false
   pub told_are : new.stopped ≡ false → told ≡ map reply_of held
 
--- The last of these bodies is a group of its own, and ends the group before it, whose replies are handed out at it too: that was not
--- whole yet, and none of its bodies is a group of its own.
+-- The last of these bodies is a group of its own, and ends the group before it, whose replies are handed out at it too:
+-- that was not whole yet, and none of its bodies is a group of its own.
 pub record EndsApart (size : ℕ) (before : State) (bodies : List (List ℕ)) : Type 0 where
   pub front : List (List ℕ)
   pub last : List ℕ
@@ -146,23 +160,26 @@ pub record EndsApart (size : ℕ) (before : State) (bodies : List (List ℕ)) : 
   pub run : TurnsOver requests before group state
   pub short : is_full size group ≡ false
 
--- So one group over a store, or the open one and the body that ends it; in memory, and after a fault of the device, one body.
-abbrev pub EndsGroup : {D : Type 0} {g : Ghosts D} → ℕ → Storage D g → Storage D g → State → List (List ℕ) → List ReplyValue
-    → State → Type 0
+-- So one group over a store, or the open one and the body that ends it; in memory, and after a fault of the device, one
+-- body.
+abbrev pub EndsGroup : {D : Type 0} {g : Ghosts D} → ℕ → Storage D g → Storage D g → State → List (List ℕ)
+    → List ReplyValue → State → Type 0
 EndsGroup size (Disk old) (Disk new) before bodies told after =
-    (old.stopped ≡ false → IsWholeGroup size new before bodies told after ⊎ EndsApart size before bodies) × (old.stopped ≡ true → length bodies ≡ 1)
+    (old.stopped ≡ false → IsWholeGroup size new before bodies told after ⊎ EndsApart size before bodies)
+    × (old.stopped ≡ true → length bodies ≡ 1)
 EndsGroup size (Disk old) (Memory new) before bodies told after = ⊥
 EndsGroup size (Memory old) new before bodies told after = length bodies ≡ 1
 
 -- So over a store; in memory, and after a fault of the device, none is held.
-abbrev pub EndsBefore : {D : Type 0} {g : Ghosts D} → ℕ → Storage D g → Storage D g → State → List (List ℕ) → List ReplyValue
-    → State → Type 0
+abbrev pub EndsBefore : {D : Type 0} {g : Ghosts D} → ℕ → Storage D g → Storage D g → State → List (List ℕ)
+    → List ReplyValue → State → Type 0
 EndsBefore size (Disk old) (Disk new) before bodies told after =
     (old.stopped ≡ false → IsNoGroupYet size new before bodies told after) × (old.stopped ≡ true → bodies ≡ [])
 EndsBefore size (Disk old) (Memory new) before bodies told after = ⊥
 EndsBefore size (Memory old) new before bodies told after = bodies ≡ []
 
--- A part is a call of its own, of so many bodies at most, and one group, or the open one and its last body, which is a group of its own.
+-- A part is a call of its own, of so many bodies at most, and one group, or the open one and its last body, which is a
+-- group of its own.
 pub record IsPart {D : Type 0} {g : Ghosts D} (size : ℕ) (old new : Storage D g) (before : State) (part : Part)
     (after : State) : Type 0 where
   pub few : length part.bodies ≤ size
@@ -180,10 +197,11 @@ abbrev pub calls_of : ℕ → List Part → List (AnsweredCall ReplyValue)
 calls_of size [] = []
 calls_of size (part ∷ parts) = record { size = size; bodies = part.bodies; replies = part.told } ∷ calls_of size parts
 
--- The bodies of a session part by part: the replies of each are handed out at its last body, that is, before the next one is read, and are
--- those of a call that is over by then. What the open group holds at the end is no group yet; it is a call too, whose replies are handed
--- out then.
-pub record InParts {D : Type 0} {g : Ghosts D} (size : ℕ) (old new : Storage D g) (before after : State) (bodies : List (List ℕ))
+-- The bodies of a session part by part: the replies of each are handed out at its last body, that is, before the next
+-- one is read, and are those of a call that is over by then. What the open group holds at the end is no group yet; it
+-- is a call too, whose replies are handed out then.
+pub record InParts {D : Type 0} {g : Ghosts D} (size : ℕ) (old new : Storage D g) (before after : State)
+    (bodies : List (List ℕ))
     (handed : List (List (List ℕ))) (held : List (List ℕ)) : Type 0 where
   pub parts : List Part
   pub open_bodies : List (List ℕ)
@@ -198,9 +216,11 @@ pub record InParts {D : Type 0} {g : Ghosts D} (size : ℕ) (old new : Storage D
   pub rest : EndsBefore size mid new state open_bodies told after
   pub ends : Serves size mid new state open_bodies told after
 
--- A whole session: what was read and written, and that these replies are what serving the bodies that were read and answered in groups of
--- this size makes. Where the writer failed before a body that is a group of its own, that body is none of them.
-pub record ServesSession {D : Type 0} {g : Ghosts D} (f : Frames) (last : List ℕ) (input input' : Input) (out out' : Output)
+-- A whole session: what was read and written, and that these replies are what serving the bodies that were read and
+-- answered in groups of this size makes. Where the writer failed before a body that is a group of its own, that body is
+-- none of them.
+pub record ServesSession {D : Type 0} {g : Ghosts D} (f : Frames) (last : List ℕ) (input input' : Input)
+    (out out' : Output)
     (size : ℕ) (old new : Storage D g) (before after : State) (served : Served) : Type 0 where
   pub io : Session f is_replacement any_turn any_end last input input' out out' tt tt served
   pub told : List ReplyValue
@@ -209,7 +229,8 @@ pub record ServesSession {D : Type 0} {g : Ghosts D} (f : Frames) (last : List �
   pub in_parts : InParts size old new before after io.bodies io.handed io.held
 
 -- the same of a server
-abbrev pub HasTalked : {D : Type 0} {g : Ghosts D} → Frames → Input → Input → Output → Output → ℕ → Engine D g → Engine D g → Served → Type 0
+abbrev pub HasTalked : {D : Type 0} {g : Ghosts D} → Frames → Input → Input → Output → Output → ℕ → Engine D g
+    → Engine D g → Served → Type 0
 HasTalked f input input' out out' size old new served =
     ServesSession f last_written input input' out out' size old.storage new.storage old.host new.host served
 

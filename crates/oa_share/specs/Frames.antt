@@ -27,8 +27,8 @@ frame_head_of bytes = headed (from_le_bytes w32 (take 4 bytes)) (from_le_bytes w
 abbrev pub frame_head : ℕ → ℕ → List ℕ
 frame_head client n = to_le_bytes w32 client ++ to_le_bytes w32 n
 
--- where the reading of frames stands: in a head, of which these bytes came; among a client's bytes, of which so many are still to come, one
--- at least; behind a head that says nothing, where all is passed over
+-- where the reading of frames stands: in a head, of which these bytes came; among a client's bytes, of which so many
+-- are still to come, one at least; behind a head that says nothing, where all is passed over
 pub data FramePlace : Type 0 where
   InHead : List ℕ → FramePlace
   Within : ℕ → ℕ → FramePlace

@@ -3,7 +3,8 @@ use Rattle.std.specs.Prelude.{ℕ, List, [], ◌∷◌, ◌++◌}
 use Rattle.oa_frame.specs.Framings.{records}
 use Rattle.oa_share.specs.Frames.{frame_of}
 
--- what is handed out is a client's number with a reply of its own, without a length, or with nothing: the client has had its last
+-- what is handed out is a client's number with a reply of its own, without a length, or with nothing: the client has
+-- had its last
 
 -- a reply as a session of records has it
 abbrev pub framed_reply : List ℕ → List ℕ

@@ -1,5 +1,7 @@
--- What the pieces of one client's stream bring, and what those of all bring, in the order in which they came. (This project's choice.)
-use Rattle.std.specs.Prelude.{ℕ, ◌+◌, ◌<◌, ◌≤◌, ◌≡◌, ◌⊎◌, ◌==◌, nat_lt, if◌then◌else◌, Bool, List, [], ◌∷◌, ◌++◌, length, take, drop, Option, Some, None}
+-- What the pieces of one client's stream bring, and what those of all bring, in the order in which they came. (This
+-- project's choice.)
+use Rattle.std.specs.Prelude.{ℕ, ◌+◌, ◌<◌, ◌≤◌, ◌≡◌, ◌⊎◌, ◌==◌, nat_lt, if◌then◌else◌, Bool, List, [], ◌∷◌, ◌++◌}
+use Rattle.std.specs.Prelude.{length, take, drop, Option, Some, None}
 use Rattle.std.specs.Int.{w32, from_le_bytes}
 use Rattle.oa_model.specs.Limits.{max_request_bytes}
 use Rattle.oa_frame.specs.declared.ends.End.{End}
@@ -31,7 +33,8 @@ asked_in reads states (Of client piece ∷ rest) = named client (reads (states c
     ++ asked_in reads (put_at client (reads (states client) piece).1 states) rest
 asked_in reads states (Now ∷ rest) = Now ∷ asked_in reads states rest
 
--- Of a client that is there: the bytes of the record that came so far; or it has had its end, and what follows is passed over.
+-- Of a client that is there: the bytes of the record that came so far; or it has had its end, and what follows is
+-- passed over.
 pub data ClientState : Type 0 where
   Held : List ℕ → ClientState
   Over : ClientState
@@ -60,8 +63,8 @@ abbrev pub ended : List ℕ → Brought
 ended [] = Ends Closed
 ended (x ∷ xs) = Ends Cut
 
--- The records of one client, as `records` has them: a length and as many bytes each. None: it is not there. Its first piece brings it, and
--- its end takes it away, so that its number may come again.
+-- The records of one client, as `records` has them: a length and as many bytes each. None: it is not there. Its first
+-- piece brings it, and its end takes it away, so that its number may come again.
 unfoldable pub records_of : Reads (Option ClientState)
 records_of None (Byte x) = recorded (x ∷ [])
 records_of None Last = (Ends Closed ∷ [], None)
@@ -95,6 +98,7 @@ IsEnd ReadFault bytes = ⊥
 IsEnd WriteFault bytes = ⊥
 
 -- these bytes of a client in this state bring these, and leave it in that state
-pub record ClientBrings (at : Option ClientState) (bytes : List ℕ) (all : List Brought) (new : Option ClientState) : Type 0 where
+pub record ClientBrings (at : Option ClientState) (bytes : List ℕ) (all : List Brought)
+    (new : Option ClientState) : Type 0 where
   pub brought : brought_in records_of at (pieces bytes) ≡ all
   pub after : behind records_of at (pieces bytes) ≡ new

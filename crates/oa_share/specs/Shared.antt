@@ -1,5 +1,6 @@
 -- One stream of the frames of many clients, taken apart. (This project's choice.)
-use Rattle.std.specs.Prelude.{◌≡◌, ◌<◌, ◌≤◌, ℕ, ◌-◌, ◌==◌, Bool, true, false, if◌then◌else◌, List, [], ◌∷◌, length, slice_range, take, ⊤}
+use Rattle.std.specs.Prelude.{◌≡◌, ◌<◌, ◌≤◌, ℕ, ◌-◌, ◌==◌, Bool, true, false, if◌then◌else◌, List, [], ◌∷◌, length}
+use Rattle.std.specs.Prelude.{slice_range, take, ⊤}
 use Rattle.std.specs.List.Sorted.{IsStrictlySortedBy}
 use Rattle.std.specs.Map.{keys_of}
 use Rattle.std.specs.Ordering.{nat_cmp}
@@ -31,7 +32,8 @@ StopsAtUnknown at (x ∷ xs) = (reads_nothing at ≡ false) × StopsAtUnknown (f
 -- the states of the clients behind these pieces
 unfoldable pub states_behind : {Z : Type 0} → Reads Z → States Z → List (Owned StreamPiece) → States Z
 states_behind reads states [] = states
-states_behind reads states (Of client piece ∷ rest) = states_behind reads (put_at client (reads (states client) piece).1 states) rest
+states_behind reads states (Of client piece ∷ rest) =
+    states_behind reads (put_at client (reads (states client) piece).1 states) rest
 states_behind reads states (Now ∷ rest) = states_behind reads states rest
 
 -- where the reading stands, and the clients that are there
@@ -48,13 +50,16 @@ Rises clients = IsStrictlySortedBy nat_cmp (keys_of clients)
 
 -- where the reading stands, by what is kept of it
 abbrev pub place_of : Bool → ℕ → ℕ → ℕ → List ℕ → FramePlace
-place_of broken left client have head = if broken then Broken else if left == 0 then InHead (take have head) else Within client left
+place_of broken left client have head = if broken then Broken else if left == 0 then InHead (take have head)
+    else Within client left
 
 -- these bytes, from this state on, bring these in this order, and leave that state
-pub record TakesApart (old : SharedState) (bytes : List ℕ) (all : List (Owned Brought)) (new : SharedState) : Type 0 where
+pub record TakesApart (old : SharedState) (bytes : List ℕ) (all : List (Owned Brought))
+    (new : SharedState) : Type 0 where
   pub brought : asked_in records_of (state_of old.clients) (items_in old.place bytes) ≡ all
   pub place : place_behind old.place bytes ≡ new.place
-  pub states : (client : ℕ) → states_behind records_of (state_of old.clients) (items_in old.place bytes) client ≡ state_of new.clients client
+  pub states : (client : ℕ)
+      → states_behind records_of (state_of old.clients) (items_in old.place bytes) client ≡ state_of new.clients client
 
 abbrev pub arrived : Arrival → List (Owned Brought)
 arrived things.Nothing = []
@@ -95,7 +100,8 @@ IsHeads Broken = ⊥
 pub record Begins (head : FrameHead) (old : SharedState) (all : List (Owned Brought)) (new : SharedState) : Type 0 where
   pub brought : asked_in records_of (state_of old.clients) (begun head).0 ≡ all
   pub place : new.place ≡ (begun head).1
-  pub states : (client : ℕ) → states_behind records_of (state_of old.clients) (begun head).0 client ≡ state_of new.clients client
+  pub states : (client : ℕ)
+      → states_behind records_of (state_of old.clients) (begun head).0 client ≡ state_of new.clients client
 
 -- the first bytes of these, so many, are a frame of this client that brings one whole record and no more
 pub record IsRecordFrame (bytes : List ℕ) (client count : ℕ) : Type 0 where
@@ -104,8 +110,8 @@ pub record IsRecordFrame (bytes : List ℕ) (client count : ℕ) : Type 0 where
   pub says : frame_head_of (take 8 bytes) ≡ head.Bytes client (count - 8)
   pub whole : IsWholeRecord (slice_range bytes 8 count)
 
--- The first bytes of these, so many, bring the body of one whole record, which ends with them and stands behind a head and a length, and leave
--- the stream as it was.
+-- The first bytes of these, so many, bring the body of one whole record, which ends with them and stands behind a head
+-- and a length, and leave the stream as it was.
 pub record BringsRecord (streams : SharedState) (bytes : List ℕ) (client count : ℕ) : Type 0 where
   pub some : 12 < count
   pub within : count ≤ length bytes

@@ -5,7 +5,8 @@ use Rattle.std.specs.BTreeMap.{is_at}
 use Rattle.std.specs.Ordering.{nat_cmp}
 use Rattle.oa_frame.specs.declared.ends.End.{End}
 use Rattle.oa_share.specs.Marks.{Last}
-use Rattle.oa_share.specs.Readers.{Body, Brought, Ends, Held, IsEnd, IsPartRecord, IsWholeRecord, Over, ClientState, records_of}
+use Rattle.oa_share.specs.Readers.{Body, Brought, Ends, Held, IsEnd, IsPartRecord, IsWholeRecord, Over, ClientState}
+use Rattle.oa_share.specs.Readers.{records_of}
 use Rattle.oa_share.specs.declared.found.Found.{Found}
 use Rattle.oa_share.specs.declared.found.Found.TheVariants as found
 use Rattle.oa_share.specs.declared.step.WholeRecord.{WholeRecord}
@@ -63,4 +64,5 @@ first_of (client ∷ clients) = Some client.0
 -- the end of the stream of the client with the lowest number, with which it goes; None where nobody is there
 abbrev pub EndsLowest : Option (ℕ × Option End) → List (ℕ × ClientState) → List (ℕ × ClientState) → Type 0
 EndsLowest None old new = (old ≡ []) × (new ≡ [])
-EndsLowest (Some ended) old new = (state : ClientState) × (old ≡ (ended.0, state) ∷ new) × EndsWith ended.1 (Some state) None
+EndsLowest (Some ended) old new =
+    (state : ClientState) × (old ≡ (ended.0, state) ∷ new) × EndsWith ended.1 (Some state) None

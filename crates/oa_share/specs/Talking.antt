@@ -1,5 +1,6 @@
 -- A session of many clients over a reader and a writer. (This project's choice.)
-use Rattle.std.specs.Prelude.{◌≡◌, ◌≢◌, ◌⊎◌, ℕ, ◌+◌, ◌<◌, ◌≤◌, Bool, true, false, if◌then◌else◌, List, [], ◌∷◌, ◌++◌, length, Some, Result, Ok, Err}
+use Rattle.std.specs.Prelude.{◌≡◌, ◌≢◌, ◌⊎◌, ℕ, ◌+◌, ◌<◌, ◌≤◌, Bool, true, false, if◌then◌else◌, List, [], ◌∷◌, ◌++◌}
+use Rattle.std.specs.Prelude.{length, Some, Result, Ok, Err}
 use Rattle.std.specs.Io.KnownBytes.{Consumes, IsAtEnd}
 use Rattle.oa_model.specs.Limits.{max_records}
 use Rattle.oa_stream.specs.Source.{Input, later}
@@ -36,18 +37,21 @@ ends_in (client ∷ clients) = named client.0 (records_of (Some client.1) Last).
 -- one turn after another, and what is handed out at each
 abbrev pub AllTurned : {S : Type 0} → SharedTurn S → S → List (Owned Brought) → List (List (ℕ × List ℕ)) → S → Type 0
 AllTurned turn old [] [] new = new ≡ old
-AllTurned {S} turn old (ask ∷ asks) (told ∷ tolds) new = (mid : S) × turn old ask told mid × AllTurned turn mid asks tolds new
+AllTurned {S} turn old (ask ∷ asks) (told ∷ tolds) new =
+    (mid : S) × turn old ask told mid × AllTurned turn mid asks tolds new
 AllTurned turn old [] (told ∷ tolds) new = ⊥
 AllTurned turn old (ask ∷ asks) [] new = ⊥
 
--- Of all bytes that a writer was given, `gone` have left it; `before` is how many it was given before these turns. At each *now* all had
--- left that it was given by then.
+-- Of all bytes that a writer was given, `gone` have left it; `before` is how many it was given before these turns. At
+-- each *now* all had left that it was given by then.
 abbrev pub HasLeftAtNow : ℕ → ℕ → List (Owned Brought) → List (List (ℕ × List ℕ)) → Type 0
 HasLeftAtNow gone before [] tolds = Unit {0}
 HasLeftAtNow gone before (ask ∷ asks) [] = Unit {0}
 HasLeftAtNow gone before (Now ∷ asks) (told ∷ tolds) =
-    (before + length (spelled_frames told) ≤ gone) × HasLeftAtNow gone (before + length (spelled_frames told)) asks tolds
-HasLeftAtNow gone before (Of client x ∷ asks) (told ∷ tolds) = HasLeftAtNow gone (before + length (spelled_frames told)) asks tolds
+    (before + length (spelled_frames told) ≤ gone)
+    × HasLeftAtNow gone (before + length (spelled_frames told)) asks tolds
+HasLeftAtNow gone before (Of client x ∷ asks) (told ∷ tolds) =
+    HasLeftAtNow gone (before + length (spelled_frames told)) asks tolds
 
 -- what was handed out last
 abbrev pub newest : List (List (ℕ × List ℕ)) → List (ℕ × List ℕ)
@@ -56,16 +60,19 @@ newest (told ∷ []) = told
 newest (told ∷ (next ∷ tolds)) = newest (next ∷ tolds)
 
 -- this was asked and answered, and all that was handed out was put
-pub record HasTold {S : Type 0} (turn : SharedTurn S) (asks : List (Owned Brought)) (out out' : Output) (old new : S) : Type 0 where
+pub record HasTold {S : Type 0} (turn : SharedTurn S) (asks : List (Owned Brought)) (out out' : Output)
+    (old new : S) : Type 0 where
   pub tolds : List (List (ℕ × List ℕ))
   pub run : AllTurned turn old asks tolds new
   pub written : Writes out out' (spelled_told tolds)
   pub left : HasLeftAtNow (length written.gone) (length out.kept) asks tolds
 
--- The writer failed: this was asked and answered, then these ends, and at last *now* was made. A first part of what was handed out has left;
--- nobody gets what was handed out at the last *now* where the writer had failed before. What is lost is no more than the writer may keep
--- back and was given last: so nothing more was answered once it had failed, but that *now*.
-pub record LosesWriter {S : Type 0} (turn : SharedTurn S) (asks ends : List (Owned Brought)) (out out' : Output) (old new : S) : Type 0 where
+-- The writer failed: this was asked and answered, then these ends, and at last *now* was made. A first part of what was
+-- handed out has left; nobody gets what was handed out at the last *now* where the writer had failed before. What is
+-- lost is no more than the writer may keep back and was given last: so nothing more was answered once it had failed,
+-- but that *now*.
+pub record LosesWriter {S : Type 0} (turn : SharedTurn S) (asks ends : List (Owned Brought)) (out out' : Output)
+    (old new : S) : Type 0 where
   pub given : List (List (ℕ × List ℕ))
   pub unheard : List (List (ℕ × List ℕ))
   pub run : AllTurned turn old (asks ++ (ends ++ Now ∷ [])) (given ++ unheard) new
@@ -81,8 +88,8 @@ input_end (InHead (x ∷ xs)) = over.Cut
 input_end (Within client n) = over.Cut
 input_end Broken = over.Unknown
 
--- Why the reading ended: the input did, between two frames or within one; a head said nothing; memory was refused among a client's bytes; the
--- reader failed, or so many bytes and calls of it were used up.
+-- Why the reading ended: the input did, between two frames or within one; a head said nothing; memory was refused among
+-- a client's bytes; the reader failed, or so many bytes and calls of it were used up.
 abbrev pub IsEndOf : SessionEnd → FramePlace → ℕ → Input → Type 0
 IsEndOf over.Closed place used input = (input_end place ≡ over.Closed) × IsAtEnd input.left
 IsEndOf over.Cut place used input = (input_end place ≡ over.Cut) × IsAtEnd input.left
@@ -101,7 +108,8 @@ ends_at over.ReadFault clients = []
 ends_at over.WriteFault clients = []
 
 -- all was answered and has left: what was asked, the ends, of the lowest number first, and a last *now*
-pub record TellsAll {S : Type 0} (turn : SharedTurn S) (asks : List (Owned Brought)) (why : SessionEnd) (streams : SharedState) (used : ℕ)
+pub record TellsAll {S : Type 0} (turn : SharedTurn S) (asks : List (Owned Brought)) (why : SessionEnd)
+    (streams : SharedState) (used : ℕ)
     (input : Input) (out out' : Output) (old new : S) : Type 0 where
   pub ended : IsEndOf why streams.place used input
   pub rise : Rises streams.clients
@@ -109,7 +117,8 @@ pub record TellsAll {S : Type 0} (turn : SharedTurn S) (asks : List (Owned Broug
   pub handed_on : IsHandedOn out'
 
 -- the writer failed, in what was asked, or in the ends
-pub record FailsToTell {S : Type 0} (turn : SharedTurn S) (asks : List (Owned Brought)) (why : SessionEnd) (clients : List (ℕ × ClientState))
+pub record FailsToTell {S : Type 0} (turn : SharedTurn S) (asks : List (Owned Brought)) (why : SessionEnd)
+    (clients : List (ℕ × ClientState))
     (out out' : Output) (old new : S) : Type 0 where
   pub ended : why ≡ over.WriteFault
   pub ends : List (Owned Brought)
@@ -118,10 +127,12 @@ pub record FailsToTell {S : Type 0} (turn : SharedTurn S) (asks : List (Owned Br
   pub rise : ends ≢ [] → Rises clients
   pub loses : LosesWriter turn asks ends out out' old new
 
--- A whole session of many clients, from some state of the reading on: the bytes that were taken; what they ask of all clients, in the order
--- in which it came; and its answers, each body that comes alone behind a *now*. Behind a head that says nothing no byte is taken.
--- A steady reader is called as often as bytes were taken at most, and once more: it brings one at each call, but for the last.
-pub record ServesClients {S : Type 0} (alone : List ℕ → Bool) (turn : SharedTurn S) (from : SharedState) (input input' : Input)
+-- A whole session of many clients, from some state of the reading on: the bytes that were taken; what they ask of all
+-- clients, in the order in which it came; and its answers, each body that comes alone behind a *now*. Behind a head
+-- that says nothing no byte is taken. A steady reader is called as often as bytes were taken at most, and once more: it
+-- brings one at each call, but for the last.
+pub record ServesClients {S : Type 0} (alone : List ℕ → Bool) (turn : SharedTurn S) (from : SharedState)
+    (input input' : Input)
     (out out' : Output) (old new : S) (why : SessionEnd) : Type 0 where
   pub taken : List ℕ
   pub asked : List (Owned Brought)
@@ -137,7 +148,8 @@ pub record ServesClients {S : Type 0} (alone : List ℕ → Bool) (turn : Shared
       ⊎ FailsToTell turn (parted alone asked) why streams.clients out out' old new
 
 -- a part of it, after which it goes on
-pub record TalksOn {S : Type 0} (alone : List ℕ → Bool) (turn : SharedTurn S) (from to : SharedState) (input input' : Input)
+pub record TalksOn {S : Type 0} (alone : List ℕ → Bool) (turn : SharedTurn S) (from to : SharedState)
+    (input input' : Input)
     (out out' : Output) (old new : S) : Type 0 where
   pub taken : List ℕ
   pub asked : List (Owned Brought)
@@ -154,9 +166,10 @@ abbrev pub one_ahead : List ℕ → ℕ
 one_ahead [] = 0
 one_ahead (x ∷ xs) = 1
 
--- A part that took some, or called the reader. What was read ahead before it, and behind it, is given too: a steady reader is called where
--- nothing is read ahead, and something is then.
-pub record MovesOn {S : Type 0} (alone : List ℕ → Bool) (turn : SharedTurn S) (from to : SharedState) (front front' : List ℕ) (input input' : Input)
+-- A part that took some, or called the reader. What was read ahead before it, and behind it, is given too: a steady
+-- reader is called where nothing is read ahead, and something is then.
+pub record MovesOn {S : Type 0} (alone : List ℕ → Bool) (turn : SharedTurn S) (from to : SharedState)
+    (front front' : List ℕ) (input input' : Input)
     (out out' : Output) (old new : S) : Type 0 where
   pub talks : TalksOn alone turn from to input input' out out' old new
   pub some : 0 < talks.calls + length talks.taken
@@ -164,7 +177,8 @@ pub record MovesOn {S : Type 0} (alone : List ℕ → Bool) (turn : SharedTurn S
   pub well : input'.faulted ≡ false
 
 -- the last part
-pub record IsOver {S : Type 0} (alone : List ℕ → Bool) (turn : SharedTurn S) (why : SessionEnd) (from to : SharedState) (front : List ℕ)
+pub record IsOver {S : Type 0} (alone : List ℕ → Bool) (turn : SharedTurn S) (why : SessionEnd) (from to : SharedState)
+    (front : List ℕ)
     (input input' : Input) (out out' : Output) (old new : S) : Type 0 where
   pub talks : TalksOn alone turn from to input input' out out' old new
   pub ended : IsEndOf why to.place 0 input'
@@ -172,13 +186,14 @@ pub record IsOver {S : Type 0} (alone : List ℕ → Bool) (turn : SharedTurn S)
   pub paced : input.steady ≡ true → talks.calls + one_ahead front ≤ length talks.taken + 1
 
 -- the last part, in which the writer failed
-pub record IsUnwritten {S : Type 0} (alone : List ℕ → Bool) (turn : SharedTurn S) (from : SharedState) (input input' : Input) (out out' : Output)
+pub record IsUnwritten {S : Type 0} (alone : List ℕ → Bool) (turn : SharedTurn S) (from : SharedState)
+    (input input' : Input) (out out' : Output)
     (old new : S) : Type 0 where
   pub serves : ServesClients alone turn from input input' out out' old new over.WriteFault
   pub uncalled : serves.calls ≡ 0
 
-abbrev pub Progresses : {S : Type 0} → (List ℕ → Bool) → SharedTurn S → Progress → SharedState → SharedState → List ℕ → List ℕ → Input → Input
-    → Output → Output → S → S → Type 0
+abbrev pub Progresses : {S : Type 0} → (List ℕ → Bool) → SharedTurn S → Progress → SharedState → SharedState → List ℕ
+    → List ℕ → Input → Input → Output → Output → S → S → Type 0
 Progresses alone turn progress.Goes from to front front' input input' out out' old new =
     MovesOn alone turn from to front front' input input' out out' old new
 Progresses alone turn (progress.Over why) from to front front' input input' out out' old new =
@@ -187,13 +202,15 @@ Progresses alone turn progress.Unwritten from to front front' input input' out o
     IsUnwritten alone turn from input input' out out' old new
 
 -- what was asked is answered; or the writer failed in it, or in the *now* before it
-abbrev pub AnswersAsked : {S : Type 0} → SharedTurn S → Result (Unit {0}) Loss → List (Owned Brought) → Output → Output → S → S → Type 0
+abbrev pub AnswersAsked : {S : Type 0} → SharedTurn S → Result (Unit {0}) Loss → List (Owned Brought) → Output → Output
+    → S → S → Type 0
 AnswersAsked turn (Ok u) asks out out' old new = HasTold turn asks out out' old new
 AnswersAsked turn (Err loss.Answered) asks out out' old new = LosesWriter turn asks [] out out' old new
 AnswersAsked turn (Err loss.Undone) asks out out' old new = LosesWriter turn [] [] out out' old new
 
 -- so one that comes after nothing else
-abbrev pub AnswersSingle : {S : Type 0} → SharedTurn S → Result (Unit {0}) Unwritten → Owned Brought → Output → Output → S → S → Type 0
+abbrev pub AnswersSingle : {S : Type 0} → SharedTurn S → Result (Unit {0}) Unwritten → Owned Brought → Output → Output
+    → S → S → Type 0
 AnswersSingle turn (Ok u) ask out out' old new = HasTold turn (ask ∷ []) out out' old new
 AnswersSingle turn (Err e) ask out out' old new = LosesWriter turn (ask ∷ []) [] out out' old new
 
@@ -203,26 +220,29 @@ MakesNow turn (Ok u) out out' old new = HasTold turn (Now ∷ []) out out' old n
 MakesNow turn (Err e) out out' old new = LosesWriter turn [] [] out out' old new
 
 -- so before a body that comes alone; before any other nothing is done
-abbrev pub MakesNowBefore : {S : Type 0} → SharedTurn S → Bool → Result (Unit {0}) Unwritten → Output → Output → S → S → Type 0
+abbrev pub MakesNowBefore : {S : Type 0} → SharedTurn S → Bool → Result (Unit {0}) Unwritten → Output → Output → S → S
+    → Type 0
 MakesNowBefore turn is_alone (Ok u) out out' old new =
     HasTold turn (if is_alone then Now ∷ [] else []) out out' old new × (is_alone ≡ true → IsHandedOn out')
 MakesNowBefore turn is_alone (Err e) out out' old new = LosesWriter turn [] [] out out' old new
 
 -- a first part of these ends, in which the writer failed
-pub record LosesInEnds {S : Type 0} (turn : SharedTurn S) (all : List (Owned Brought)) (out out' : Output) (old new : S) : Type 0 where
+pub record LosesInEnds {S : Type 0} (turn : SharedTurn S) (all : List (Owned Brought)) (out out' : Output)
+    (old new : S) : Type 0 where
   pub ends : List (Owned Brought)
   pub others : List (Owned Brought)
   pub are : ends ++ others ≡ all
   pub loses : LosesWriter turn [] ends out out' old new
 
 -- these ends are answered, or the writer failed in them
-abbrev pub AnswersEnds : {S : Type 0} → SharedTurn S → Result (Unit {0}) Unwritten → List (Owned Brought) → List (Owned Brought) → Output
-    → Output → S → S → Type 0
+abbrev pub AnswersEnds : {S : Type 0} → SharedTurn S → Result (Unit {0}) Unwritten → List (Owned Brought)
+    → List (Owned Brought) → Output → Output → S → S → Type 0
 AnswersEnds turn (Ok u) ends all out out' old new = HasTold turn ends out out' old new
 AnswersEnds turn (Err e) ends all out out' old new = LosesInEnds turn all out out' old new
 
 -- the end of the first client that is there
-pub record EndsNext {S : Type 0} (turn : SharedTurn S) (result : Result (Unit {0}) Unwritten) (clients clients' : List (ℕ × ClientState))
+pub record EndsNext {S : Type 0} (turn : SharedTurn S) (result : Result (Unit {0}) Unwritten)
+    (clients clients' : List (ℕ × ClientState))
     (out out' : Output) (old new : S) : Type 0 where
   pub ends : List (Owned Brought)
   pub are : ends_in clients ≡ ends ++ ends_in clients'
@@ -230,7 +250,8 @@ pub record EndsNext {S : Type 0} (turn : SharedTurn S) (result : Result (Unit {0
   pub answers : AnswersEnds turn result ends ends out out' old new
 
 -- the session is closed
-abbrev pub ClosesAll : {S : Type 0} → SharedTurn S → SessionEnd → SessionEnd → List (ℕ × ClientState) → Output → Output → S → S → Type 0
+abbrev pub ClosesAll : {S : Type 0} → SharedTurn S → SessionEnd → SessionEnd → List (ℕ × ClientState) → Output → Output
+    → S → S → Type 0
 ClosesAll turn result why clients out out' old new =
     ((result ≡ why) × HasTold turn (ends_at why clients ++ Now ∷ []) out out' old new × IsHandedOn out')
     ⊎ ((result ≡ over.WriteFault) × LosesInEnds turn (ends_in clients) out out' old new)

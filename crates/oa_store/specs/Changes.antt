@@ -1,5 +1,5 @@
--- What a commit, a checkpoint, an upgrade and a format may leave, each from an image of before to an image of after. All are quantified
--- over the library and the table that the image of before has. (This project's choice.)
+-- What a commit, a checkpoint, an upgrade and a format may leave, each from an image of before to an image of after.
+-- All are quantified over the library and the table that the image of before has. (This project's choice.)
 use Rattle.std.specs.Prelude.{◌≡◌, ◌≢◌, ◌⊎◌, ℕ, ◌+◌, ◌-◌, ◌≤◌, List, length, slice_index}
 use Rattle.oa_disk.specs.Disk.{Torn}
 use Rattle.oa_table.specs.Tables.{TableValue, first_table}
@@ -13,18 +13,21 @@ use Rattle.oa_store.specs.Stores.{body_place, head_place, IsStoreAt, IsStoreIn}
 
 -- the store of before, with the group or without it
 abbrev pub IsCommit : Shape → ℕ → ℕ → List ℕ → List ℕ → List ℕ → Type 0
-IsCommit shape chosen gate group old new = (library : List ℕ) (table after : TableValue) → IsStoreAt shape chosen gate library table old
+IsCommit shape chosen gate group old new =
+    (library : List ℕ) (table after : TableValue) → IsStoreAt shape chosen gate library table old
     → Replays group table after
-    → IsStoreAt shape chosen gate library table new ⊎ IsStoreAt shape chosen (gate + (5 + length group)) library after new
+    → IsStoreAt shape chosen gate library table new
+    ⊎ IsStoreAt shape chosen (gate + (5 + length group)) library after new
 
 -- with it
 abbrev pub IsCommitted : Shape → ℕ → ℕ → List ℕ → List ℕ → List ℕ → Type 0
-IsCommitted shape chosen gate group old new = (library : List ℕ) (table after : TableValue) → IsStoreAt shape chosen gate library table old
+IsCommitted shape chosen gate group old new =
+    (library : List ℕ) (table after : TableValue) → IsStoreAt shape chosen gate library table old
     → Replays group table after
     → IsStoreAt shape chosen (gate + (5 + length group)) library after new
 
--- The store of before, in this bank, or in the other one a store of this library and this table, with its closed gate at the next place.
--- The other bank may have another format.
+-- The store of before, in this bank, or in the other one a store of this library and this table, with its closed gate
+-- at the next place. The other bank may have another format.
 abbrev pub IsReplacement : Shape → ℕ → ℕ → Shape → ℕ → List ℕ → List ℕ → TableValue → List ℕ → List ℕ → Type 0
 IsReplacement shape chosen gate other next library text table old new = IsStoreAt shape chosen gate library table old
     → IsStoreAt shape chosen gate library table new ⊎ IsStoreAt other (1 - chosen) next text table new
@@ -36,10 +39,12 @@ IsReplaced shape chosen gate other next library text table old new = IsStoreAt s
 
 -- the same of the library of before
 abbrev pub IsSwitch : Shape → ℕ → ℕ → Shape → ℕ → List ℕ → TableValue → List ℕ → List ℕ → Type 0
-IsSwitch shape chosen gate other next library table old new = IsReplacement shape chosen gate other next library library table old new
+IsSwitch shape chosen gate other next library table old new =
+    IsReplacement shape chosen gate other next library library table old new
 
 abbrev pub IsSwitched : Shape → ℕ → ℕ → Shape → ℕ → List ℕ → TableValue → List ℕ → List ℕ → Type 0
-IsSwitched shape chosen gate other next library table old new = IsReplaced shape chosen gate other next library library table old new
+IsSwitched shape chosen gate other next library table old new =
+    IsReplaced shape chosen gate other next library library table old new
 
 -- a bank of format 2 with bodies of this size may follow one of format 1, and one of its own format
 abbrev pub MayFollow : ℕ → Shape → Type 0
@@ -71,5 +76,6 @@ IsFormatting size before library image = ((d : List ℕ) × before d × Torn 0 1
 -- the bank of number 0, without groups, and the selector that names it
 pub record HasBank (size : ℕ) (library : List ℕ) (table : TableValue) (gate : ℕ) (image : List ℕ) : Type 0 where
   pub size_is : disk_bytes (Two size) ≤ length image
-  pub bank : IsBank (Two size) (from_place (head_place 0) image) (from_place (body_place (Two size) 0) image) library table gate
+  pub bank : IsBank (Two size) (from_place (head_place 0) image)
+      (from_place (body_place (Two size) 0) image) library table gate
   pub selector : slice_index image 4096 ≡ 0

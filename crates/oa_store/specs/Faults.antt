@@ -16,7 +16,8 @@ use Rattle.oa_journal.specs.Shapes.{disk_bytes}
 use Rattle.oa_store.specs.declared.fault.FindFault.{FindFault}
 use Rattle.oa_store.specs.declared.fault.FindFault.TheVariants as finds
 use Rattle.oa_store.specs.declared.fault.OpenFault.{OpenFault}
-use Rattle.oa_store.specs.declared.fault.OpenFault.TheVariants.{NotAStore, OldFormat, LibraryDiffers, Damaged, Device, Memory}
+use Rattle.oa_store.specs.declared.fault.OpenFault.TheVariants.{NotAStore, OldFormat, LibraryDiffers, Damaged, Device}
+use Rattle.oa_store.specs.declared.fault.OpenFault.TheVariants.{Memory}
 use Rattle.oa_store.specs.declared.fault.UpgradeFault.{UpgradeFault}
 use Rattle.oa_store.specs.declared.fault.UpgradeFault.TheVariants as upgrades
 use Rattle.oa_store.specs.Stores.{body_place, head_place, IsFormatted, IsForeign, IsStoreIn}
@@ -71,7 +72,8 @@ ComesOfForeign (Damaged place) = ⊥
 ComesOfForeign (Device fault) = ⊤
 ComesOfForeign Memory = ⊥
 
--- How far the clock rises at most until a refusal, two moments a call: one that comes before a body is looked at comes after few calls.
+-- How far the clock rises at most until a refusal, two moments a call: one that comes before a body is looked at comes
+-- after few calls.
 abbrev pub moments_until : ℕ → OpenFault → ℕ
 moments_until most NotAStore = 4
 moments_until most OldFormat = 8
@@ -89,8 +91,8 @@ IsCaused before now (Damaged place) = now ≡ before
 IsCaused before now (Device fault) = HasCounted before now
 IsCaused before now Memory = now ≡ before
 
--- Which kind of call failed. All that was written is on the device before the first read; where the sync that brings it there fails,
--- nothing falls away of what a crash may leave.
+-- Which kind of call failed. All that was written is on the device before the first read; where the sync that brings it
+-- there fails, nothing falls away of what a crash may leave.
 abbrev pub IsFailed : List ℕ → (List ℕ → Type 0) → (List ℕ → Type 0) → DeviceFault → Type 0
 IsFailed contents before after devices.Read = Only contents after
 IsFailed contents before after devices.Write = (c : List ℕ) → before c → after c
@@ -111,7 +113,8 @@ pub record IsOther (contents library : List ℕ) : Type 0 where
   pub size : ℕ
   pub room : disk_bytes (Two size) ≤ length contents
   pub other : List ℕ
-  pub has : HasLibrary (Two size) (from_place (head_place chosen) contents) (from_place (body_place (Two size) chosen) contents) other
+  pub has : HasLibrary (Two size) (from_place (head_place chosen) contents)
+      (from_place (body_place (Two size) chosen) contents) other
   pub differs : other ≢ library
 
 -- it has the library that is wanted, where one is, and then in format 2
@@ -147,7 +150,8 @@ pub record IsSpoilt (Begins : Shape → (ℕ → ℕ) → (ℕ → ℕ) → Type
   pub room : disk_bytes shape ≤ length contents
   pub offset : ℕ
   pub there : place ≡ body_place shape chosen + offset
-  pub damaged : IsDamagedBody shape (from_place (head_place chosen) contents) (from_place (body_place shape chosen) contents) offset
+  pub damaged : IsDamagedBody shape (from_place (head_place chosen) contents)
+      (from_place (body_place shape chosen) contents) offset
   pub begins : Begins shape (from_place (head_place chosen) contents) (from_place (body_place shape chosen) contents)
 
 abbrev pub IsDamaged : Option (List ℕ) → List ℕ → ℕ → Type 0
@@ -208,8 +212,8 @@ pub record IsBrought (bank : ℕ) (contents : List ℕ) (image : List ℕ → Ty
   pub was : CanBeBrought bank contents
   pub each : (c : List ℕ) → image c → IsStoreIn (Two bank) c was.library was.table
 
--- What a refusal of an upgrade to bodies of a size says of a disk of this size and these contents. Memory is asked for once a head of
--- format 1 is found.
+-- What a refusal of an upgrade to bodies of a size says of a disk of this size and these contents. Memory is asked for
+-- once a head of format 1 is found.
 abbrev pub UpgradeSays : ℕ → ℕ → List ℕ → UpgradeFault → Type 0
 UpgradeSays bank size contents upgrades.TooSmall = ⊤
 UpgradeSays bank size contents upgrades.NotAStore = IsForeign size contents
@@ -246,11 +250,12 @@ ReadingTells contents before after (upgrades.Damaged place) = ⊤
 ReadingTells contents before after (upgrades.Device fault) = IsFailed contents before after fault
 ReadingTells contents before after upgrades.Memory = ⊤
 
--- Which kind of call of an upgrade to bodies of a size failed: a write or a sync, but for the one at the start, fails only once a store of
--- format 1 is found that such a body takes.
+-- Which kind of call of an upgrade to bodies of a size failed: a write or a sync, but for the one at the start, fails
+-- only once a store of format 1 is found that such a body takes.
 abbrev pub IsFailedUpgrade : ℕ → List ℕ → (List ℕ → Type 0) → (List ℕ → Type 0) → DeviceFault → Type 0
 IsFailedUpgrade bank contents before after devices.Read = Only contents after
-IsFailedUpgrade bank contents before after devices.Write = ((c : List ℕ) → before c → after c) ⊎ CanBeBrought bank contents
+IsFailedUpgrade bank contents before after devices.Write =
+    ((c : List ℕ) → before c → after c) ⊎ CanBeBrought bank contents
 
 abbrev pub UpgradeDeviceTells : ℕ → List ℕ → (List ℕ → Type 0) → (List ℕ → Type 0) → UpgradeFault → Type 0
 UpgradeDeviceTells bank contents before after upgrades.TooSmall = ⊤

@@ -11,13 +11,15 @@ use Rattle.oa_store.specs.Faults.{IsCausedUpgrade, IsRefusedUpgrade, ReadingTell
 use Rattle.oa_store.specs.Stores.{IsStoreAt}
 use Rattle.oa_table.specs.Tables.{TableValue}
 
--- One fault is answered exactly where the disk has fewer bytes than those of format 1 and two bodies of this size, before its first call.
-pub record RefusesSmall {D T E : Type 0} (g : Ghosts D) (small : E) (size : ℕ) (old new : D) (result : Result T E) : Type 0 where
+-- One fault is answered exactly where the disk has fewer bytes than those of format 1 and two bodies of this size,
+-- before its first call.
+pub record RefusesSmall {D T E : Type 0} (g : Ghosts D) (small : E) (size : ℕ) (old new : D)
+    (result : Result T E) : Type 0 where
   pub exactly : IsErrOf result small ↔ (g.size_of old < disk_bytes (Two size))
   pub same : IsErrOf result small → new ≡ old
 
--- The disk has no store that an upgrade to bodies of this size brings over, or memory or the device is wanting. All but the cause is said
--- of a disk that is honest at the end.
+-- The disk has no store that an upgrade to bodies of this size brings over, or memory or the device is wanting. All but
+-- the cause is said of a disk that is honest at the end.
 pub record RefusesReading {D : Type 0} (g : Ghosts D) (size : ℕ) (old new : D) (fault : UpgradeFault) : Type 0 where
   -- It is true of the contents at the start.
   pub says : IsTrue (g.is_honest new) → UpgradeSays size (g.size_of old) (g.contents old) fault
@@ -29,13 +31,15 @@ pub record RefusesReading {D : Type 0} (g : Ghosts D) (size : ℕ) (old new : D)
   -- at most ten calls, and one for two bytes of the disk
   pub calls : IsTrue (g.is_honest new) → g.moment new ≤ g.moment old + (20 + g.size_of old)
 
--- An upgrade of a store of format 1 makes at most the calls of a reading, as `inspect` makes them, and those of a checkpoint.
+-- An upgrade of a store of format 1 makes at most the calls of a reading, as `inspect` makes them, and those of a
+-- checkpoint.
 abbrev pub CallsForUpgrade : {D : Type 0} → Ghosts D → D → D → Type 0
 CallsForUpgrade g old new = (library : List ℕ) × (table : TableValue) × (chosen : ℕ) × (gate : ℕ)
     × IsStoreAt One chosen gate library table (g.contents old)
     × (g.moment new + length library ≤ g.moment old + (16 + gate) + 2 * checkpoint_calls library table)
 
--- A store was not brought to format 2 with bodies of this size. All but the cause is said of a disk that is honest at the end.
+-- A store was not brought to format 2 with bodies of this size. All but the cause is said of a disk that is honest at
+-- the end.
 pub record RefusesUpgrade {D : Type 0} (g : Ghosts D) (size : ℕ) (old new : D) (fault : UpgradeFault) : Type 0 where
   -- It is true of the contents at the start.
   pub says : IsTrue (g.is_honest new) → UpgradeSays size (g.size_of old) (g.contents old) fault

@@ -1,5 +1,5 @@
--- What an opening and an inspection answer of a disk. All is said of one that is honest at the end, but for what stands in memory.
--- (This project's choice.)
+-- What an opening and an inspection answer of a disk. All is said of one that is honest at the end, but for what stands
+-- in memory. (This project's choice.)
 use Rattle.std.specs.Prelude.{◌≡◌, ℕ, ◌+◌, ◌<◌, ◌≤◌, IsTrue, true, false, List, length, Option, Some, None}
 use Rattle.oa_disk.specs.Disk.{Only}
 use Rattle.oa_disk.specs.declared.disk.Disk.{Ghosts}
@@ -15,8 +15,10 @@ use Rattle.oa_store.specs.declared.fault.OpenFault.{OpenFault}
 use Rattle.oa_store.specs.declared.fault.OpenFault.TheVariants.{LibraryDiffers, OldFormat}
 use Rattle.oa_store.specs.declared.reading.Found.{Found}
 use Rattle.oa_store.specs.declared.store.Store.{Store}
-use Rattle.oa_store.specs.Faults.{of_finding, IsCaused, ComesOfForeign, SpeaksOfContents, HeadSays, RefusalSays, DeviceTells, moments_until}
-use Rattle.oa_store.specs.Stores.{body_place, head_place, store_bytes, IsFormatted, IsForeign, IsNewStore, IsStore, IsStoreAt}
+use Rattle.oa_store.specs.Faults.{of_finding, IsCaused, ComesOfForeign, SpeaksOfContents, HeadSays, RefusalSays}
+use Rattle.oa_store.specs.Faults.{DeviceTells, moments_until}
+use Rattle.oa_store.specs.Stores.{body_place, head_place, store_bytes, IsFormatted, IsForeign, IsNewStore, IsStore}
+use Rattle.oa_store.specs.Stores.{IsStoreAt}
 use Rattle.oa_table.specs.Tables.{TableValue, unlocked_table}
 
 -- The bank that the selector of a disk names was found, with its head. Nothing is pending.
@@ -53,7 +55,8 @@ pub record Finds {D : Type 0} (g : Ghosts D) (library : List ℕ) (old new : D) 
   pub calls : IsTrue (g.is_honest new) → g.moment new + length library ≤ g.moment old + (20 + f.bank.gate)
 
 -- What the refusal of a disk says, whose library has to be the one that is wanted.
-pub record Refuses {D : Type 0} (g : Ghosts D) (wanted : Option (List ℕ)) (old new : D) (fault : OpenFault) : Type 0 where
+pub record Refuses {D : Type 0} (g : Ghosts D) (wanted : Option (List ℕ)) (old new : D)
+    (fault : OpenFault) : Type 0 where
   -- It is true of the contents at the start.
   pub says : IsTrue (g.is_honest new) → RefusalSays wanted (g.size_of old) (g.contents old) fault
   -- A disk that is too small or not formatted is found to be that before memory is taken.
@@ -61,19 +64,24 @@ pub record Refuses {D : Type 0} (g : Ghosts D) (wanted : Option (List ℕ)) (old
   pub cause : IsCaused (g.failures_of old) (g.failures_of new) fault
   -- Read is told once all that was written is on the device, and Write where the sync at the start failed.
   pub tells : IsTrue (g.is_honest new) → DeviceTells (g.contents old) (g.image old) (g.image new) fault
-  -- at most twelve calls, and one for two bytes of the disk; two where it is no store, four for its format, six for its library
+  -- at most twelve calls, and one for two bytes of the disk; two where it is no store, four for its format, six for its
+  -- library
   pub calls : IsTrue (g.is_honest new) → g.moment new ≤ g.moment old + moments_until (24 + g.size_of old) fault
 
 -- A store of this library was opened on the disk, with its table.
-pub record FindsStore {D : Type 0} (g : Ghosts D) (library : List ℕ) (disk : D) (store : Store D g) (table : TableValue) : Type 0 where
+pub record FindsStore {D : Type 0} (g : Ghosts D) (library : List ℕ) (disk : D) (store : Store D g)
+    (table : TableValue) : Type 0 where
   -- Each image at the end is a store of the table, and of that alone.
   pub found : IsTrue (g.is_honest store.disk) → (c : List ℕ) → g.image store.disk c
       → IsStoreAt store.bank.shape store.chosen store.bank.gate library table c
   -- So are the contents at the start, and they of no other.
-  pub contents : IsTrue (g.is_honest store.disk) → IsStoreAt store.bank.shape store.chosen store.bank.gate library table (g.contents disk)
-  pub only : IsTrue (g.is_honest store.disk) → (other : TableValue) → IsNewStore (g.contents disk) library other → other ≡ table
+  pub contents : IsTrue (g.is_honest store.disk)
+      → IsStoreAt store.bank.shape store.chosen store.bank.gate library table (g.contents disk)
+  pub only : IsTrue (g.is_honest store.disk) → (other : TableValue) → IsNewStore (g.contents disk) library other
+      → other ≡ table
   -- at most ten calls, and one for two bytes of snapshot and groups
-  pub calls : IsTrue (g.is_honest store.disk) → g.moment store.disk + length library ≤ g.moment disk + (20 + store.bank.gate)
+  pub calls : IsTrue (g.is_honest store.disk)
+      → g.moment store.disk + length library ≤ g.moment disk + (20 + store.bank.gate)
 
 -- The store goes on, has this library, and its table is in order and has no locks.
 pub record Starts {D : Type 0} {g : Ghosts D} (library : List ℕ) (store : Store D g) (table : TableValue) : Type 0 where
@@ -86,7 +94,8 @@ pub record Starts {D : Type 0} {g : Ghosts D} (library : List ℕ) (store : Stor
 pub record RefusesDisk {D : Type 0} (g : Ghosts D) (library : List ℕ) (disk back : D) (fault : OpenFault) : Type 0 where
   pub refusal : Refuses g (Some library) disk back fault
   -- So the contents are no store of this library where it speaks of them.
-  pub refused : SpeaksOfContents fault → IsTrue (g.is_honest back) → (table : TableValue) → IsNewStore (g.contents disk) library table → ⊥
+  pub refused : SpeaksOfContents fault → IsTrue (g.is_honest back) → (table : TableValue)
+      → IsNewStore (g.contents disk) library table → ⊥
 
 -- A store of some library was found in some format, with its table.
 pub record FindsAny {D : Type 0} (g : Ghosts D) (disk new : D) (library : List ℕ) (table : TableValue) : Type 0 where

@@ -1,5 +1,6 @@
 -- What the calls of an open store that write leave of it. (This project's choice.)
-use Rattle.std.specs.Prelude.{◌≡◌, ◌↔◌, ℕ, ◌+◌, ◌*◌, ◌-◌, ◌≤◌, IsTrue, true, false, List, length, Result, OnOk, OnErr, IsErrOf}
+use Rattle.std.specs.Prelude.{◌≡◌, ◌↔◌, ℕ, ◌+◌, ◌*◌, ◌-◌, ◌≤◌, IsTrue, true, false, List, length, Result, OnOk, OnErr}
+use Rattle.std.specs.Prelude.{IsErrOf}
 use Rattle.oa_disk.specs.Disk.{HasCounted}
 use Rattle.oa_disk.specs.declared.disk.DeviceFault.{DeviceFault}
 use Rattle.oa_disk.specs.declared.disk.DeviceFault.TheVariants.{Write}
@@ -30,17 +31,21 @@ pub record Goes {D : Type 0} {g : Ghosts D} (old new : Store D g) : Type 0 where
 -- It makes the calls of one checkpoint at most, whatever that writes.
 abbrev pub CallsForOneCheckpoint : {D : Type 0} {g : Ghosts D} → Store D g → Store D g → Type 0
 CallsForOneCheckpoint {D} {g} old new =
-    IsTrue (g.is_honest old.disk) → g.moment new.disk ≤ g.moment old.disk + 2 * most_checkpoint_calls (body_bytes old.bank.shape)
+    IsTrue (g.is_honest old.disk)
+    → g.moment new.disk ≤ g.moment old.disk + 2 * most_checkpoint_calls (body_bytes old.bank.shape)
 
--- The store goes on exactly where `Ok` is answered. One fault says that it had stopped before, the other that a write has failed.
-pub record StopsAtFault {D T : Type 0} {g : Ghosts D} (old new : Store D g) (result : Result T WriteFault) : Type 0 where
+-- The store goes on exactly where `Ok` is answered. One fault says that it had stopped before, the other that a write
+-- has failed.
+pub record StopsAtFault {D T : Type 0} {g : Ghosts D} (old new : Store D g)
+    (result : Result T WriteFault) : Type 0 where
   pub goes_on : OnOk result (new.stopped ≡ false)
   pub stops : OnErr result (new.stopped ≡ true)
   pub stopped : IsErrOf result faults.Stopped ↔ (old.stopped ≡ true)
   pub fault : (fault : DeviceFault) → IsErrOf result (faults.Device fault) → fault ≡ Write
 
 -- The bank in use has the group of a batch more, or nothing has changed in memory.
-pub record AddsGroup {D T E : Type 0} {g : Ghosts D} (batch : List ℕ) (old new : Store D g) (result : Result T E) : Type 0 where
+pub record AddsGroup {D T E : Type 0} {g : Ghosts D} (batch : List ℕ) (old new : Store D g)
+    (result : Result T E) : Type 0 where
   pub gate : OnOk result (new.bank.gate ≡ old.bank.gate + (5 + length (group_of batch)))
   pub refused : OnErr result (new.bank.gate ≡ old.bank.gate)
   pub chosen : new.chosen ≡ old.chosen

@@ -12,7 +12,8 @@ read_ahead a = slice_range a.front.bytes.items a.front.from a.front.to
 
 -- a reader with these bytes before all that it has left
 abbrev pub with_front : List ℕ → Input → Input
-with_front front i = record { left = prepend_known front i.left; calls = i.calls; faulted = i.faulted; steady = i.steady }
+with_front front i =
+    record { left = prepend_known front i.left; calls = i.calls; faulted = i.faulted; steady = i.steady }
 
 abbrev pub ahead : {R : Type 0} → (R → Input) → Ahead R → Input
 ahead input a = with_front (read_ahead a) (input a.reader)

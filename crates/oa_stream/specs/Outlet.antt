@@ -8,7 +8,8 @@ use Rattle.oa_stream.specs.Sink.{Output}
 
 -- what the standard library says that the writer within holds has left; no room is promised
 abbrev pub outlet : {W : Type 0} → (W → Option (List ℕ)) → Outlet W → Output
-outlet contents o = record { reached = contents o.writer; kept = []; flushed = o.flushed; back = 0; room = 0; broken = o.broken }
+outlet contents o =
+    record { reached = contents o.writer; kept = []; flushed = o.flushed; back = 0; room = 0; broken = o.broken }
 
 -- so many calls in a row may be interrupted
 abbrev pub most_tries : ℕ

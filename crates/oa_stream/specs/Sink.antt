@@ -3,8 +3,9 @@ use Rattle.std.specs.Prelude.{◌≡◌, ℕ, ◌+◌, ◌≤◌, Bool, true, fa
 use Rattle.std.specs.Io.KnownBytes.{Appends}
 use Rattle.oa_stream.specs.declared.sink.Unwritten.{Unwritten}
 
--- A writer: what has left it for good, where that is known; what it took and keeps back; whether nothing waits below it since the last
--- delivery; how many bytes it keeps back at most; fewer bytes than `room` are taken and handed on without a failure; whether it failed.
+-- A writer: what has left it for good, where that is known; what it took and keeps back; whether nothing waits below it
+-- since the last delivery; how many bytes it keeps back at most; fewer bytes than `room` are taken and handed on
+-- without a failure; whether it failed.
 pub record Output : Type 0 where
   pub reached : Option (List ℕ)
   pub kept : List ℕ
@@ -18,8 +19,8 @@ pub record IsHandedOn (o : Output) : Type 0 where
   pub nothing : o.kept ≡ []
   pub flushed : o.flushed ≡ true
 
--- All bytes were taken: what was kept back and these bytes are what has left and what is kept back now. They took no more room than they
--- have bytes.
+-- All bytes were taken: what was kept back and these bytes are what has left and what is kept back now. They took no
+-- more room than they have bytes.
 pub record Writes (old new : Output) (bytes : List ℕ) : Type 0 where
   pub gone : List ℕ
   pub whole : old.kept ++ bytes ≡ gone ++ new.kept
@@ -28,7 +29,8 @@ pub record Writes (old new : Output) (bytes : List ℕ) : Type 0 where
   pub back : new.back ≡ old.back
   pub sound : new.broken ≡ false
 
--- The writer failed: a first part of what was due has left, the rest is lost, and these bytes were more than it had promised to take.
+-- The writer failed: a first part of what was due has left, the rest is lost, and these bytes were more than it had
+-- promised to take.
 pub record Breaks (old new : Output) (bytes : List ℕ) : Type 0 where
   pub gone : List ℕ
   pub lost : List ℕ

@@ -1,11 +1,12 @@
 -- Readers as contracts see them, and what one call does (this project's choice).
-use Rattle.std.specs.Prelude.{◌≡◌, ℕ, ◌+◌, ◌<◌, ◌≤◌, min, max, Bool, true, false, List, length, [], take, Option, Some, ⊤}
+use Rattle.std.specs.Prelude.{◌≡◌, ℕ, ◌+◌, ◌<◌, ◌≤◌, min, max, Bool, true, false, List, length, [], take, Option, Some}
+use Rattle.std.specs.Prelude.{⊤}
 use Rattle.std.specs.Io.KnownBytes.{Consumes, Keeps, IsAtEnd, prepend_known}
 use Rattle.oa_stream.specs.declared.source.Next.{Next}
 use Rattle.oa_stream.specs.declared.source.Next.TheVariants.{Bytes, End, Again, Fault}
 
--- A reader: the bytes that are still to come, where they are known; how often it was called, up to 2^64 - 1; whether it failed; whether it
--- promises that from here on no call fails or is interrupted.
+-- A reader: the bytes that are still to come, where they are known; how often it was called, up to 2^64 - 1; whether it
+-- failed; whether it promises that from here on no call fails or is interrupted.
 pub record Input : Type 0 where
   pub left : Option (List ℕ)
   pub calls : ℕ

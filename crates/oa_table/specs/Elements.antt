@@ -1,5 +1,6 @@
 -- Changes of a cell's value, or why there is none. The order of the refusals is this project's choice.
-use Rattle.std.specs.Prelude.{ℕ, ◌+◌, ◌-◌, ◌==◌, nat_lt, ℤ, Bool, not, if◌then◌else◌, List, Option, Some, None, Result, Ok, Err}
+use Rattle.std.specs.Prelude.{ℕ, ◌+◌, ◌-◌, ◌==◌, nat_lt, ℤ, Bool, not, if◌then◌else◌, List, Option, Some, None, Result}
+use Rattle.std.specs.Prelude.{Ok, Err}
 use Rattle.oa_model.specs.Limits.{max_cells, max_cell_locks}
 use Rattle.oa_model.specs.declared.bound.Bound.{Bound}
 use Rattle.oa_array.specs.Arrays.{redimensioned, with_cell, with_first, with_locks}
@@ -35,7 +36,8 @@ abbrev pub with_element_put : List ℤ → Scalar → Variant → Result Variant
 with_element_put index element (One s) = Err NotArray
 with_element_put index element (AnArray a) =
     if in_bounds a.bounds index
-    then (if fits_type element a.elem then Ok (AnArray (with_cell a index element)) else Err (Array arrays.TypeMismatch))
+    then (if fits_type element a.elem then Ok (AnArray (with_cell a index element))
+    else Err (Array arrays.TypeMismatch))
     else Err (Array arrays.BadIndex)
 
 -- the first bound is replaced: there must be no lock, and then not too many elements
@@ -49,12 +51,14 @@ redimensioned_value bound (AnArray a) =
 -- one lock more
 abbrev pub locked_value : Variant → Result Variant TableFault
 locked_value (One s) = Err NotArray
-locked_value (AnArray a) = if a.locks == max_cell_locks then Err (Array arrays.Unexpected) else Ok (AnArray (with_locks a (a.locks + 1)))
+locked_value (AnArray a) = if a.locks == max_cell_locks then Err (Array arrays.Unexpected)
+    else Ok (AnArray (with_locks a (a.locks + 1)))
 
 -- one lock less
 abbrev pub released_value : Variant → Result Variant TableFault
 released_value (One s) = Err NotArray
-released_value (AnArray a) = if a.locks == 0 then Err (Array arrays.Unexpected) else Ok (AnArray (with_locks a (a.locks - 1)))
+released_value (AnArray a) = if a.locks == 0 then Err (Array arrays.Unexpected)
+    else Ok (AnArray (with_locks a (a.locks - 1)))
 
 -- what an array refuses, as the refusal of a change of a table
 abbrev pub of_array : ArrayFault → TableFault

@@ -1,5 +1,6 @@
 -- The table after an event, or why the event does not apply. (This project's choice.)
-use Rattle.std.specs.Prelude.{◌≡◌, ℕ, ◌+◌, ◌==◌, ◌&&◌, nat_le, if◌then◌else◌, [], Option, Some, None, Result, Ok, Err, ⊤}
+use Rattle.std.specs.Prelude.{◌≡◌, ℕ, ◌+◌, ◌==◌, ◌&&◌, nat_le, if◌then◌else◌, [], Option, Some, None, Result, Ok, Err}
+use Rattle.std.specs.Prelude.{⊤}
 use Rattle.std.specs.Map.{set_value, remove_entry}
 use Rattle.std.specs.BTreeMap.{insert_entry, is_at}
 use Rattle.std.specs.Ordering.{nat_cmp}
@@ -48,7 +49,8 @@ abbrev pub applied : Event → TableValue → Result TableValue TableFault
 applied (Create number class) table = created number (record { class = class; cells = [] }) table
 applied (Release number) table = released number table
 applied (Put name value) table = on_object name.object (with_put name.place value) table
-applied (PutElement name index value) table = on_object name.object (with_change name.place (with_element_put index value)) table
+applied (PutElement name index value) table =
+    on_object name.object (with_change name.place (with_element_put index value)) table
 applied (Redim name bound) table = on_object name.object (with_change name.place (redimensioned_value bound)) table
 
 -- locks are those of a session: no event brings any

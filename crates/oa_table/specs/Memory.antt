@@ -5,8 +5,8 @@ use Rattle.oa_table.specs.declared.event.Event.TheVariants.{Create, Release, Put
 use Rattle.oa_table.specs.Sizes.{largest_image, size_after}
 use Rattle.oa_table.specs.Tables.{TableValue, cell_in, object_at}
 
--- Memory is taken for an object, for a cell that was never put and for an array of other bounds. And none holds a table whose image is
--- longer than the longest: by a release no image gets longer.
+-- Memory is taken for an object, for a cell that was never put and for an array of other bounds. And none holds a table
+-- whose image is longer than the longest: by a release no image gets longer.
 abbrev pub MayWantMemory : Event → TableValue → Type 0
 MayWantMemory (Create number class) table = ⊤
 MayWantMemory (Release number) table = ⊥

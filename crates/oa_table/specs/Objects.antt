@@ -22,7 +22,8 @@ locks_of_cell place object = locks_in (cell_at place object.cells)
 -- a cell is set, unless its array is locked
 abbrev pub with_put : PlaceValue → Variant → ObjectValue → Result ObjectValue TableFault
 with_put place value object =
-    if locks_of_cell place object == 0 then Ok (record object { cells = insert_entry place_cmp object.cells place value })
+    if locks_of_cell place object == 0
+    then Ok (record object { cells = insert_entry place_cmp object.cells place value })
     else Err (Array arrays.IsLocked)
 
 abbrev pub with_value : PlaceValue → ObjectValue → Variant → ObjectValue
@@ -34,5 +35,6 @@ abbrev pub changed_if_put : PlaceValue → (Variant → Result Variant TableFaul
 changed_if_put place change object None = Err NotArray
 changed_if_put place change object (Some value) = mapped (with_value place object) (change value)
 
-abbrev pub with_change : PlaceValue → (Variant → Result Variant TableFault) → ObjectValue → Result ObjectValue TableFault
+abbrev pub with_change : PlaceValue → (Variant → Result Variant TableFault) → ObjectValue
+    → Result ObjectValue TableFault
 with_change place change object = changed_if_put place change object (cell_at place object.cells)

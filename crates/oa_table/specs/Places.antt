@@ -9,7 +9,8 @@ use Rattle.oa_model.specs.Limits.{max_key_scalars}
 use Rattle.oa_variant.specs.declared.scalar.Scalar.{Scalar}
 use Rattle.oa_variant.specs.Keys.{scalar_cmp, scalars_total}
 
--- a member of an interface (the interface's GUID as its 16 bytes in the order of print), and the arguments that it was called with
+-- a member of an interface (the interface's GUID as its 16 bytes in the order of print), and the arguments that it was
+-- called with
 pub record PlaceValue : Type 0 where
   pub interface : List ℕ
   pub dispid : ℤ
@@ -32,4 +33,5 @@ place_cmp =
 pub places_total : IsTotalOrder place_cmp
 places_total =
     then_total (on_total (λ place. place.interface) nat_list_cmp_total)
-    (then_total (on_total (λ place. place.dispid) int_cmp_total) (on_total (λ place. place.key) (lists_total scalars_total)))
+    (then_total (on_total (λ place. place.dispid) int_cmp_total)
+    (on_total (λ place. place.key) (lists_total scalars_total)))

@@ -18,7 +18,8 @@ use Rattle.oa_table.specs.Events.{applied}
 use Rattle.oa_table.specs.Places.{PlaceValue}
 use Rattle.oa_table.specs.Tables.{ObjectValue, TableValue}
 
--- what a scalar of a type has behind the number of its type; a text the number of its bytes and these; there is no scalar of VARIANT
+-- what a scalar of a type has behind the number of its type; a text the number of its bytes and these; there is no
+-- scalar of VARIANT
 unfoldable pub content_size : VarType → Scalar → ℕ
 content_size types.Empty s = 0
 content_size types.Null s = 0

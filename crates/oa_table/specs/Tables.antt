@@ -1,5 +1,5 @@
--- The table as a value: the next number, and the objects in the order of their numbers, each with its cells in the order of their
--- places. (This project's choice.)
+-- The table as a value: the next number, and the objects in the order of their numbers, each with its cells in the
+-- order of their places. (This project's choice.)
 use Rattle.std.specs.Prelude.{ℕ, List, [], map, Option, Some, None}
 use Rattle.std.specs.Map.{lookup}
 use Rattle.std.specs.BTreeMap.{is_at}

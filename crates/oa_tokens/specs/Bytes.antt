@@ -1,6 +1,6 @@
 -- Bytes by their classes, and where a stretch of them ends.
-use Rattle.std.specs.Prelude.{ℕ, suc, ◌==◌, ◌≤◌, ◌&&◌, ◌||◌, Bool, not, nat_lt, nat_le, if◌then◌else◌, List, [], ◌∷◌, length, drop, get_or}
-use Rattle.std.specs.Prelude.{Option, Some, None}
+use Rattle.std.specs.Prelude.{ℕ, suc, ◌==◌, ◌≤◌, ◌&&◌, ◌||◌, Bool, not, nat_lt, nat_le, if◌then◌else◌, List, [], ◌∷◌}
+use Rattle.std.specs.Prelude.{length, drop, get_or, Option, Some, None}
 use Rattle.std.specs.Char.{is_ascii_digit, is_ascii_hexdigit, is_ascii_alphabetic, is_ascii_alphanumeric}
 use Rattle.oa_tokens.specs.declared.scan.Class.{Class}
 use Rattle.oa_tokens.specs.declared.scan.Class.TheVariants.{Digit, Hexadecimal, Letter, Named, Blank, Line, Mark}
@@ -14,7 +14,8 @@ is_in Letter b = is_ascii_alphabetic b || b == 95
 is_in Named b = is_ascii_alphanumeric b || b == 95
 is_in Blank b = b == 32 || b == 9 || b == 10 || b == 13
 is_in Line b = not (b == 10) && not (b == 13)
-is_in Mark b = b == 91 || b == 93 || b == 40 || b == 41 || b == 123 || b == 125 || b == 44 || b == 59 || b == 58 || b == 46 || b == 45
+is_in Mark b = b == 91 || b == 93 || b == 40 || b == 41 || b == 123 || b == 125 || b == 44 || b == 59 || b == 58
+    || b == 46 || b == 45
 
 -- how many bytes at the front are of a class
 unfoldable pub run : (ℕ → Bool) → List ℕ → ℕ
@@ -37,7 +38,8 @@ one_more (Some n) = Some (suc n)
 -- how many bytes there are up to and with the one that closes
 unfoldable pub end_from : Close → Bool → List ℕ → Option ℕ
 end_from close marked [] = None
-end_from close marked (b ∷ bs) = if closes close marked b then Some 1 else one_more (end_from close (marks close marked b) bs)
+end_from close marked (b ∷ bs) = if closes close marked b then Some 1
+    else one_more (end_from close (marks close marked b) bs)
 
 abbrev pub EndsInside : Option ℕ → ℕ → Type 0
 EndsInside None len = Unit {0}
@@ -49,5 +51,6 @@ group n bs = run (is_in Hexadecimal) bs == n && (nat_lt n (length bs) && get_or 
 
 -- 8-4-4-4-12 hexadecimal digits
 unfoldable pub is_guid : List ℕ → Bool
-is_guid bs = group 8 bs && (group 4 (drop 9 bs) && (group 4 (drop 14 bs) && (group 4 (drop 19 bs) && nat_le 12 (run (is_in Hexadecimal)
+is_guid bs = group 8 bs
+    && (group 4 (drop 9 bs) && (group 4 (drop 14 bs) && (group 4 (drop 19 bs) && nat_le 12 (run (is_in Hexadecimal)
     (drop 24 bs)))))

@@ -1,6 +1,6 @@
 -- The tokens of a text.
-use Rattle.std.specs.Prelude.{◌≡◌, ℕ, ◌+◌, ◌==◌, ◌<◌, ◌≤◌, ◌&&◌, false, if◌then◌else◌, List, [], ◌∷◌, length, drop, get_or, Option, Some}
-use Rattle.std.specs.Prelude.{None}
+use Rattle.std.specs.Prelude.{◌≡◌, ℕ, ◌+◌, ◌==◌, ◌<◌, ◌≤◌, ◌&&◌, false, if◌then◌else◌, List, [], ◌∷◌, length, drop}
+use Rattle.std.specs.Prelude.{get_or, Option, Some, None}
 use Rattle.oa_tokens.specs.declared.scan.Class.TheVariants.{Digit, Hexadecimal, Letter, Named, Blank, Line}
 use Rattle.oa_tokens.specs.declared.scan.Class.TheVariants as classes
 use Rattle.oa_tokens.specs.declared.scan.Close.TheVariants.{Quote, Comment}
@@ -38,13 +38,14 @@ token kind start end = record { kind = kind; start = start; end = end }
 -- which tokens the bytes have that begin at a place
 pub data AreTokens : ℕ → List ℕ → List Token → Type 0 where
   End : (p : ℕ) → AreTokens p [] []
-  Apart : (p n : ℕ) (bs : List ℕ) (ts : List Token) → 0 < length bs → front bs ≡ Gap n → AreTokens (p + n) (drop n bs) ts
-      → AreTokens p bs ts
+  Apart : (p n : ℕ) (bs : List ℕ) (ts : List Token) → 0 < length bs → front bs ≡ Gap n
+      → AreTokens (p + n) (drop n bs) ts → AreTokens p bs ts
   Next : (p n : ℕ) (kind : TokenKind) (bs : List ℕ) (ts : List Token) → 0 < length bs → front bs ≡ Word kind n
       → AreTokens (p + n) (drop n bs) ts → AreTokens p bs (token kind p (p + n) ∷ ts)
   Rest : (p : ℕ) (bs : List ℕ) → 0 < length bs → front bs ≡ Broken → AreTokens p bs (token Junk p (p + length bs) ∷ [])
 
--- Each token has a byte at least and begins behind those before it, from one place on; the last ends at another or before.
+-- Each token has a byte at least and begins behind those before it, from one place on; the last ends at another or
+-- before.
 abbrev pub AreInOrder : ℕ → ℕ → List Token → Type 0
 AreInOrder from end [] = from ≤ end
 AreInOrder from end (t ∷ ts) = (from ≤ t.start) × (t.start < t.end) × AreInOrder t.end end ts

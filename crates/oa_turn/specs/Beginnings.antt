@@ -12,7 +12,8 @@ pub record CanServe (bank : ℕ) (library : TreeValue) (table : TableValue) : Ty
   pub fit : fits library table ≡ true
   pub small : FitsBank bank table
 
--- a server can begin with this state: its library is one that was checked, and can have its table, whose objects are numbered
+-- a server can begin with this state: its library is one that was checked, and can have its table, whose objects are
+-- numbered
 pub record CanBegin (state : State) : Type 0 where
   pub checked : IsChecked state.library
   pub serves : CanServe state.bank state.library state.table

@@ -29,4 +29,5 @@ RelocksTable change old new (Err fault) = (new ≡ old) × (relocked change old 
 -- A change is made where it is allowed; else the reason is told, or that memory was wanted, and nothing changes.
 abbrev pub ChangesTable : ℕ → Event → TableValue → TableValue → Result (Unit {0}) HResult → Type 0
 ChangesTable bank event old new (Ok u) = allowed bank event old ≡ Ok new
-ChangesTable bank event old new (Err code) = (new ≡ old) × ((allowed bank event old ≡ Err code) ⊎ ((code ≡ e_outofmemory) × IsOk (allowed bank event old)))
+ChangesTable bank event old new (Err code) =
+    (new ≡ old) × ((allowed bank event old ≡ Err code) ⊎ ((code ≡ e_outofmemory) × IsOk (allowed bank event old)))

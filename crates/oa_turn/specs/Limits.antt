@@ -7,7 +7,8 @@ use Rattle.oa_table.specs.Tables.{TableValue}
 abbrev pub least_bank : ℕ
 least_bank = reserved_bytes + 8
 
--- What a server's table always is: its objects have numbers from 1 to below the next one, and its image leaves what has to be free of a bank of this size.
+-- What a server's table always is: its objects have numbers from 1 to below the next one, and its image leaves what has
+-- to be free of a bank of this size.
 pub record IsSoundTable (bank : ℕ) (table : TableValue) : Type 0 where
   pub numbered : is_numbered table ≡ true
   pub small : FitsBank bank table

@@ -24,7 +24,8 @@ text_code Memory = e_outofmemory
 abbrev pub IsLibraryOf : List ℕ → Result TreeValue HResult → Type 0
 IsLibraryOf body (Ok library) = AsksLibrary body library
 IsLibraryOf body (Err code) =
-    ((code ≡ bad_stub_data) × ((library : TreeValue) → AsksLibrary body library → ⊥)) ⊎ ((code ≡ e_outofmemory) × BringsText body)
+    ((code ≡ bad_stub_data) × ((library : TreeValue) → AsksLibrary body library → ⊥))
+    ⊎ ((code ≡ e_outofmemory) × BringsText body)
 
 -- what is lost is told, or memory was refused to the reply
 abbrev pub RefusesLoss : ℕ → Lost → ReplyValue → Type 0

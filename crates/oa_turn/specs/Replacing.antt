@@ -1,4 +1,5 @@
--- REPLACE LIBRARY: the library of the body's text takes the place of the one that the server has (this project's choice).
+-- REPLACE LIBRARY: the library of the body's text takes the place of the one that the server has (this project's
+-- choice).
 use Rattle.std.specs.Prelude.{◌≡◌, ◌⊎◌, ℕ, List, Option, Some, None}
 use Rattle.oa_idl.specs.Trees.{TreeValue}
 use Rattle.oa_model.specs.Codes.{bad_stub_data, e_invalidarg, e_outofmemory, s_ok}
@@ -30,7 +31,8 @@ pub record BringsText (body : List ℕ) : Type 0 where
 -- the reply: what of the old library would be lost, in the order in which that is sought, or that nothing is
 abbrev pub replacement_reply : ℕ → Option Lost → ReplyValue
 replacement_reply tag None = refusal tag s_ok None
-replacement_reply tag (Some lost) = record { tag = tag; code = e_invalidarg; index = None; body = lost_field (guid_lost lost) (dispid_lost lost) }
+replacement_reply tag (Some lost) =
+    record { tag = tag; code = e_invalidarg; index = None; body = lost_field (guid_lost lost) (dispid_lost lost) }
 
 -- the table and its locks stay
 abbrev pub after_replacement : State → TreeValue → Option Lost → State
@@ -57,4 +59,5 @@ pub record LacksText (old : State) (body : List ℕ) (reply : ReplyValue) (new :
   pub leaves : new ≡ old
 
 abbrev pub Replacement : State → List ℕ → ReplyValue → State → Type 0
-Replacement old body reply new = Replaces old body reply new ⊎ (RefusesText old body reply new ⊎ LacksText old body reply new)
+Replacement old body reply new =
+    Replaces old body reply new ⊎ (RefusesText old body reply new ⊎ LacksText old body reply new)

@@ -1,5 +1,5 @@
--- The step of a request: its outcome, and so its reply and the state after it. A request that is refused changes nothing.
--- (This project's choice.)
+-- The step of a request: its outcome, and so its reply and the state after it. A request that is refused changes
+-- nothing. (This project's choice.)
 use Rattle.std.specs.Prelude.{◌≡◌, ℕ, List, [], Option, Some, None, Result, Ok, Err}
 use Rattle.oa_model.specs.declared.hresult.HResult.{HResult}
 use Rattle.oa_model.specs.Codes.{s_ok}
@@ -25,8 +25,8 @@ abbrev pub relocked : LockChange → TableValue → Result TableValue TableFault
 relocked (Lock name) table = with_lock name table
 relocked (Unlock name) table = without_lock name table
 
--- The change that is made, and what the reply tells. An event changes what images hold; a change of locks is none of it and ends with
--- the session.
+-- The change that is made, and what the reply tells. An event changes what images hold; a change of locks is none of it
+-- and ends with the session.
 pub record Outcome : Type 0 where
   pub event : Option Event
   pub locks : Option LockChange
@@ -43,17 +43,20 @@ refused_outcome r = record { event = None; locks = None; code = r.code; index = 
 
 -- a change is refused, or made
 abbrev pub changed : Event → List ℕ → Result TableValue HResult → Outcome
-changed event fields (Ok table) = record { event = Some event; locks = None; code = s_ok; index = None; fields = fields }
+changed event fields (Ok table) =
+    record { event = Some event; locks = None; code = s_ok; index = None; fields = fields }
 changed event fields (Err code) = refused_outcome (record { code = code; index = None })
 
 -- the same of a change of locks
 abbrev pub relocking : LockChange → List ℕ → Result TableValue TableFault → Outcome
-relocking change fields (Ok table) = record { event = None; locks = Some change; code = s_ok; index = None; fields = fields }
+relocking change fields (Ok table) =
+    record { event = None; locks = Some change; code = s_ok; index = None; fields = fields }
 relocking change fields (Err fault) = refused_outcome (record { code = table_code fault; index = None })
 
 abbrev pub outcome_of : State → Result Decision Refusal → Outcome
 outcome_of state (Err r) = refused_outcome r
-outcome_of state (Ok (Answer code fields)) = record { event = None; locks = None; code = code; index = None; fields = fields }
+outcome_of state (Ok (Answer code fields)) =
+    record { event = None; locks = None; code = code; index = None; fields = fields }
 outcome_of state (Ok (Change event fields)) = changed event fields (allowed state.bank event state.table)
 outcome_of state (Ok (Relock change fields)) = relocking change fields (relocked change state.table)
 

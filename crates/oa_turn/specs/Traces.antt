@@ -6,7 +6,8 @@ use Rattle.oa_record.specs.Replies.{ReplyValue}
 abbrev pub done_bodies : List (List ℕ) → List ReplyValue → List (List ℕ)
 done_bodies [] replies = []
 done_bodies (body ∷ bodies) [] = []
-done_bodies (body ∷ bodies) (reply ∷ replies) = if reply.code.0 == 0 then body ∷ done_bodies bodies replies else done_bodies bodies replies
+done_bodies (body ∷ bodies) (reply ∷ replies) = if reply.code.0 == 0 then body ∷ done_bodies bodies replies
+    else done_bodies bodies replies
 
 -- their replies
 abbrev pub done_replies : List ReplyValue → List ReplyValue

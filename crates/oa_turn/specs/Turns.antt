@@ -45,7 +45,8 @@ pub record LacksMemory (old : State) (body : List ℕ) (reply : ReplyValue) (new
 -- one turn of a body with another opcode than 12
 abbrev pub Ordinary : State → List ℕ → ReplyValue → State → Type 0
 Ordinary old body reply new =
-    Steps old body reply new ⊎ (RefusesStub old body reply new ⊎ (RefusesType old body reply new ⊎ LacksMemory old body reply new))
+    Steps old body reply new
+    ⊎ (RefusesStub old body reply new ⊎ (RefusesType old body reply new ⊎ LacksMemory old body reply new))
 
 pub record IsOrdinary (old : State) (body : List ℕ) (reply : ReplyValue) (new : State) : Type 0 where
   pub kind : is_replacement body ≡ false

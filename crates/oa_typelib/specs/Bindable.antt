@@ -1,4 +1,5 @@
--- What binding needs of a property: few parameters, each a scalar whose default is a value of its type, and values that have a zero.
+-- What binding needs of a property: few parameters, each a scalar whose default is a value of its type, and values that
+-- have a zero.
 use Rattle.std.specs.Prelude.{◌≡◌, ◌≤◌, false, List, length, IfSome, IsSome}
 use Rattle.std.specs.List.{AllByRecursion}
 use Rattle.oa_model.specs.Limits.{max_parameters}

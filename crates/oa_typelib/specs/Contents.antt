@@ -11,7 +11,8 @@ abbrev pub content_of : Content → ContentDescription
 content_of (Interface members) = OfInterface members.items
 content_of (Coclass entries) = OfCoclass entries.items
 
--- A description only where there is one, and BadIndex only where there is none; want of memory stands in the place of a description alone.
+-- A description only where there is one, and BadIndex only where there is none; want of memory stands in the place of a
+-- description alone.
 abbrev pub Describes : Option DescriptionValue → Result DescriptionValue DescribeError → Type 0
 Describes found (Ok d) = found ≡ Some d
 Describes found (Err BadIndex) = found ≡ None

@@ -1,5 +1,7 @@
--- The descriptions of a library's interfaces and coclasses (this project's choice): the interfaces in the text's order, then the coclasses.
-use Rattle.std.specs.Prelude.{ℕ, Bool, nat_lt, if◌then◌else◌, not, List, [], ◌∷◌, ◌++◌, map, slice_get, position, Option, Some, None}
+-- The descriptions of a library's interfaces and coclasses (this project's choice): the interfaces in the text's order,
+-- then the coclasses.
+use Rattle.std.specs.Prelude.{ℕ, Bool, nat_lt, if◌then◌else◌, not, List, [], ◌∷◌, ◌++◌, map, slice_get, position}
+use Rattle.std.specs.Prelude.{Option, Some, None}
 use Rattle.std.specs.List.{filter, filter_map, flat_map, list_any}
 use Rattle.std.specs.Option.{option_and_then}
 use Rattle.oa_idl.specs.Trees.{TreeValue}
@@ -11,7 +13,8 @@ use Rattle.oa_checks.specs.Agreement.{is_optional}
 use Rattle.oa_checks.specs.DeclarationValues.{DeclarationValue}
 use Rattle.oa_checks.specs.Declarations.{declarations, is_put}
 use Rattle.oa_checks.specs.Defaults.{default_value}
-use Rattle.oa_typelib.specs.DescriptionValues.{ParameterDescription, MemberDescription, EntryDescription, DescriptionValue}
+use Rattle.oa_typelib.specs.DescriptionValues.{ParameterDescription, MemberDescription, EntryDescription}
+use Rattle.oa_typelib.specs.DescriptionValues.{DescriptionValue}
 use Rattle.oa_typelib.specs.DescriptionValues.ContentDescription.{OfInterface, OfCoclass}
 use Rattle.oa_checks.specs.Libraries.{as_interface, as_class, same_name}
 use Rattle.oa_typelib.specs.Members.{forms_named}
@@ -19,18 +22,31 @@ use Rattle.oa_typelib.specs.Members.{forms_named}
 -- a parameter, with the value of its default
 abbrev pub parameter_description : Parameter → ParameterDescription
 parameter_description p =
-    record { value_type = p.value_type; is_in = p.is_in; is_optional = is_optional p; name = p.name; default = default_value p }
+    record {
+      value_type = p.value_type;
+      is_in = p.is_in;
+      is_optional = is_optional p;
+      name = p.name;
+      default = default_value p;
+    }
 
 -- a declaration as it is written, with the new value of a put among its parameters
 abbrev pub member_description : DeclarationValue → MemberDescription
 member_description d =
-    record { id = d.id; kind = d.kind; value_type = d.value_type; name = d.name; parameters = map parameter_description d.parameters }
+    record {
+      id = d.id;
+      kind = d.kind;
+      value_type = d.value_type;
+      name = d.name;
+      parameters = map parameter_description d.parameters;
+    }
 
 -- the names of a list that are equal to none before them, A to Z folded
 unfoldable pub first_names : List (List ℕ) → List (List ℕ) → List (List ℕ)
 first_names before [] = []
 first_names before (name ∷ names) =
-    if list_any (same_name name) before then first_names before names else name ∷ first_names (before ++ name ∷ []) names
+    if list_any (same_name name) before then first_names before names
+    else name ∷ first_names (before ++ name ∷ []) names
 
 -- the names of an interface's members, each as it first stands
 abbrev pub member_names : InterfaceValue → List (List ℕ)
@@ -38,7 +54,8 @@ member_names i = first_names [] (map (λ (d : DeclarationValue). d.name) (declar
 
 -- a get before its put
 abbrev pub put_last : List DeclarationValue → List DeclarationValue
-put_last forms = filter (λ (d : DeclarationValue). not (is_put d.kind)) forms ++ filter (λ (d : DeclarationValue). is_put d.kind) forms
+put_last forms = filter (λ (d : DeclarationValue). not (is_put d.kind)) forms
+    ++ filter (λ (d : DeclarationValue). is_put d.kind) forms
 
 -- the members of an interface in the order in which their names first stand
 abbrev pub members_described : InterfaceValue → List DeclarationValue
@@ -51,15 +68,18 @@ abbrev pub classes_of : List Item → List CoclassValue
 classes_of items = filter_map as_class items
 
 abbrev pub interface_description : InterfaceValue → DescriptionValue
-interface_description i = record { guid = i.guid; name = i.name; content = OfInterface (map member_description (members_described i)) }
+interface_description i =
+    record { guid = i.guid; name = i.name; content = OfInterface (map member_description (members_described i)) }
 
 -- an entry, with the index of the interface that it names, where there is one of 32 bits: in a library there always is
 abbrev pub described_entry : Bool → ℕ → Option EntryDescription
-described_entry is_default n = if nat_lt n 4294967296 then Some (record { is_default = is_default; interface = n }) else None
+described_entry is_default n = if nat_lt n 4294967296 then Some (record { is_default = is_default; interface = n })
+    else None
 
 abbrev pub entry_description : List InterfaceValue → Entry → Option EntryDescription
 entry_description interfaces e =
-    option_and_then (described_entry e.is_default) (position (λ (i : InterfaceValue). same_name e.interface i.name) interfaces)
+    option_and_then (described_entry e.is_default)
+    (position (λ (i : InterfaceValue). same_name e.interface i.name) interfaces)
 
 abbrev pub class_description : List InterfaceValue → CoclassValue → DescriptionValue
 class_description interfaces c =

@@ -1,5 +1,6 @@
 -- The keys of a list, each once, with the places at which it stands.
-use Rattle.std.specs.Prelude.{ℕ, zero, suc, Bool, if◌then◌else◌, List, [], ◌∷◌, ◌++◌, map, fold, slice_get, Option, Some, None}
+use Rattle.std.specs.Prelude.{ℕ, zero, suc, Bool, if◌then◌else◌, List, [], ◌∷◌, ◌++◌, map, fold, slice_get, Option}
+use Rattle.std.specs.Prelude.{Some, None}
 use Rattle.std.specs.Option.{unwrap_or}
 use Rattle.indexmap.specs.IndexSet.{insert_key}
 
@@ -14,10 +15,12 @@ pub record GroupsValue (K : Type 0) : Type 0 where
 -- the places at which a key stands
 unfoldable pub places_of : {K : Type 0} → (K → K → Bool) → K → List K → List ℕ
 places_of eq key [] = []
-places_of eq key (k ∷ ks) = if eq key k then zero ∷ map (λ n. suc n) (places_of eq key ks) else map (λ n. suc n) (places_of eq key ks)
+places_of eq key (k ∷ ks) = if eq key k then zero ∷ map (λ n. suc n) (places_of eq key ks)
+    else map (λ n. suc n) (places_of eq key ks)
 
 abbrev pub keys_with_places : {K : Type 0} → (K → K → Bool) → List K → GroupsValue K
-keys_with_places eq keys = record { keys = distinct eq keys; places = map (λ k. places_of eq k keys) (distinct eq keys) }
+keys_with_places eq keys =
+    record { keys = distinct eq keys; places = map (λ k. places_of eq k keys) (distinct eq keys) }
 
 -- a further place of a group, or the first of a new one
 unfoldable pub with_place : ℕ → ℕ → List (List ℕ) → List (List ℕ)

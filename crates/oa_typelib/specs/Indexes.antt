@@ -1,5 +1,6 @@
 -- What a library keeps beside its tree, so that look-ups are quick.
-use Rattle.std.specs.Prelude.{◌≡◌, ℕ, Bool, false, not, if◌then◌else◌, List, [], Option, Some, None, map, find, position, slice_get}
+use Rattle.std.specs.Prelude.{◌≡◌, ℕ, Bool, false, not, if◌then◌else◌, List, [], Option, Some, None, map, find}
+use Rattle.std.specs.Prelude.{position, slice_get}
 use Rattle.std.specs.List.{filter_map, list_any}
 use Rattle.std.specs.Option.{option_and_then, unwrap_or}
 use Rattle.std.specs.Ordering.{int_eq}
@@ -83,7 +84,8 @@ abbrev pub entry_in : GroupsValue (List ℕ) → Entry → Option EntryDescripti
 entry_in groups e = option_and_then (described_entry e.is_default) (first_in groups (folded_name e.interface))
 
 abbrev pub described_class : GroupsValue (List ℕ) → CoclassValue → DescriptionValue
-described_class groups c = record { guid = c.guid; name = c.name; content = OfCoclass (filter_map (entry_in groups) c.entries) }
+described_class groups c =
+    record { guid = c.guid; name = c.name; content = OfCoclass (filter_map (entry_in groups) c.entries) }
 
 abbrev pub IsIndexed : TreeValue → List (List ℕ) → IndexValue → List (Option ℕ) → List ℕ → Type 0
 IsIndexed tree guids index defaults text =

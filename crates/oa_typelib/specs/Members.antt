@@ -1,5 +1,5 @@
--- The members of an interface, and the form of one that a call asks for. A member is the declarations of one DISPID and of one name:
--- one declaration, or a get and a put.
+-- The members of an interface, and the form of one that a call asks for. A member is the declarations of one DISPID and
+-- of one name: one declaration, or a get and a put.
 use Rattle.std.specs.Prelude.{ℕ, ℤ, Bool, true, false, not, ◌&&◌, nat_eq, if◌then◌else◌, List}
 use Rattle.std.specs.Prelude.{Option, Some, None, Result, Ok, Err, find, slice_get, is_some, bit_and}
 use Rattle.std.specs.List.{filter}
@@ -71,7 +71,8 @@ asks_get flags = not (nat_eq (bit_and flags get_flag) 0)
 abbrev pub asks_put : ℕ → Bool
 asks_put flags = not (nat_eq (bit_and flags put_flag) 0)
 
--- The form of a property that a call asks for: with flags a put where that flag is set, else a get (this project's choice).
+-- The form of a property that a call asks for: with flags a put where that flag is set, else a get (this project's
+-- choice).
 abbrev pub kind_asked : Access → Option Kind
 kind_asked (Flags flags) = if asks_put flags then Some kinds.Put else if asks_get flags then Some kinds.Get else None
 kind_asked Get = Some kinds.Get

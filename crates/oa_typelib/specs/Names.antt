@@ -1,6 +1,8 @@
--- Which DISPIDs names have (MS-OAUT section 3.1.4.3): the first name is that of a member, the others are names of its parameters. Names are
--- lists of UTF-16 units. A name is equal to a declared one where both are equal once A to Z are folded (this project's choice).
-use Rattle.std.specs.Prelude.{ℕ, ℤ, pos, nat_lt, if◌then◌else◌, List, [], ◌∷◌, map, Option, Some, None, is_some, position}
+-- Which DISPIDs names have (MS-OAUT section 3.1.4.3): the first name is that of a member, the others are names of its
+-- parameters. Names are lists of UTF-16 units. A name is equal to a declared one where both are equal once A to Z are
+-- folded (this project's choice).
+use Rattle.std.specs.Prelude.{ℕ, ℤ, pos, nat_lt, if◌then◌else◌, List, [], ◌∷◌, map, Option, Some, None, is_some}
+use Rattle.std.specs.Prelude.{position}
 use Rattle.std.specs.List.{list_all}
 use Rattle.std.specs.Option.{option_and_then, unwrap_or}
 use Rattle.oa_model.specs.Invoke.{unknown_dispid}
@@ -12,13 +14,14 @@ use Rattle.oa_checks.specs.Libraries.{same_name}
 use Rattle.oa_typelib.specs.Members.{forms_named, main_form}
 use Rattle.oa_typelib.specs.NamedValues.{DispIdsValue}
 
--- The DISPID of a parameter is its place from 0 (this project's choice), where that is a DISPID: a library has at most 16 parameters in a
--- member. The new value of a put has none.
+-- The DISPID of a parameter is its place from 0 (this project's choice), where that is a DISPID: a library has at most
+-- 16 parameters in a member. The new value of a put has none.
 abbrev pub place_as_id : ℕ → Option ℤ
 place_as_id n = if nat_lt n 2147483648 then Some (pos n) else None
 
 abbrev pub parameter_named : List Parameter → List ℕ → Option ℤ
-parameter_named parameters name = option_and_then place_as_id (position (λ (p : Parameter). same_name name p.name) parameters)
+parameter_named parameters name =
+    option_and_then place_as_id (position (λ (p : Parameter). same_name name p.name) parameters)
 
 -- of a member by the declaration that speaks for it, and of its parameters; of no member none is known
 abbrev pub ids_in : Option DeclarationValue → List (List ℕ) → List (Option ℤ)

@@ -19,7 +19,8 @@ pub record IsMember (i : InterfaceValue) (name : List ℕ) (id : ℤ) : Type 0 w
   pub declared : Declares i name declaration
   pub has : declaration.id ≡ id
 
--- A parameter of the member of a name has this name, and its DISPID is its place. The new value of a put is none of them.
+-- A parameter of the member of a name has this name, and its DISPID is its place. The new value of a put is none of
+-- them.
 pub record IsParameterOf (i : InterfaceValue) (member name : List ℕ) (id : ℤ) : Type 0 where
   pub declaration : DeclarationValue
   pub declared : Declares i member declaration

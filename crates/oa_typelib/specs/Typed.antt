@@ -14,10 +14,11 @@ use Rattle.oa_checks.specs.Declarations.{declarations}
 abbrev pub IsOfText : TreeValue → Type 0
 IsOfText tree = (text : List ℕ) × IsTree text tree
 
--- what it declares has a type with a zero (MS-OAUT section 2.2.8: cells of an array have an sfType) or is void, and each parameter has
--- such a type
+-- what it declares has a type with a zero (MS-OAUT section 2.2.8: cells of an array have an sfType) or is void, and
+-- each parameter has such a type
 abbrev pub IsTypedDeclaration : DeclarationValue → Type 0
-IsTypedDeclaration d = IfSome d.value_type HasZero × AllByRecursion (λ (p : Parameter). HasZero p.value_type) d.parameters
+IsTypedDeclaration d =
+    IfSome d.value_type HasZero × AllByRecursion (λ (p : Parameter). HasZero p.value_type) d.parameters
 
 abbrev pub IsTypedItem : Item → Type 0
 IsTypedItem (Interface i) = AllByRecursion IsTypedDeclaration (declarations i)

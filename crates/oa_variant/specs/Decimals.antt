@@ -19,7 +19,8 @@ high_of magnitude = magnitude / 2 ^ 64
 abbrev pub low_of : ℕ → ℕ
 low_of magnitude = magnitude % 2 ^ 64
 
-pub halves : (high low : ℕ) → low < 2 ^ 64 → (high_of (high * 2 ^ 64 + low) ≡ high) × (low_of (high * 2 ^ 64 + low) ≡ low)
+pub halves : (high low : ℕ) → low < 2 ^ 64
+    → (high_of (high * 2 ^ 64 + low) ≡ high) × (low_of (high * 2 ^ 64 + low) ≡ low)
 halves high low h = (omega (arith, h), omega (arith, h))
 
 -- the positive zero of scale 0
@@ -28,7 +29,8 @@ zero_decimal = record { negative = false; scale = 0; magnitude = 0 }
 
 -- the order in keys, which is not that of the numbers meant: plus before minus, then by scale, then by magnitude
 abbrev pub decimal_cmp : DecimalValue → DecimalValue → Ordering
-decimal_cmp = then_cmp (on (λ d. d.negative) bool_cmp) (then_cmp (on (λ d. d.scale) nat_cmp) (on (λ d. d.magnitude) nat_cmp))
+decimal_cmp =
+    then_cmp (on (λ d. d.negative) bool_cmp) (then_cmp (on (λ d. d.scale) nat_cmp) (on (λ d. d.magnitude) nat_cmp))
 
 pub decimals_total : IsTotalOrder decimal_cmp
 decimals_total = then_total (on_total (λ d. d.negative) bool_cmp_total)

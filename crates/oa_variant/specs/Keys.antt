@@ -1,5 +1,5 @@
--- The order of scalars as keys of cells (this project's choice): by the number of the type, then integers, CY and ERROR by value, false
--- before true, DECIMAL by sign, scale and magnitude, the null text first and texts then by their bytes.
+-- The order of scalars as keys of cells (this project's choice): by the number of the type, then integers, CY and ERROR
+-- by value, false before true, DECIMAL by sign, scale and magnitude, the null text first and texts then by their bytes.
 use Rattle.std.specs.Prelude.{ℕ, ℤ, pos, true, false}
 use Rattle.std.specs.Ordering.{nat_cmp, int_cmp, on, then_cmp}
 use Rattle.std.specs.Cmp.{IsTotalOrder}
@@ -57,8 +57,11 @@ abbrev pub key_type : Scalar → ℕ
 key_type s = vt_of (type_of s)
 
 abbrev pub scalar_cmp : Scalar → Scalar → Ordering
-scalar_cmp = then_cmp (on key_type nat_cmp) (then_cmp (on key_number int_cmp) (then_cmp (on text_of text_cmp) (on decimal_of decimal_cmp)))
+scalar_cmp =
+    then_cmp (on key_type nat_cmp)
+    (then_cmp (on key_number int_cmp) (then_cmp (on text_of text_cmp) (on decimal_of decimal_cmp)))
 
 pub scalars_total : IsTotalOrder scalar_cmp
 scalars_total = then_total (on_total key_type nat_cmp_total)
-    (then_total (on_total key_number int_cmp_total) (then_total (on_total text_of texts_total) (on_total decimal_of decimals_total)))
+    (then_total (on_total key_number int_cmp_total)
+    (then_total (on_total text_of texts_total) (on_total decimal_of decimals_total)))

@@ -1,5 +1,6 @@
 -- Scalars: their types, their zeros and what each may be.
-use Rattle.std.specs.Prelude.{◌≡◌, ◌⊎◌, ◌||◌, ◌≤◌, ◌<◌, ◌^◌, ℕ, Bool, List, Option, None, false, length, pos, FitsSigned}
+use Rattle.std.specs.Prelude.{◌≡◌, ◌⊎◌, ◌||◌, ◌≤◌, ◌<◌, ◌^◌, ℕ, Bool, List, Option, None, false, length, pos}
+use Rattle.std.specs.Prelude.{FitsSigned}
 use Rattle.std.proofs.Common.{inl, inr, refl}
 use Rattle.std.specs.Int.{w8, w16, w32, w64}
 use denote.Enum.Bare.{sameb}

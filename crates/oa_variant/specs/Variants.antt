@@ -45,8 +45,8 @@ HasZero (kinds.Array t) = IsSome (sf_type_of t)
 abbrev pub no_indices : Bound
 no_indices = record { count = 0; lower = pos 0 }
 
--- the value of a cell of a declared type that was never put (this project's choice): of an array type one dimension without indices,
--- so without cells
+-- the value of a cell of a declared type that was never put (this project's choice): of an array type one dimension
+-- without indices, so without cells
 abbrev pub zero_value : ValueType → Variant
 zero_value (kinds.One t) = One (zero_of t)
 zero_value (kinds.Array t) = Array (record { elem = t; bounds = no_indices ∷ []; cells = []; locks = 0 })

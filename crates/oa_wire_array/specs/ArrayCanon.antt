@@ -73,7 +73,8 @@ put_shape t dims out =
 -- cLocks, of which the high half is the type of the cells, sfType, Size, the pointer
 abbrev pub put_size : VarType → ℕ → List ℕ → List ℕ
 put_size t count out =
-    out |> put_unit 4 (vt_of t * 65536) |> put_unit 4 (unwrap_or (sf_type_of t) 0) |> put_unit 4 count |> put_referent true
+    out |> put_unit 4 (vt_of t * 65536) |> put_unit 4 (unwrap_or (sf_type_of t) 0) |> put_unit 4 count
+    |> put_referent true
 
 -- not unfolded by itself: each part counts the bytes before it, so a long row of parts is a large term
 unfoldable pub put_array : ArrayValue Scalar → List ℕ → List ℕ

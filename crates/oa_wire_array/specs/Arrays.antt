@@ -1,5 +1,5 @@
--- How an array lies in bytes: wireSAFEARRAY (MS-OAUT 2.2.30.10) from its second referent on. The order of bounds and cells, and that a null
--- referent in an array of VARIANT is EMPTY, are this project's choice.
+-- How an array lies in bytes: wireSAFEARRAY (MS-OAUT 2.2.30.10) from its second referent on. The order of bounds and
+-- cells, and that a null referent in an array of VARIANT is EMPTY, are this project's choice.
 use Rattle.std.specs.Prelude.{◌≡◌, ◌≤◌, Bool, true, false, List, length, Some, None, IsSome, Result, Ok, Err}
 use Rattle.std.specs.Int.{w32}
 use Rattle.oa_ndr.specs.Forms.{Form, ◌▸◌, ignored, unit, with, given, referent, each, pairwise, made}
@@ -56,12 +56,13 @@ header a =
 abbrev pub array : ArrayValue Scalar → Form
 array a = given (IsUnlocked a) ▸ referent true ▸ header a
 
--- What a call at a reader answers: the array of that type which the bytes that it moved past spell; BadVarType where there are no arrays of
--- the type; else BadStub where no bytes there spell one. Memory is taken only behind the numbers before the bounds. At an error the reader
--- is as it was.
+-- What a call at a reader answers: the array of that type which the bytes that it moved past spell; BadVarType where
+-- there are no arrays of the type; else BadStub where no bytes there spell one. Memory is taken only behind the numbers
+-- before the bounds. At an error the reader is as it was.
 abbrev pub IsArrayFront : VarType → Result (ArrayValue Scalar) WireFault → Cursor → Cursor → Type 0
 IsArrayFront t (Ok a) old new = (a.elem ≡ t) × Stretch (array a) old new
 IsArrayFront t (Err BadStub) old new =
-    IsSome (sf_type_of t) × ((a : ArrayValue Scalar) (end : Cursor) → a.elem ≡ t → Stretch (array a) old end → ⊥) × (new ≡ old)
+    IsSome (sf_type_of t) × ((a : ArrayValue Scalar) (end : Cursor) → a.elem ≡ t → Stretch (array a) old end → ⊥)
+    × (new ≡ old)
 IsArrayFront t (Err BadVarType) old new = (sf_type_of t ≡ None) × (new ≡ old)
 IsArrayFront t (Err Memory) old new = IsSome (sf_type_of t) × (32 ≤ length old.rest) × (new ≡ old)

@@ -39,7 +39,8 @@ put_arm (scalars.Decimal d) out = out |> put_decimal d
 -- clSize, rpcReserved, vt, three reserved numbers
 abbrev pub put_head : ℕ → ℕ → List ℕ → List ℕ
 put_head size vt out =
-    out |> put_align 8 |> put_unit 4 size |> put_unit 4 0 |> put_unit 2 vt |> put_unit 2 0 |> put_unit 2 0 |> put_unit 2 0
+    out |> put_align 8 |> put_unit 4 size |> put_unit 4 0 |> put_unit 2 vt |> put_unit 2 0 |> put_unit 2 0
+    |> put_unit 2 0
 
 -- with a given clSize
 abbrev pub put_sized : ℕ → Scalar → List ℕ → List ℕ

@@ -1,5 +1,5 @@
--- How a scalar lies in bytes: wireVARIANT (MS-OAUT 2.2.29) with the arm of its type. Alignment is NDR's (C706 14.2.2); that CURRENCY,
--- DECIMAL and wireVARIANT begin at a multiple of 8 is this project's choice.
+-- How a scalar lies in bytes: wireVARIANT (MS-OAUT 2.2.29) with the arm of its type. Alignment is NDR's (C706 14.2.2);
+-- that CURRENCY, DECIMAL and wireVARIANT begin at a multiple of 8 is this project's choice.
 use Rattle.std.specs.Prelude.{◌≡◌, ℕ, ℤ, ◌+◌, ◌*◌, ◌^◌, ◌≤◌, ◌==◌, Bool, true, false, not, List, length, drop}
 use Rattle.byteorder.specs.Endian.{little_number}
 use Rattle.std.specs.Int.{Width, w8, w16, w32, w64, cast_signed}
@@ -69,8 +69,8 @@ union_of vt v = given (scalar_vt v ≡ vt) ▸ union v
 abbrev pub own_vt : List ℕ → ℕ
 own_vt bytes = little_number 2 (drop 8 bytes)
 
--- a scalar takes memory where it is a text: the vt is VT_BSTR (MS-OAUT 2.2.7), and the head, the discriminant, the referent and the three
--- numbers before the text are there, 16, 4, 4 and 12 bytes
+-- a scalar takes memory where it is a text: the vt is VT_BSTR (MS-OAUT 2.2.7), and the head, the discriminant, the
+-- referent and the three numbers before the text are there, 16, 4, 4 and 12 bytes
 abbrev pub TakesText : List ℕ → Type 0
 TakesText bytes = (36 ≤ length bytes) × (own_vt bytes ≡ 8)
 

@@ -1,5 +1,6 @@
 -- Reading as functions on lists, which say the same as the forms (proofs/TextLaws has the laws).
-use Rattle.std.specs.Prelude.{◌≡◌, ℕ, ◌+◌, ◌%◌, ◌==◌, ◌&&◌, nat_le, List, Option, Some, None, Result, Ok, Err, ◌++◌, length, drop}
+use Rattle.std.specs.Prelude.{◌≡◌, ℕ, ◌+◌, ◌%◌, ◌==◌, ◌&&◌, nat_le, List, Option, Some, None, Result, Ok, Err, ◌++◌}
+use Rattle.std.specs.Prelude.{length, drop}
 use Rattle.oa_ndr.specs.Forms.{padding}
 use Rattle.oa_ndr.specs.Reading.{Cursor, Reading, ◌>>=◌, give, fail, choose, bytes_at, unit_at, referent_at}
 use Rattle.oa_model.specs.Limits.{max_text_bytes}
@@ -30,8 +31,8 @@ pub record Stretch (F : ℕ → List ℕ → Type 0) (from to : Cursor) : Type 0
   pub place : to.position ≡ from.position + length text
   pub form : F from.position text
 
--- What a call at a reader answers: the value of the bytes that it moved past; BadStub where no bytes there are of the form of any value. At
--- an error the reader is as it was.
+-- What a call at a reader answers: the value of the bytes that it moved past; BadStub where no bytes there are of the
+-- form of any value. At an error the reader is as it was.
 abbrev pub IsFront : {A : Type 0} → (A → ℕ → List ℕ → Type 0) → Result A StubFault → Cursor → Cursor → Type 0
 IsFront F (Ok x) old new = Stretch (F x) old new
 IsFront {A} F (Err BadStub) old new = ((x : A) (end : Cursor) → Stretch (F x) old end → ⊥) × (new ≡ old)

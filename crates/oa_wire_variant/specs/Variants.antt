@@ -1,6 +1,7 @@
--- Which bytes of a whole field spell which value, and the fault of a field that spells none: wireVARIANT (MS-OAUT 2.2.29).
-use Rattle.std.specs.Prelude.{◌≡◌, ℕ, ◌+◌, ◌-◌, ◌≤◌, ◌&&◌, ◌⊎◌, nat_le, nat_lt, is_some, Bool, true, false, not, if◌then◌else◌, List}
-use Rattle.std.specs.Prelude.{length, Option, Some, None, Result, Ok, Err}
+-- Which bytes of a whole field spell which value, and the fault of a field that spells none: wireVARIANT (MS-OAUT
+-- 2.2.29).
+use Rattle.std.specs.Prelude.{◌≡◌, ℕ, ◌+◌, ◌-◌, ◌≤◌, ◌&&◌, ◌⊎◌, nat_le, nat_lt, is_some, Bool, true, false, not}
+use Rattle.std.specs.Prelude.{if◌then◌else◌, List, length, Option, Some, None, Result, Ok, Err}
 use Rattle.oa_ndr.specs.Forms.{Form, ◌▸◌, align, ignored, unit, with, given, referent}
 use Rattle.oa_model.specs.Invoke.{vt_array}
 use Rattle.oa_model.specs.Types.{vt_of, vt_of_value, type_at, sf_type_of}
@@ -20,8 +21,8 @@ use Rattle.oa_wire_array.specs.declared.fault.WireFault.TheVariants.{BadStub, Ba
 abbrev pub value_vt : Variant → ℕ
 value_vt v = vt_of_value (value_type_of v)
 
--- the union of an array: the discriminant, which is VT_ARRAY or vt (this project's choice), a referent, which is set, and what lies behind
--- it
+-- the union of an array: the discriminant, which is VT_ARRAY or vt (this project's choice), a referent, which is set,
+-- and what lies behind it
 abbrev pub array_union : ArrayValue Scalar → Form
 array_union a = with (unit 4) (λ d. given ((d ≡ vt_array) ⊎ (d ≡ vt_of a.elem + vt_array)) ▸ referent true ▸ array a)
 
@@ -52,8 +53,8 @@ is_cell_type (Some t) = is_some (sf_type_of t)
 abbrev pub is_value_type : ℕ → Bool
 is_value_type vt = if nat_lt vt vt_array then is_scalar_type (type_at vt) else is_cell_type (type_at (vt - vt_array))
 
--- the fault of a field that spells no value (this project's choice): its vt, at the offset 8, is asked where the field has room for a vt
--- and a discriminant
+-- the fault of a field that spells no value (this project's choice): its vt, at the offset 8, is asked where the field
+-- has room for a vt and a discriminant
 abbrev pub field_fault : List ℕ → WireFault
 field_fault bytes = if nat_le 20 (length bytes) && not (is_value_type (own_vt bytes)) then BadVarType else BadStub
 
@@ -61,13 +62,13 @@ field_fault bytes = if nat_le 20 (length bytes) && not (is_value_type (own_vt by
 abbrev pub IsArrayVt : ℕ → Type 0
 IsArrayVt vt = (vt_array ≤ vt) × (is_cell_type (type_at (vt - vt_array)) ≡ true)
 
--- a value takes memory where it is a text, or an array: its vt is VT_ARRAY with a type of cells (MS-OAUT 2.2.7), and the head, the
--- discriminant, the two referents and the numbers before the bounds are there, 16, 4, 8 and 28 bytes
+-- a value takes memory where it is a text, or an array: its vt is VT_ARRAY with a type of cells (MS-OAUT 2.2.7), and
+-- the head, the discriminant, the two referents and the numbers before the bounds are there, 16, 4, 8 and 28 bytes
 abbrev pub TakesMemory : List ℕ → Type 0
 TakesMemory bytes = TakesText bytes ⊎ ((56 ≤ length bytes) × IsArrayVt (own_vt bytes))
 
--- what reading a field answers: the value that its bytes spell, or its fault where they spell none; want of memory only where a value takes
--- some
+-- what reading a field answers: the value that its bytes spell, or its fault where they spell none; want of memory only
+-- where a value takes some
 abbrev pub ReadsVariant : List ℕ → Result Variant WireFault → Type 0
 ReadsVariant bytes (Ok v) = Spells bytes v
 ReadsVariant bytes (Err Memory) = TakesMemory bytes

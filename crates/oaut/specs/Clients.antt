@@ -22,9 +22,10 @@ use Rattle.oa_stream.specs.Sink.{Output}
 use Rattle.oa_stream.specs.Source.{Input}
 use Rattle.oa_table.specs.Tables.{first_table}
 
--- A session of many clients was held, in groups of a size, over a reader and a writer that had not failed, and of which nothing was kept
--- back; how it ended is told as the program tells it.
-pub record HoldsSession {D : Type 0} {g : Ghosts D} (size : ℕ) (result : Result (Unit {0}) Fault) (old new : SharedEngine D g) : Type 0 where
+-- A session of many clients was held, in groups of a size, over a reader and a writer that had not failed, and of which
+-- nothing was kept back; how it ended is told as the program tells it.
+pub record HoldsSession {D : Type 0} {g : Ghosts D} (size : ℕ) (result : Result (Unit {0}) Fault)
+    (old new : SharedEngine D g) : Type 0 where
   pub input : Input
   pub input' : Input
   pub out : Output
@@ -36,7 +37,8 @@ pub record HoldsSession {D : Type 0} {g : Ghosts D} (size : ℕ) (result : Resul
   pub told : result ≡ of_session_end why
 
 -- that, or memory was refused before anything was read
-abbrev pub HoldsClients : {D : Type 0} {g : Ghosts D} → ℕ → Result (Unit {0}) Fault → SharedEngine D g → SharedEngine D g → Type 0
+abbrev pub HoldsClients : {D : Type 0} {g : Ghosts D} → ℕ → Result (Unit {0}) Fault → SharedEngine D g
+    → SharedEngine D g → Type 0
 HoldsClients size result old new = HoldsSession size result old new ⊎ ((result ≡ Err faults.Memory) × (new ≡ old))
 
 -- ---- over a library

@@ -34,10 +34,6 @@ is_done line items o is unbroken = rw is (writes_nothing o unbroken)
 pub delivered : (a b c : Output) (xs : List ℕ) → Writes a b xs → Writes b c [] → Writes a c xs
 delivered a b c xs p q = rw (← append-nil xs) (writes_then a b c xs [] p q)
 
-pub with_ok : {T : Type 0} {A B : Type 0} (result : Result T Fault) → (A → B) → OnOk result A → OnOk result B
-with_ok (Ok x) f h = f h
-with_ok (Err e) f h = tt
-
 -- ---- lines that are broken off
 
 -- nothing was put

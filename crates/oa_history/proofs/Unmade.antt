@@ -9,16 +9,10 @@ use Rattle.oa_store.specs.declared.fault.UpgradeFault.{UpgradeFault}
 use Rattle.oa_store.specs.declared.fault.UpgradeFault.TheVariants as upgrades
 use Rattle.oa_store.specs.declared.fault.WriteFault.{WriteFault}
 use Rattle.oa_store.specs.declared.fault.WriteFault.TheVariants as writes
-use Rattle.oa_store.specs.declared.fault.FormatFault.{FormatFault}
 use Rattle.oa_store.specs.declared.fault.FormatFault.TheVariants.{TooSmall, Device, Memory}
-use Rattle.oa_history.specs.Kept.{IsNotBrought, IsUnformatted, IsUnmade, IsWanting}
+use Rattle.oa_history.specs.Kept.{IsNotBrought, IsUnmade, IsWanting}
 use Rattle.oa_history.specs.declared.fault.HistoryFault.{HistoryFault}
 use Rattle.oa_history.specs.declared.fault.HistoryFault.TheVariants as histories
-
-pub unformatted : (bank size : ℕ) (fault : FormatFault) → (fault ≡ TooSmall → size < disk_bytes (Two bank)) → IsUnformatted bank size fault
-unformatted bank size TooSmall small = small refl
-unformatted bank size (Device fault) small = tt
-unformatted bank size Memory small = tt
 
 -- what keeps a store from a history keeps a disk from one
 pub unmade : (bank size : ℕ) (fault : HistoryFault) → IsWanting fault → IsUnmade bank size fault

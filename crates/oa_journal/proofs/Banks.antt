@@ -136,7 +136,7 @@ memory_bank shape at place disk library now known is fits head holds =
     → IsBank shape (from_place at disk) (from_place place disk) library (unlocked_table now) (start_of library image))
     (same_table now) (front_bank shape at place disk library (unlocked_table now) known is) fits head holds
 
--- the numbers of a bank's objects are from 1 to below the next one
+-- the numbers of a table's objects are from 1 to below the next one, and events keep them so
 pub replays_numbered : (events : List Event) (old new : TableValue) → is_numbered old ≡ true → applied_all events old ≡ Ok new
     → is_numbered new ≡ true
 replays_numbered [] old new is e = subst (λ (t : TableValue). is_numbered t ≡ true) (same_made old new e) is
@@ -148,15 +148,6 @@ replays_numbered (event ∷ events) old new is e = by (applied event old) (λ mi
         → followed (λ next. applied_all events next) r ≡ Ok new → is_numbered new ≡ true
     by (Ok mid) stays later rest = later mid (stays mid refl) rest
     by (Err fault) stays later rest = absurd cc
-
-all_numbered : (groups : List (List ℕ)) (old new : TableValue) → is_numbered old ≡ true → ReplaysAll groups old new → is_numbered new ≡ true
-all_numbered [] old new is same = subst (λ (t : TableValue). is_numbered t ≡ true) same is
-all_numbered (group ∷ groups) old new is all = all_numbered groups all.0 new (replays_numbered all.1.events old all.0 is all.1.makes) all.2
-
-pub bank_numbered : (shape : Shape) (head body : ℕ → ℕ) (library : List ℕ) (now : TableValue) (gate : ℕ)
-    → IsBank shape head body library now gate → is_numbered now ≡ true
-unfolding table only coded
-bank_numbered shape head body library now gate bank = all_numbered bank.groups bank.first now bank.is.1 bank.makes
 
 -- nor does a group change that, nor has an image another table
 pub group_numbered : (group : List ℕ) (old new : TableValue) → Replays group old new → is_numbered old ≡ true → is_numbered new ≡ true

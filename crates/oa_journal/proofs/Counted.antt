@@ -11,9 +11,6 @@ pub record HasWritten (since now buffer at all : ℕ) : Type 0 where
   pub few : writes * buffer < at + buffer
   pub full : at < all → writes * buffer ≤ at
 
-pub begun : (since now buffer all : ℕ) → now ≤ since + 2 → 0 < buffer → HasWritten since now buffer 0 all
-begun since now buffer all soon some = record { writes = 0; soon = omega arith; few = omega arith; full = λ lt. omega arith }
-
 pub one_more : (since now later buffer at all n : ℕ) → HasWritten since now buffer at all → later ≤ now + 2 → 0 < n
     → n ≡ min buffer (all - at) → HasWritten since later buffer (at + n) all
 one_more since now later buffer at all n so_far soon some is =

@@ -1,7 +1,7 @@
 -- Calls that write nothing. (This project's choice.)
-use Rattle.std.proofs.Common.{◌≡◌, ℕ, List, refl, ◌∙◌}
-use Rattle.oa_disk.specs.Disk.{Elapses, LeavesOnly, Stays}
-use Rattle.oa_disk.specs.Moments.{started, goes_on, chained}
+use Rattle.std.proofs.Common.{◌≡◌, ℕ, List, ◌∙◌}
+use Rattle.oa_disk.specs.Disk.{LeavesOnly}
+use Rattle.oa_disk.specs.Moments.{chained}
 
 -- At every moment of the calls each image is one of those at their start.
 pub record WritesNothing {D : Type 0} (image : D → List ℕ → Type 0) (moment : D → ℕ)
@@ -17,23 +17,6 @@ pub record OnlyReads {D : Type 0} (contents : D → List ℕ) (image : D → Lis
   pub writes_nothing : WritesNothing image moment image_since old new
 
 module _ {D : Type 0} (image : D → List ℕ → Type 0) (moment : D → ℕ) (image_since : D → ℕ → List ℕ → Type 0) where
-  -- no call
-  pub called_none : (old : D) → ((c : List ℕ) → image_since old (moment old) c → image old c)
-      → WritesNothing image moment image_since old old
-  called_none old only = record { images = λ c is. is; moments = started moment image_since old (image old) only }
-
-  -- one call
-  pub called_once : (old new : D) → ((c : List ℕ) → image_since old (moment old) c → image old c)
-      → ((c : List ℕ) → image new c → image old c)
-      → Elapses (moment old) (moment new) (image_since old) (image_since new) (image new)
-      → WritesNothing image moment image_since old new
-  called_once old new only images time = record {
-    images = images;
-    moments =
-        goes_on moment image_since old old new (image old) (image new)
-        (started moment image_since old (image old) only) time images;
-  }
-
   -- one run behind the other
   pub called_on : (old mid new : D) → WritesNothing image moment image_since old mid
       → WritesNothing image moment image_since mid new → WritesNothing image moment image_since old new
@@ -45,21 +28,6 @@ module _ {D : Type 0} (image : D → List ℕ → Type 0) (moment : D → ℕ) (
 
 module _ {D : Type 0} (contents : D → List ℕ) (image : D → List ℕ → Type 0) (moment : D → ℕ)
     (image_since : D → ℕ → List ℕ → Type 0) where
-  -- no call
-  pub reads_none : (old : D) → ((c : List ℕ) → image_since old (moment old) c → image old c)
-      → OnlyReads contents image moment image_since old old
-  reads_none old only = record { contents_stay = refl; writes_nothing = called_none image moment image_since old only }
-
-  -- one call that leaves contents and images as they were
-  pub reads_one : (old new : D) → ((c : List ℕ) → image_since old (moment old) c → image old c)
-      → Stays (contents old) (contents new) (image old) (image new)
-      → Elapses (moment old) (moment new) (image_since old) (image_since new) (image new)
-      → OnlyReads contents image moment image_since old new
-  reads_one old new only stays time = record {
-    contents_stay = stays.contents;
-    writes_nothing = called_once image moment image_since old new only stays.images time;
-  }
-
   -- one run behind the other
   pub reads_on : (old mid new : D) → OnlyReads contents image moment image_since old mid
       → OnlyReads contents image moment image_since mid new → OnlyReads contents image moment image_since old new

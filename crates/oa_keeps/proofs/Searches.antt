@@ -1,26 +1,25 @@
 -- The turns of the search for what is lost.
-use Rattle.std.proofs.Common.{◌≡◌, ℕ, ℤ, suc, Bool, true, false, cond, not, ◌&&◌, ◌||◌, List, [], ◌∷◌, map, slice_get, drop, length, get_or, ◌<◌, ◌≤◌, ◌+◌, add-one, Vec, Global}
+use Rattle.std.proofs.Common.{◌≡◌, ℕ, ℤ, suc, Bool, true, false, cond, ◌&&◌, ◌||◌, List, [], ◌∷◌, map, slice_get, drop, length, get_or, ◌<◌, ◌≤◌, ◌+◌, add-one, Vec, Global}
 use Rattle.std.proofs.Common.{Option, None, Some, is_some, refl, sym, ap, ◌∙◌, true≢false, if◌then◌else◌}
 use Rattle.std.proofs.Math.Seq.{drop-cons}
 use Rattle.std.proofs.Math.ListN.{drop_of_length-le}
 use Rattle.std.specs.List.{list_any, list_all, filter, filter_map}
 use Rattle.std.specs.Option.{option_and_then, option_map, option_map_or, option_or}
 use Rattle.std.specs.Ordering.{int_eq}
-use Rattle.oa_idl.specs.Trees.{TreeValue}
 use Rattle.oa_idl.specs.Values.{InterfaceValue, CoclassValue}
 use Rattle.oa_idl.specs.declared.items.Item.{Item}
 use Rattle.oa_checks.specs.DeclarationValues.{DeclarationValue}
 use Rattle.oa_checks.specs.Declarations.{declarations}
 use Rattle.oa_typelib.specs.Descriptions.{put_last}
-use Rattle.oa_keeps.specs.Keeps.{default_guid, is_kept_by, lost_declaration, lost_form, lost_member, interface_in, keeps_entry}
-use Rattle.oa_checks.specs.Libraries.{as_class, as_interface, default_interface, has_interface, if_entered, folded_names}
+use Rattle.oa_keeps.specs.Keeps.{default_guid, is_kept_by, lost_declaration, lost_form, lost_member}
+use Rattle.oa_checks.specs.Libraries.{as_class, as_interface, default_interface, folded_names}
 use Rattle.oa_typelib.specs.Members.{forms_with}
 use Rattle.oa_checks.specs.Repeats.{first_answer}
 use Rattle.oa_typelib.specs.Indexes.{default_in, grouped, is_put_or_not}
 use Rattle.oa_typelib.proofs.Finds.{default_of_item}
 use Rattle.oa_typelib.proofs.Kept.{filter_of_map}
 use Rattle.oa_typelib.proofs.Looks.{in_order}
-use Rattle.oa_typelib.proofs.Same.{answer_append, answer_flat, answer_here, answer_mapped, all_here, inside}
+use Rattle.oa_typelib.proofs.Same.{answer_append, answer_flat, answer_here, answer_mapped, all_here}
 
 -- declarations with another DISPID stand for nothing
 pub among_forms : (i : InterfaceValue) (was : DeclarationValue) → list_any (is_kept_by was) (forms_with was.id i) ≡ list_any (is_kept_by was) (declarations i)
@@ -35,32 +34,11 @@ among_forms i was = by (declarations i)
         step d true is e = ap (λ b. is_kept_by was d || b) e
         step d false is e = rw is e
 
-module _ (new : TreeValue) (now was : CoclassValue) where
-  pub entry_there : (o : Option InterfaceValue) (i : InterfaceValue) (b : Bool) → Some i ≡ option_and_then (if_entered was) o → b ≡ is_some (interface_in new now i.guid) → b ≡ option_map_or (keeps_entry new now was) o true
-  entry_there None i b e is = absurd cc
-  entry_there (Some j) i b e is = by (has_interface was j) refl e
-    where
-      by : (h : Bool) → has_interface was j ≡ h → Some i ≡ (if h then Some j else None) → b ≡ (not h || is_some (interface_in new now j.guid))
-      by true has k = is ∙ ap (λ (x : InterfaceValue). is_some (interface_in new now x.guid)) (inside i j k)
-      by false has k = absurd cc
-
-  pub entry_not_there : (o : Option InterfaceValue) → None ≡ option_and_then (if_entered was) o → true ≡ option_map_or (keeps_entry new now was) o true
-  entry_not_there None e = refl
-  entry_not_there (Some j) e = by (has_interface was j) e
-    where
-      by : (h : Bool) → None ≡ (if h then Some j else None) → true ≡ (not h || is_some (interface_in new now j.guid))
-      by true k = absurd cc
-      by false k = refl
-
 pub kept_none : (now : InterfaceValue) (was : DeclarationValue) (b : Bool) → b ≡ list_any (is_kept_by was) (declarations now) → b ≡ true → None ≡ lost_declaration now was
 kept_none now was b is e = sym (ap (λ b. if b then None else Some was.id) (sym is ∙ e))
 
 pub lost_some : (now : InterfaceValue) (was : DeclarationValue) (b : Bool) → b ≡ list_any (is_kept_by was) (declarations now) → b ≡ false → Some was.id ≡ lost_declaration now was
 lost_some now was b is e = sym (ap (λ b. if b then None else Some was.id) (sym is ∙ e))
-
-none_if : {Y : Type 0} (o : Option Y) → is_some o ≡ false → o ≡ None
-none_if None e = refl
-none_if (Some y) e = absurd (true≢false e)
 
 or_here : {Y : Type 0} (o p : Option Y) → is_some o ≡ true → option_or o p ≡ o
 or_here None p e = absurd (true≢false (sym e))
@@ -136,9 +114,6 @@ module _ {X Y : Type 0} (p : Y → Bool) (g : X → Option Y) (xs : List X) (n :
 
   pub all_on : (r : Bool) → n < length xs → list_all p (filter_map g (drop n xs)) ≡ all → r ≡ option_map_or p (option_and_then g (slice_get xs n)) true → r ≡ true → list_all p (filter_map g (drop (n + 1) xs)) ≡ all
   all_on r h left is e = ap (λ k. list_all p (filter_map g (drop k xs))) (add-one n) ∙ sym (ap (λ b. b && list_all p (filter_map g (drop (suc n) xs))) (sym is ∙ e)) ∙ sym (all_here p g xs n h) ∙ left
-
-  pub all_done : length xs ≤ n → list_all p (filter_map g (drop n xs)) ≡ all → true ≡ all
-  all_done h left = sym (ap (λ ys. list_all p (filter_map g ys)) (drop_of_length-le xs h)) ∙ left
 
 -- the GUIDs of default interfaces
 pub default_before : (items : List Item) (o : Option Item) → option_and_then (default_guid items) (option_and_then as_class o)

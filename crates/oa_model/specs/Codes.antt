@@ -67,8 +67,5 @@ regdb_e_classnotreg = record { 0 = 2147746132 }
 abbrev pub stg_e_writefault : HResult
 stg_e_writefault = record { 0 = 2147680285 }
 
-abbrev pub stg_e_readfault : HResult
-stg_e_readfault = record { 0 = 2147680286 }
-
 abbrev pub stg_e_mediumfull : HResult
 stg_e_mediumfull = record { 0 = 2147680368 }

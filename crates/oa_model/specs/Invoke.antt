@@ -15,10 +15,6 @@ get_flag = 2
 abbrev pub put_flag : ℕ
 put_flag = 4
 
--- DISPATCH_PROPERTYPUTREF
-abbrev pub put_ref_flag : ℕ
-put_ref_flag = 8
-
 -- ---- reserved DISPIDs (MS-OAUT section 2.2.32.1)
 
 -- DISPID_UNKNOWN, -1: of a name that is not known

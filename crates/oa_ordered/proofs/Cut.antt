@@ -17,7 +17,3 @@ module _ {K X : Type 0} where
 
   pub cut_filled : (rows : List (List (K × X))) (row : List (K × X)) → 0 < length row → AreFilled (reverse rows) → AreFilled (reverse (rows ++ row ∷ []))
   cut_filled rows row some filled = rw (turned rows row) (some, filled)
-
-  -- the last one that was cut stands first
-  pub ended : (rows : List (List (K × X))) (left all : List (K × X)) → left ++ joined (reverse rows) ≡ all → joined (reverse (rows ++ left ∷ [])) ≡ all
-  ended rows left all so_far = rw (turned rows left) so_far

@@ -1,5 +1,5 @@
 -- What is held for many clients.
-use Rattle.std.proofs.Common.{◌≡◌, inl, inr, arith, ℕ, ◌+◌, Bool, true, false, IsTrue, List, [], ◌∷◌, ◌++◌, length, map, Option, Some, None, refl, sym, ap, ◌∙◌, subst}
+use Rattle.std.proofs.Common.{◌≡◌, inl, inr, ℕ, ◌+◌, Bool, true, false, IsTrue, List, [], ◌∷◌, ◌++◌, length, map, Option, None, refl, sym, ap, ◌∙◌, subst}
 use Rattle.std.proofs.lemmas.List.{append-nil, length-append}
 use Rattle.oa_disk.specs.declared.disk.Disk.{Ghosts}
 use Rattle.oa_frame.specs.declared.ends.End.{End}
@@ -13,11 +13,11 @@ use Rattle.oa_journal.specs.Replays.{Replays}
 use Rattle.oa_keeper.proofs.Committed.{still_carried}
 use Rattle.oa_owners.specs.declared.owners.ClientLock.{ClientLock}
 use Rattle.oa_record.specs.Replies.{ReplyValue}
-use Rattle.oa_server.specs.Desks.{ClearsDesk, DeskIsReady, DeskIsReadyCleared, IsEventless, all_frames, cleared_desk, desk_grouping, shared_grouping, told_at, told_to, told_with}
+use Rattle.oa_server.specs.Desks.{ClearsDesk, IsEventless, all_frames, cleared_desk, desk_grouping, shared_grouping, told_at, told_to, told_with}
 use Rattle.oa_server.specs.OpenGroups.{grouping}
 use Rattle.oa_server.specs.Requests.{requests}
 use Rattle.oa_server.specs.SharedRequests.{shared_requests}
-use Rattle.oa_server.specs.Sharing.{ClientReply, IsLockTurn, Leaves, Replies, Shared, behind_end, failed, shared, tagged}
+use Rattle.oa_server.specs.Sharing.{ClientReply, IsLockTurn, Leaves, Replies, Shared, behind_end, shared, tagged}
 use Rattle.oa_server.specs.declared.desk.Asker.{Asker}
 use Rattle.oa_server.specs.declared.desk.Desk.{Desk}
 use Rattle.oa_server.proofs.Lifted.{lifted_settled, told_both, told_length, told_none}
@@ -146,24 +146,6 @@ with_no_events told pending pending' events events' old new before after (inr (i
   nothing = left.nothing;
 }))
 
--- a client's end behind a fault of the device
-pub end_late : {D : Type 0} {g : Ghosts D} (size client : ℕ) (why : End) (store : Store D g) (state : State) (locks : List ClientLock) (asker : Asker) (askers : List Asker) (reply : ReplyValue) (replies replies' : List ReplyValue) (events : List ℕ)
-    → asker ≡ record { client = client; why = Some why } → length askers ≡ length replies → replies ≡ [] → replies' ≡ replies ++ reply ∷ [] → store.stopped ≡ true
-    → IsTaken shared_requests size (tagged client (Ends why)) (told_to (askers ++ asker ∷ []) replies') (shared_grouping store state locks askers replies events) (shared_grouping store state locks (askers ++ asker ∷ []) [] events)
-end_late size client why store state locks asker [] reply replies replies' events is each none more stopped = inr (inr (inr (inl (record {
-  over = record { was = stopped; is = stopped; disk = refl; state = refl; goes = goes_nowhere store };
-  told_is = ap (λ (l : List ReplyValue). told_to (asker ∷ []) l) (more ∙ ap (λ (l : List ReplyValue). l ++ reply ∷ []) none) ∙ ap (λ (a : Asker). told_to (a ∷ []) (reply ∷ [])) is ∙ failed_end client why;
-}))))
-  where
-    failed_end : (k : ℕ) (w : End) → Leaves k w ∷ [] ≡ failed (tagged k (Ends w)) ∷ []
-    failed_end k Closed = refl
-    failed_end k Cut = refl
-    failed_end k TooLong = refl
-    failed_end k (BadHex line) = refl
-    failed_end k ReadFault = refl
-    failed_end k WriteFault = refl
-end_late size client why store state locks asker (other ∷ askers) reply replies replies' events is each none more stopped = absurd (omega (arith, each, ap (λ (l : List ReplyValue). length l) none))
-
 -- where nothing was done before
 pub same_from : {D : Type 0} {g : Ghosts D} (size : ℕ) (body : List ℕ) (told : List ClientReply) (store : Store D g) (before between : State) (locks locks' : List ClientLock) (askers : List Asker) (pending : List ReplyValue) (events : List ℕ) (new : Grouping Shared ClientReply D g)
     → between ≡ before → locks' ≡ locks → IsTaken shared_requests size body told (shared_grouping store between locks' askers pending events) new → IsTaken shared_requests size body told (shared_grouping store before locks askers pending events) new
@@ -180,13 +162,6 @@ cleared_is {D} {g} store state old new is =
   where
     at : List ClientLock → List ClientReply → List ℕ → Grouping Shared ClientReply D g
     at locks pending events = record { store = store; state = shared state locks; pending = pending; events = events }
-
-pub ready_again : {D : Type 0} {g : Ghosts D} (store : Store D g) (old new : Desk) → ClearsDesk old new → DeskIsReadyCleared store old → DeskIsReady store new
-ready_again store old new is was = record {
-  ready = rw (is.size, is.reply_places, is.replies, is.batch) was.ready;
-  each = ap (λ (l : List Asker). length l) is.askers ∙ sym (ap (λ (l : List ReplyValue). length l) is.replies);
-  places = rw (is.size, is.places) was.places;
-}
 
 -- *now* over a store, and a client's turn there
 pub now_over : {D : Type 0} {g : Ghosts D} (old new : Store D g) (state : State) (desk between last : Desk) → ClearsDesk between last → between.open_group.size ≡ desk.open_group.size → between.open_group.batch ≡ []

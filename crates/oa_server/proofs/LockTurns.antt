@@ -1,7 +1,7 @@
 -- Bodies that ask for a lock to be changed.
 use Rattle.std.proofs.Common.{◌≡◌, ◌⊎◌, if◌then◌else◌, inl, inr, ℕ, ◌+◌, ◌<◌, ◌≤◌, ◌==◌, drop, get_or, length, ◌++◌, map, Bool, true, false, true≢false, List, [], ◌∷◌, Option, Some, None, Result, Ok, Err, IsOk, refl, sym, ap, ◌∙◌, subst}
 use Rattle.std.proofs.lemmas.List.{drop_all, drop_more}
-use Rattle.oa_model.specs.Codes.{e_outofmemory, e_unexpected}
+use Rattle.oa_model.specs.Codes.{e_outofmemory}
 use Rattle.oa_owners.specs.ClientLocks.{cells_of, owns, without_one}
 use Rattle.oa_owners.specs.declared.owners.ClientLock.{ClientLock}
 use Rattle.oa_record.specs.Asks.{Asks, IsStub, MayStarve, tag_at}
@@ -126,17 +126,6 @@ is_starved client state body reply locks plain may told = record {
 pub no_place : (client : ℕ) (state : State) (body : List ℕ) (change : LockChange) (reply : ReplyValue) (locks : List ClientLock) → is_replacement body ≡ false → AsksLock state body change → reply ≡ refusal (tag_at body) e_outofmemory None
     → IsLockTurn client body reply (shared state locks) (shared state locks)
 no_place client state body change reply locks plain asks told = is_starved client state body reply locks plain (inr (lacks state body change asks)) told
-
--- it is another's lock
-pub is_refused : (client : ℕ) (state : State) (body : List ℕ) (name : CellName) (reply : ReplyValue) (locks : List ClientLock) → is_replacement body ≡ false → AsksLock state body (Unlock name) → owns client name locks ≡ false
-    → reply ≡ refusal (tag_at body) e_unexpected None → IsLockTurn client body reply (shared state locks) (shared state locks)
-is_refused client state body name reply locks plain asks none told = record {
-  turn = inr (record { name = name; asked = asks; none = none; told = told; same = refl });
-  made = undone state body reply (ap is_done told);
-  same = refl;
-  bank = refl;
-  plain = plain;
-}
 
 -- no body that asks for another library asks for one
 pub apart_asks_none : ((body : List ℕ) → is_replacement body ≡ true → IsStub body) → ((body : List ℕ) (q : Request) → IsStub body → Asks body q → ⊥)

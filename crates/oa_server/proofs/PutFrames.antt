@@ -73,9 +73,6 @@ module _ (askers : List Asker) (replies : List ReplyValue) (each : length askers
   fronts : (i : ℕ) → i ≤ length replies → length (take i askers) ≡ length (take i replies)
   fronts i within = length-take-le i askers (omega (arith, each, within)) ∙ sym (length-take-le i replies within)
 
-  pub none_yet : spelled (take 0 askers) (take 0 replies) ≡ []
-  none_yet = ap spelled_frames no_told ∙ no_frame
-
   module _ (i : ℕ) (asker : Asker) (reply : ReplyValue) (within : i < length replies) (here : get_or askers i asker ≡ asker) (is : get_or replies i reply ≡ reply) where
     abbrev own : List ℕ
     own = spelled_frames (frames_of (told_with asker.client asker.why reply))

@@ -123,13 +123,6 @@ module _ {D : Type 0} {g : Ghosts D} (only : (d : D) (c : List ℕ) → IsTrue (
       }
 
   -- ---- what the engine was asked
-  abbrev In : Storage D g → Type 0
-  In (Memory disk) = ⊥
-  In (Disk store) = Unit {0}
-
-  abbrev store_in : (storage : Storage D g) → In storage → Store D g
-  store_in (Memory disk) is = absurd is
-  store_in (Disk store) is = store
 
   -- since the last *now*
   abbrev SoFarIn : Store D g → Shared → Storage D g → State → Desk → List (List ℕ) → List ClientReply → Type 0

@@ -1,5 +1,5 @@
 -- What a client's bytes bring, as it is kept.
-use Rattle.std.proofs.Common.{◌≡◌, ◌<◌, ℕ, Bool, true, false, List, [], ◌∷◌, ◌++◌, length, take, drop, Some, None, refl, sym, ap, ◌∙◌, subst, arith, true≢false}
+use Rattle.std.proofs.Common.{◌≡◌, ◌<◌, ℕ, Bool, true, false, List, [], ◌∷◌, ◌++◌, length, take, drop, Some, None, refl, sym, ap, ◌∙◌, subst, arith}
 use Rattle.std.proofs.lemmas.List.{length-take-le, take_all}
 use Rattle.oa_frame.specs.declared.ends.End.{End}
 use Rattle.oa_frame.specs.declared.ends.End.TheVariants.{Closed, Cut}
@@ -41,11 +41,6 @@ pub whole_at : (part bytes : List ℕ) → 0 < length bytes → IsWholeRecord (p
 whole_at part [] some w = absurd (omega (arith, some))
 whole_at part (y ∷ ys) some w = brings_whole part y ys w
 
--- where a record is whole behind its part, it is kept as one
-pub goes_on : (at : ClientState) (over : Bool) (part bytes : List ℕ) → at ≡ kept over part → IsWholeBehind bytes at → over ≡ false
-goes_on at true part bytes is w = absurd (subst (IsWholeBehind bytes) is w)
-goes_on at false part bytes is w = refl
-
 pub takes_here : (at : ClientState) (over : Bool) (part bytes : List ℕ) → at ≡ kept over part → IsWholeBehind bytes at → part ≡ [] → ClientBrings (Some at) bytes (Body (drop 4 bytes) ∷ []) (Some at)
 takes_here at true part bytes is w none = absurd (subst (IsWholeBehind bytes) is w)
 takes_here at false part bytes is w none =
@@ -61,14 +56,6 @@ takes_gathered at false part part' bytes all is w more none =
     subst (λ z. ClientBrings (Some z) bytes (Body (drop 4 all) ∷ []) (Some (Held part'))) (sym is)
     (subst (λ z. ClientBrings (Some (Held part)) bytes (Body (drop 4 all) ∷ []) (Some (Held z))) (sym none)
     (subst (λ l. ClientBrings (Some (Held part)) bytes (Body (drop 4 l) ∷ []) (Some (Held []))) (sym more) (whole_at part bytes v.0 v.1)))
-
-pub finds_whole_behind : (at : ClientState) (over : Bool) (part bytes : List ℕ) (n : ℕ) → at ≡ kept over part → over ≡ false → FindsEnd (found.Whole n) part bytes → IsWholeBehind (take n bytes) at
-finds_whole_behind at true part bytes n is e f = absurd (true≢false e)
-finds_whole_behind at false part bytes n is e f =
-    let len = length-take-le n bytes f.1 in
-    let some = f.0 in
-    let w : IsWholeBehind (take n bytes) (Held part) = (omega (arith, len, some), f.2) in
-    subst (IsWholeBehind (take n bytes)) (sym is) w
 
 -- ---- the end of a stream
 pub over_before : (at : ClientState) (over : Bool) (part : List ℕ) → at ≡ kept over part → over ≡ true → records_of (Some at) Last ≡ ([], None)

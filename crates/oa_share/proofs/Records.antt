@@ -118,11 +118,6 @@ module _ {Z : Type 0} (reads : Reads Z) where
       ap (λ l. (reads at p).0 ++ l) (brought_append (reads at p).1 ps qs)
       ∙ sym (append_assoc (reads at p).0 (brought_in reads (reads at p).1 ps) (brought_in reads (behind reads (reads at p).1 ps) qs))
 
-  pub behind_append : (at : Z) (ps qs : List StreamPiece) → behind reads at (ps ++ qs) ≡ behind reads (behind reads at ps) qs
-  unfolding behind
-  behind_append at [] qs = refl
-  behind_append at (p ∷ ps) qs = behind_append (reads at p).1 ps qs
-
 pub pieces_append : (xs ys : List ℕ) → pieces (xs ++ ys) ≡ pieces xs ++ pieces ys
 unfolding pieces
 pieces_append [] ys = refl

@@ -207,11 +207,6 @@ module _ {S : Type 0} (turn : SharedTurn S) where
   now_breaks (Ok u) fault o q old new is keeps a = absurd (false≢true is)
   now_breaks (Err f) fault o q old new is keeps a = loses_now fault o q old new keeps a
 
-  pub now_alone : (b : Bool) (result : Result (Unit {0}) Unwritten) (o q : Output) (old new : S) → b ≡ true → MakesNow turn result o q old new → MakesNowBefore turn b result o q old new
-  now_alone true (Ok u) o q old new is m = (m.0, λ _. m.1)
-  now_alone true (Err f) o q old new is m = m
-  now_alone false result o q old new is m = absurd (false≢true is)
-
   pub now_together : (b : Bool) (o : Output) (state : S) → b ≡ false → o.broken ≡ false → MakesNowBefore turn b (Ok tt) o o state state
   now_together false o state is h = (told_nothing o state h, λ e. absurd (false≢true e))
   now_together true o state is h = absurd (false≢true (sym is))

@@ -110,10 +110,6 @@ pub read_failed : (contents : List ℕ) (before after : List ℕ → Type 0) (fa
     → IsFailed contents before after fault
 read_failed contents before after fault is only = subst (λ (f : DeviceFault). IsFailed contents before after f) (sym is) only
 
-pub sync_failed : (contents : List ℕ) (before after : List ℕ → Type 0) (fault : DeviceFault) → fault ≡ devices.Write
-    → ((c : List ℕ) → before c → after c) → IsFailed contents before after fault
-sync_failed contents before after fault is stay = subst (λ (f : DeviceFault). IsFailed contents before after f) (sym is) stay
-
 -- once a bank is looked at, no sync fails
 pub tells_late : (contents : List ℕ) (before after : List ℕ → Type 0) (e : BankFault)
     → ((fault : DeviceFault) → e ≡ banks.Device fault → fault ≡ devices.Read) → Only contents after

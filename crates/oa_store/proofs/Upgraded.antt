@@ -19,7 +19,7 @@ use Rattle.oa_store.specs.declared.fault.FindFault.TheVariants as finds
 use Rattle.oa_store.specs.declared.fault.UpgradeFault.{UpgradeFault}
 use Rattle.oa_store.specs.declared.fault.UpgradeFault.TheVariants as upgrades
 use Rattle.oa_store.specs.Changes.{IsMove, IsMoved, IsUpgrade}
-use Rattle.oa_store.specs.Faults.{HeadSays, HasOldShape, IsBeheaded, IsSpoilt, IsOld, IsCaused, IsCausedUpgrade, CanBeBrought, IsFailed, IsFailedUpgrade, ReadingTells, UpgradeSays, DeviceTells, UpgradeDeviceTells, of_finding, upgrade_of_bank, upgrade_of_finding}
+use Rattle.oa_store.specs.Faults.{HeadSays, HasOldShape, IsBeheaded, IsSpoilt, IsOld, IsCaused, IsCausedUpgrade, IsFailed, IsFailedUpgrade, ReadingTells, UpgradeSays, DeviceTells, UpgradeDeviceTells, of_finding, upgrade_of_bank, upgrade_of_finding}
 use Rattle.oa_store.proofs.OneStore.{one_store_at}
 use Rattle.oa_store.specs.Stores.{body_place, head_place, IsStoreAt, IsStoreIn}
 
@@ -79,12 +79,6 @@ read_tells contents before after (banks.Damaged place) read only = tt
 read_tells contents before after (banks.Device fault) read only =
     subst (λ (f : DeviceFault). IsFailed contents before after f) (sym (read fault refl)) only
 read_tells contents before after banks.Memory read only = tt
-
--- a write fails once a store is found
-pub write_failed : (bank : ℕ) (contents : List ℕ) (before after : List ℕ → Type 0) (fault : DeviceFault) → fault ≡ devices.Write
-    → CanBeBrought bank contents → IsFailedUpgrade bank contents before after fault
-write_failed bank contents before after fault is store =
-    subst (λ (f : DeviceFault). IsFailedUpgrade bank contents before after f) (sym is) (inr store)
 
 -- what a call does that succeeds was done where it has succeeded
 pub was_done : (T E P : Type 0) (result : Result T E) → is_ok result ≡ true → OnOk result P → P

@@ -1,17 +1,14 @@
 -- Which lock a body asks to be changed.
-use Rattle.std.proofs.Common.{◌≡◌, inr, ℕ, ◌<◌, ◌≤◌, ◌==◌, nat_lt, Bool, true, false, List, length, Option, Some, None, Result, Ok, Err, refl, sym, ap, ◌∙◌, arith}
+use Rattle.std.proofs.Common.{◌≡◌, inr, ℕ, ◌<◌, ◌≤◌, nat_lt, Bool, true, false, List, length, Option, Some, None, Result, Ok, Err, refl, sym, ap, ◌∙◌, arith}
 use Rattle.std.specs.Prelude.{if◌then◌else◌}
-use Rattle.std.proofs.lemmas.Bool.{eqb-true, ltb-true}
+use Rattle.std.proofs.lemmas.Bool.{ltb-true}
 use Rattle.oa_record.specs.Asks.{Asks, request_opcode}
 use Rattle.oa_record.specs.Opcodes.{opcode_at, opcode_in, opcode_named, opcode_number}
-use Rattle.oa_record.specs.Replacement.{is_replacement}
 use Rattle.oa_record.specs.declared.request.Request.{Request}
 use Rattle.oa_record.specs.declared.request.Request.TheVariants as requests
 use Rattle.oa_decision.specs.Decided.{decided}
 use Rattle.oa_decision.specs.States.{State}
-use Rattle.oa_decision.specs.declared.decision.Decision.{Decision}
 use Rattle.oa_decision.specs.declared.decision.LockChange.{LockChange}
-use Rattle.oa_decision.specs.declared.refusal.Refusal.{Refusal}
 use Rattle.oa_turn.specs.Locking.{AsksLock, FindsLock, FindsLockBy, asks_lock, changes_lock, is_lock_in, lock_asked_by, lock_decided}
 
 abbrev no_change : Option LockChange
@@ -23,9 +20,6 @@ none_is_some change e = cc
 -- ---- of a request
 pub by_kind : (state : State) (request : Request) → changes_lock request ≡ false → no_change ≡ lock_asked_by state request
 by_kind state request e = sym (ap (λ (b : Bool). if b then lock_decided (decided state request) else None) e)
-
-pub by_decision : (state : State) (request : Request) (due : Result Decision Refusal) → changes_lock request ≡ true → decided state request ≡ due → lock_decided due ≡ lock_asked_by state request
-by_decision state request due e is = sym (ap (λ (b : Bool). if b then lock_decided (decided state request) else None) e ∙ ap lock_decided is)
 
 -- ---- of a body
 module _ (one_request : (body : List ℕ) (p q : Request) → Asks body p → Asks body q → p ≡ q) (state : State) (body : List ℕ) (request : Request) (asked : Asks body request) where
@@ -60,14 +54,3 @@ pub asks_none : ((body : List ℕ) (q : Request) → Asks body q → (8 ≤ leng
 asks_none opcode_stands state body other change asks =
     let kind : changes_lock asks.request ≡ false = changes_by_opcode asks.request ∙ ap is_lock_in (sym (named body asks.request (opcode_stands body asks.request asks.asked))) ∙ other in
     none_is_some change (by_kind state asks.request kind ∙ asks.is)
-
--- and none that asks for another library
-pub apart_is_none : (body : List ℕ) → is_replacement body ≡ true → asks_lock body ≡ false
-apart_is_none body = by (nat_lt (length body) 8)
-  where
-    on : (n : ℕ) → (n == 12) ≡ true → is_lock_in (opcode_named n) ≡ false
-    on n e = let is : n ≡ 12 = eqb-true n 12 e in ap (λ (k : ℕ). is_lock_in (opcode_named k)) is
-
-    by : (b : Bool) → (if b then false else opcode_at body == 12) ≡ true → is_lock_in (if b then None else opcode_named (opcode_at body)) ≡ false
-    by true e = refl
-    by false e = on (opcode_at body) e

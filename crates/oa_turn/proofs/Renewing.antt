@@ -23,12 +23,6 @@ one_text : (a b : List ℕ) → Some a ≡ Some b → b ≡ a
 one_text a b e = cc
 
 module _ (body : List ℕ) where
-  pub no_text : text_in body ≡ None → (library : TreeValue) → AsksLibrary body library → ⊥
-  no_text none library asks = absurd (no_some asks.text (sym none ∙ asks.lies))
-    where
-      no_some : (a : List ℕ) → None ≡ Some a → ⊥
-      no_some a e = absurd cc
-
   module _ (text : List ℕ) (lies : text_in body ≡ Some text) where
     pub has_text : MayBeLibrary text → BringsText body
     has_text may = record { text = text; lies = lies; may = may }
@@ -47,11 +41,6 @@ module _ (body : List ℕ) where
 
 -- ---- what becomes of it
 module _ (state : State) (body : List ℕ) (reply : ReplyValue) where
-  pub text_refused : (code : HResult) → ((code ≡ bad_stub_data) × ((library : TreeValue) → AsksLibrary body library → ⊥)) ⊎ ((code ≡ e_outofmemory) × BringsText body)
-      → reply ≡ refusal (tag_at body) code None → Replacement state body reply state × (is_done reply ≡ false)
-  text_refused code (inl why) told = (inr (inl (record { why = why.1; answers = told ∙ ap (λ (c : HResult). refusal (tag_at body) c None) why.0; leaves = refl })), rw (told, why.0) refl)
-  text_refused code (inr why) told = (inr (inr (record { may = why.1; answers = told ∙ ap (λ (c : HResult). refusal (tag_at body) c None) why.0; leaves = refl })), rw (told, why.0) refl)
-
   pub loss_refused : (library : TreeValue) (lost : Lost) → AsksLibrary body library → first_lost library state.library ≡ Some lost → RefusesLoss (tag_at body) lost reply
       → Replacement state body reply state × (is_done reply ≡ false)
   loss_refused library lost asks is (inl told) = (

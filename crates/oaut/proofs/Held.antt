@@ -1,7 +1,7 @@
 -- What a session of many clients comes to in the program, whatever it answers.
 use Rattle.std.proofs.Common.{◌≡◌, ◌⊎◌, inl, inr, ℕ, List, [], Result, Ok, Err}
 use Rattle.oa_checks.specs.IsLibrary.{IsLibrary}
-use Rattle.oa_commands.specs.Statuses.{of_open, of_session_end}
+use Rattle.oa_commands.specs.Statuses.{of_session_end}
 use Rattle.oa_commands.specs.declared.fault.Fault.{Fault}
 use Rattle.oa_decision.specs.States.{State}
 use Rattle.oa_disk.specs.After.{BeginsHonest}
@@ -14,10 +14,9 @@ use Rattle.oa_server.specs.Storages.{OverStore, bank_of}
 use Rattle.oa_server.specs.declared.shared_engine.SharedEngine.{SharedEngine}
 use Rattle.oa_server.specs.declared.storage.Storage.{Storage}
 use Rattle.oa_share.specs.declared.session_end.SessionEnd.{SessionEnd}
-use Rattle.oa_store.specs.declared.fault.OpenFault.{OpenFault}
 use Rattle.oa_stream.specs.Sink.{Output}
 use Rattle.oa_stream.specs.Source.{Input}
-use Rattle.oaut.specs.Clients.{HasPlayed, HasServed, HoldsClients, IsOfNoStore, OpensStore, PlaysShared, ServesShared}
+use Rattle.oaut.specs.Clients.{HasPlayed, HasServed, HoldsClients, OpensStore, PlaysShared, ServesShared}
 
 pub holds : {D : Type 0} {g : Ghosts D} (input input' : Input) (out out' : Output) (size : ℕ) (old new : SharedEngine D g) (why : SessionEnd)
     (result : Result (Unit {0}) Fault) → HasServedClients input input' out out' size old new why → AreUnbroken input out → out.kept ≡ []
@@ -49,9 +48,6 @@ opens g storage state library text disk is begins same bank over = record {
   bank = bank;
   over = rw same over;
 }
-
-pub refuses : (fault : Fault) (refusal : OpenFault) → fault ≡ of_open refusal → IsOfNoStore fault
-refuses fault refusal same = inr (inr (refusal, same))
 
 pub serves : {D : Type 0} (g : Ghosts D) (size : ℕ) (result : Result (Unit {0}) Fault) → ServesShared g size result → HasServed g size result
 serves g size (Ok u) shared = shared

@@ -16,7 +16,7 @@ use Rattle.oa_server.specs.declared.storage.Storage.TheVariants.{Disk, Memory}
 use Rattle.oa_store.specs.declared.store.Store.{Store}
 use Rattle.oa_history.specs.Kept.{Sits}
 use Rattle.oa_history.specs.Stops.{Done, Made, Plays, Serving, over_by}
-use Rattle.oa_history.proofs.Over.{IsServing, ServesOver}
+use Rattle.oa_history.proofs.CallsOverStore.{IsServing, ServesOver}
 
 -- ---- a session under way
 

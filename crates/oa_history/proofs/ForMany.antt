@@ -10,7 +10,7 @@ use Rattle.oa_groups.specs.Runs.{HoldsState, TurnsOver}
 use Rattle.oa_groups.specs.Turns.{Exchange}
 use Rattle.oa_idl.specs.Trees.{TreeValue}
 use Rattle.oa_image.proofs.Numbered.{unlocked_numbers}
-use Rattle.oa_image.proofs.Whole.{same_table}
+use Rattle.oa_image.proofs.TablesWithImages.{same_table}
 use Rattle.oa_image.specs.Tables.{FitsBank, is_numbered, reserved_bytes, table_image}
 use Rattle.oa_owners.specs.declared.owners.ClientLock.{ClientLock}
 use Rattle.oa_record.specs.Replies.{ReplyValue}
@@ -32,7 +32,7 @@ use Rattle.oa_decision.specs.States.{State}
 use Rattle.oa_history.specs.Framed.{ServesShared}
 use Rattle.oa_history.specs.Kept.{Sits}
 use Rattle.oa_history.proofs.Found.{opened_again}
-use Rattle.oa_history.proofs.Over.{IsServing}
+use Rattle.oa_history.proofs.CallsOverStore.{IsServing}
 
 -- ---- calls
 

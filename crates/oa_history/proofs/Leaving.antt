@@ -16,7 +16,7 @@ use Rattle.oa_store.specs.declared.store.Store.{Store}
 use Rattle.oa_table.specs.Tables.{TableValue}
 use Rattle.oa_history.specs.Kept.{Sits}
 use Rattle.oa_history.specs.Stops.{Done, Made, Serving, Stops}
-use Rattle.oa_history.proofs.Over.{IsServing}
+use Rattle.oa_history.proofs.CallsOverStore.{IsServing}
 use Rattle.oa_history.proofs.Calls.{CountsBy, Underway, all_made}
 
 module _ {S R : Type 0} (t : Turns S R) where

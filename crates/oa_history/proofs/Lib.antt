@@ -8,7 +8,7 @@ pub mod Framed
 pub mod Leaving
 pub mod Living
 pub mod Marking
-pub mod Over
+pub mod CallsOverStore
 pub mod Reading
 pub mod Replying
 pub mod Streams

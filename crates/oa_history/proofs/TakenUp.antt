@@ -8,7 +8,7 @@ use Rattle.oa_idl.specs.Trees.{TreeValue}
 use Rattle.oa_journal.specs.Shapes.{body_bytes}
 use Rattle.oa_journal.specs.declared.shape.Shape.{Shape}
 use Rattle.oa_journal.specs.declared.shape.Shape.TheVariants.{Two}
-use Rattle.oa_server.proofs.Kept.{same_library}
+use Rattle.oa_server.proofs.FoundIsKept.{same_library}
 use Rattle.oa_server.proofs.Opened.{can_begin}
 use Rattle.oa_server.specs.Laws.{FoundIsKept, OpenedJoins}
 use Rattle.oa_turn.specs.Beginnings.{CanBegin}

@@ -15,7 +15,7 @@ use Rattle.oa_server.specs.declared.storage.Storage.TheVariants.{Disk, Memory}
 use Rattle.oa_store.specs.declared.store.Store.{Store}
 use Rattle.oa_history.specs.Kept.{Sits}
 use Rattle.oa_history.specs.Stops.{Serving}
-use Rattle.oa_history.proofs.Over.{IsServing, ServesOver, requests_are_served}
+use Rattle.oa_history.proofs.CallsOverStore.{IsServing, ServesOver, requests_are_served}
 use Rattle.oa_history.specs.Lived.{bodies_of}
 use Rattle.oa_history.specs.Survived.{Answered, told_call, told_calls}
 use Rattle.oa_history.specs.declared.failing.Told.{Told}

@@ -19,5 +19,5 @@ mod ChoiceParses
 mod PartParses
 mod Strings
 mod Texts
-mod Told
+mod ToldOfTexts
 mod Whole

@@ -4,7 +4,7 @@ use Rattle.oa_table.specs.declared.event.Event.{Event}
 use Rattle.oa_table.specs.declared.event.Event.TheVariants.{Create, Release, Put, PutElement, Redim}
 use Rattle.oa_table.specs.Events.{BringsNoLocks}
 use Rattle.oa_image.specs.Events.{event, of_kind, put}
-use Rattle.oa_image.proofs.Whole.{no_locks}
+use Rattle.oa_image.proofs.TablesWithImages.{no_locks}
 
 pub brings_none : (e : Event) → event.Is e → BringsNoLocks e
 unfolding event tagged of_kind put case next_by

@@ -12,7 +12,7 @@ use Rattle.oa_image.specs.Events.{event}
 use Rattle.oa_image.specs.Tables.{is_numbered, objects, table, table_image}
 use Rattle.oa_image.proofs.Lengths.{event_bytes}
 use Rattle.oa_image.proofs.Numbered.{numbers_stay}
-use Rattle.oa_image.proofs.Whole.{same_table}
+use Rattle.oa_image.proofs.TablesWithImages.{same_table}
 use Rattle.oa_journal.specs.Replays.{applied_all, followed, Replays, ReplaysAll}
 use Rattle.oa_journal.specs.declared.shape.Shape.{Shape}
 use Rattle.oa_journal.specs.Shapes.{body_bytes, format_of, told_size, IsShape}

@@ -18,7 +18,7 @@ use Rattle.oa_table.proofs.Unlocked.{event_follows}
 use Rattle.oa_image.specs.Events.{event}
 use Rattle.oa_image.specs.Tables.{table}
 use Rattle.oa_image.proofs.Unlocked.{brings_none}
-use Rattle.oa_image.proofs.Whole.{are_parts}
+use Rattle.oa_image.proofs.TablesWithImages.{are_parts}
 use Rattle.oa_journal.specs.Replays.{Replays, ReplaysAll, applied_all, followed}
 use Rattle.oa_journal.specs.declared.shape.Shape.{Shape}
 use Rattle.oa_journal.specs.Bank.{IsBank}

@@ -4,7 +4,7 @@ use Rattle.oa_fits.proofs.Kept.{unlocked_fits}
 use Rattle.oa_groups.specs.Runs.{TurnsOver}
 use Rattle.oa_groups.specs.Turns.{Exchange}
 use Rattle.oa_image.proofs.Numbered.{unlocked_numbers}
-use Rattle.oa_image.proofs.Whole.{same_table}
+use Rattle.oa_image.proofs.TablesWithImages.{same_table}
 use Rattle.oa_record.specs.Replies.{ReplyValue}
 use Rattle.oa_turn.proofs.Beginning.{turn_begins}
 use Rattle.oa_turn.proofs.Fitting.{EventKept}

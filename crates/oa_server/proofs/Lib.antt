@@ -2,26 +2,26 @@ pub mod Renewing
 pub mod Opened
 pub mod Making
 pub mod Mapping
-pub mod Held
+pub mod TurnsOverStore
 pub mod Settled
-pub mod Late
+pub mod AnsweredAfterFault
 pub mod Answering
-pub mod Put
+pub mod PutReplies
 pub mod Retold
 pub mod InMemory
 pub mod InOpenGroup
-pub mod Apart
+pub mod GroupThenAlone
 pub mod Talking
 pub mod Beginning
 pub mod Parting
 pub mod OneState
-pub mod Kept
-pub mod Told
+pub mod FoundIsKept
+pub mod GroupsAsOneRun
 mod Lifted
 mod LockTurns
-mod Desked
-mod Stretched
+mod HeldForMany
+mod AnsweredStretches
 mod SharedParts
 mod Ledgered
-mod Alone
+mod OneClientAlone
 mod PutFrames

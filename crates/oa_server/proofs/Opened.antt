@@ -5,7 +5,7 @@ use Rattle.oa_fits.specs.Fits.{fits}
 use Rattle.oa_groups.specs.Runs.{HoldsState}
 use Rattle.oa_canonical.specs.Canonical.{canonical}
 use Rattle.oa_idl.specs.Trees.{TreeValue}
-use Rattle.oa_image.proofs.Whole.{same_table}
+use Rattle.oa_image.proofs.TablesWithImages.{same_table}
 use Rattle.oa_journal.specs.Bank.{HasHeader, HasLibrary, from_place}
 use Rattle.oa_journal.proofs.Banks.{bank_header}
 use Rattle.oa_journal.proofs.Damages.{bank_library, one_library}
@@ -26,7 +26,7 @@ use Rattle.oa_server.specs.Openings.{FindsState, FindsOneOf, HoldsOther, Refuses
 use Rattle.oa_turn.specs.Events.{held_of}
 use Rattle.oa_server.specs.Requests.{requests, text_of_library}
 use Rattle.oa_decision.specs.States.{State}
-use Rattle.oa_server.proofs.Kept.{one_size}
+use Rattle.oa_server.proofs.FoundIsKept.{one_size}
 
 -- an open store is one in format 2
 pub is_two : (shape : Shape) → format_of shape ≡ 2 → shape ≡ Two (body_bytes shape)

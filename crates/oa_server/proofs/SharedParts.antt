@@ -20,7 +20,7 @@ use Rattle.oa_server.specs.declared.shared_engine.SharedEngine.{SharedEngine}
 use Rattle.oa_server.specs.declared.storage.Storage.{Storage}
 use Rattle.oa_server.specs.declared.storage.Storage.TheVariants.{Disk}
 use Rattle.oa_server.proofs.Parting.{BeginsWith, begins_more}
-use Rattle.oa_server.proofs.Stretched.{stretches_served}
+use Rattle.oa_server.proofs.AnsweredStretches.{stretches_served}
 use Rattle.oa_share.specs.Marks.{Now, Owned}
 use Rattle.oa_share.specs.Readers.{Brought}
 use Rattle.oa_share.specs.Talking.{AllTurned, FailsToTell, TellsAll, ends_at, parted}

@@ -32,7 +32,7 @@ use Rattle.oa_server.specs.Talks.{InputEnds, EndsApart, EndsBefore, EndsGroup, O
 use Rattle.oa_server.specs.Talks.{any_turn, at_last, bodies_of_parts, ended_written, handed_of, silent, taken_written}
 use Rattle.oa_turn.specs.Turns.{Run}
 use Rattle.oa_server.proofs.InOpenGroup.{Holding, group_faulted, group_filled, holds_more, holds_none, rest_ends}
-use Rattle.oa_server.proofs.Late.{late_ended, late_more, late_none}
+use Rattle.oa_server.proofs.AnsweredAfterFault.{late_ended, late_more, late_none}
 use Rattle.oa_server.proofs.Retold.{session_as}
 use Rattle.oa_turn.proofs.Runs.{run_more}
 use Rattle.oa_server.proofs.Settled.{ready_at}

@@ -1,5 +1,5 @@
 -- what the crates above cite
 pub mod Stretches
 -- what this crate alone does
-mod Kept
-mod Held
+mod KeptBack
+mod ReadAhead

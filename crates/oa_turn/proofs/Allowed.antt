@@ -9,7 +9,7 @@ use Rattle.oa_model.specs.Limits.{max_event_bytes}
 use Rattle.oa_image.specs.Events.{event_image}
 use Rattle.oa_image.specs.Tables.{is_numbered, objects, table as a_table, table_image}
 use Rattle.oa_image.proofs.Numbered.{numbers_stay, unlocked_numbers}
-use Rattle.oa_image.proofs.Whole.{same_table}
+use Rattle.oa_image.proofs.TablesWithImages.{same_table}
 use Rattle.oa_layout.specs.Formats.{only, made_where, counted, coded, next_by, times, raw}
 use Rattle.oa_layout.specs.Numbers.{u32}
 use Rattle.oa_turn.proofs.Relocked.{lock_stays, unlock_stays}

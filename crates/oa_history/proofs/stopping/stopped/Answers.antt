@@ -9,7 +9,7 @@ use Rattle.oa_turn.specs.Beginnings.{CanBegin}
 use Rattle.oa_server.specs.Requests.{requests}
 use Rattle.oa_history.proofs.Found.{opened_again}
 use Rattle.oa_history.proofs.Leaving.{leaves, min_at}
-use Rattle.oa_history.proofs.Over.{requests_are_served}
+use Rattle.oa_history.proofs.CallsOverStore.{requests_are_served}
 use Rattle.oa_history.proofs.stopping.stopped.Goals as goal
 
 pub returns-clause-stopped : goal.returns-clause-stopped

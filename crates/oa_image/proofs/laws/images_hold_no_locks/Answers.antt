@@ -1,4 +1,4 @@
-use Rattle.oa_image.proofs.Whole.{same_table}
+use Rattle.oa_image.proofs.TablesWithImages.{same_table}
 use Rattle.oa_image.proofs.laws.images_hold_no_locks.Goals as goal
 
 pub returns : goal.returns

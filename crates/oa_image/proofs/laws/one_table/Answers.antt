@@ -1,4 +1,4 @@
-use Rattle.oa_image.proofs.Whole.{one_table}
+use Rattle.oa_image.proofs.TablesWithImages.{one_table}
 use Rattle.oa_image.proofs.laws.one_table.Goals as goal
 
 pub returns : goal.returns

@@ -1,6 +1,6 @@
 use Rattle.std.proofs.Common.{[], subst}
 use Rattle.oa_server.specs.Sharing.{shared, tagged}
-use Rattle.oa_server.proofs.Desked.{lock_eventless, same_from}
+use Rattle.oa_server.proofs.HeldForMany.{lock_eventless, same_from}
 use Rattle.oa_share.specs.Readers.{Body}
 use Rattle.oa_decision.specs.States.{State}
 use Rattle.oa_turn.specs.Locking.{AsksLock}

@@ -1,6 +1,6 @@
 use Rattle.std.proofs.Common.{[], ◌∷◌, ◌++◌, inl, inr, Some, refl, sym, ◌∙◌}
 use Rattle.oa_server.specs.Sharing.{shared, tagged}
-use Rattle.oa_server.proofs.Desked.{end_eventless}
+use Rattle.oa_server.proofs.HeldForMany.{end_eventless}
 use Rattle.oa_share.specs.Readers.{Ends}
 use Rattle.oa_server.proofs.desk.end_over.Goals as goal
 

@@ -1,5 +1,5 @@
 use Rattle.std.proofs.Common.{[]}
-use Rattle.oa_server.proofs.Desked.{with_no_events}
+use Rattle.oa_server.proofs.HeldForMany.{with_no_events}
 use Rattle.oa_server.proofs.Lifted.{lifted_ended}
 use Rattle.oa_server.proofs.desk.finish_over.Goals as goal
 

@@ -1,5 +1,5 @@
 use Rattle.std.proofs.Common.{rules}
-use Rattle.oa_server.proofs.Desked.{fills_up, kept_on}
+use Rattle.oa_server.proofs.HeldForMany.{fills_up, kept_on}
 use Rattle.oa_server.proofs.desk.hold.Goals as goal
 
 pub returns-then-not-is_full-clause-held : goal.returns-then-not-is_full-clause-held

@@ -1,5 +1,5 @@
 use Rattle.std.proofs.Common.{[], None, refl}
-use Rattle.oa_server.proofs.Desked.{none_told}
+use Rattle.oa_server.proofs.HeldForMany.{none_told}
 use Rattle.oa_server.proofs.Lifted.{lifted_taken}
 use Rattle.oa_server.proofs.LockTurns.{apart_asks_none}
 use Rattle.oa_server.proofs.desk.take_for.Goals as goal

@@ -4,7 +4,7 @@ use Rattle.oa_groups.proofs.Ends.{underway_ended}
 use Rattle.oa_groups.proofs.Takes.{underway_start, underway_taken}
 use Rattle.oa_server.specs.OpenGroups.{grouping}
 use Rattle.oa_server.specs.Requests.{requests}
-use Rattle.oa_server.proofs.Late.{late_ended, late_more, late_none}
+use Rattle.oa_server.proofs.AnsweredAfterFault.{late_ended, late_more, late_none}
 use Rattle.oa_server.proofs.Settled.{ready_none}
 use Rattle.oa_server.proofs.grouping.run_over.Goals as goal
 

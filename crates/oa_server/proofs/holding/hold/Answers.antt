@@ -1,5 +1,5 @@
 use Rattle.std.proofs.Common.{rules}
-use Rattle.oa_server.proofs.Held.{called_where_due, has_turn, held, makes_event, starved}
+use Rattle.oa_server.proofs.TurnsOverStore.{called_where_due, has_turn, held, makes_event, starved}
 use Rattle.oa_server.proofs.holding.hold.Goals as goal
 
 pub returns-in-Ok-clause-turn : goal.returns-in-Ok-clause-turn

@@ -3,7 +3,7 @@ use Rattle.oa_image.proofs.Lengths.{event_bytes}
 use Rattle.oa_keeper.proofs.Committed.{one_event}
 use Rattle.oa_table.specs.Tables.{unlocked_table}
 use Rattle.oa_turn.proofs.Allowed.{is_allowed}
-use Rattle.oa_server.proofs.Held.{carried}
+use Rattle.oa_server.proofs.TurnsOverStore.{carried}
 use Rattle.oa_server.proofs.holding.hold_change.Goals as goal
 
 pub returns-in_err-make_room-clause-way : goal.returns-in_err-make_room-clause-way

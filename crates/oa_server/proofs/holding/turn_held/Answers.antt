@@ -2,7 +2,7 @@ use Rattle.std.proofs.Common.{ap, arith, rules, sym, ◌∙◌}
 use Rattle.oa_keeper.proofs.Committed.{still_carried}
 use Rattle.oa_turn.specs.Events.{held_of}
 use Rattle.oa_turn.proofs.SameLibrary.{ordinary_bank}
-use Rattle.oa_server.proofs.Held.{answered, carried}
+use Rattle.oa_server.proofs.TurnsOverStore.{answered, carried}
 use Rattle.oa_server.proofs.holding.turn_held.Goals as goal
 
 pub returns-in-Answered-clause-turn : goal.returns-in-Answered-clause-turn

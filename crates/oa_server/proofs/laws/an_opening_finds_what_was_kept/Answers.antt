@@ -1,4 +1,4 @@
-use Rattle.oa_server.proofs.Kept.{found_again, opening_joins, session_begun}
+use Rattle.oa_server.proofs.FoundIsKept.{found_again, opening_joins, session_begun}
 use Rattle.oa_turn.proofs.Texts.{is_read}
 use Rattle.oa_server.proofs.laws.an_opening_finds_what_was_kept.Goals as goal
 

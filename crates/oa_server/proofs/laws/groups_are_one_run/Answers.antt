@@ -1,4 +1,4 @@
-use Rattle.oa_server.proofs.Told.{answered_run}
+use Rattle.oa_server.proofs.GroupsAsOneRun.{answered_run}
 use Rattle.oa_server.proofs.laws.groups_are_one_run.Goals as goal
 
 pub returns : goal.returns

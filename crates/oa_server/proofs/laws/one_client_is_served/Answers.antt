@@ -1,4 +1,4 @@
-use Rattle.oa_server.proofs.Alone.{one_in_memory, one_over_store}
+use Rattle.oa_server.proofs.OneClientAlone.{one_in_memory, one_over_store}
 use Rattle.oa_server.proofs.laws.one_client_is_served.Goals as goal
 
 pub returns-clause-memory : goal.returns-clause-memory

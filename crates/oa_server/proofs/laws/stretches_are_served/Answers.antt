@@ -1,4 +1,4 @@
-use Rattle.oa_server.proofs.Stretched.{stretches_served}
+use Rattle.oa_server.proofs.AnsweredStretches.{stretches_served}
 use Rattle.oa_server.proofs.laws.stretches_are_served.Goals as goal
 
 pub returns : goal.returns

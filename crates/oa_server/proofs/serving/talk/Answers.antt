@@ -1,7 +1,7 @@
 use Rattle.std.proofs.Common.{refl, rules}
 use Rattle.oa_frame.specs.Framings.{frames}
 use Rattle.oa_server.specs.Serving.{last_written}
-use Rattle.oa_server.proofs.Apart.{session_taken}
+use Rattle.oa_server.proofs.GroupThenAlone.{session_taken}
 use Rattle.oa_server.proofs.InMemory.{session_in_memory}
 use Rattle.oa_server.proofs.Talking.{begins, serves_session}
 use Rattle.oa_server.proofs.serving.talk.Goals as goal

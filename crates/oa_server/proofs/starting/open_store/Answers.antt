@@ -5,7 +5,7 @@ use Rattle.oa_journal.specs.Shapes.{body_bytes}
 use Rattle.oa_journal.specs.declared.shape.Shape.{Shape}
 use Rattle.oa_store.specs.Stores.{IsStoreAt, IsStoreIn}
 use Rattle.oa_turn.specs.Beginnings.{CanServe}
-use Rattle.oa_server.proofs.Kept.{same_library}
+use Rattle.oa_server.proofs.FoundIsKept.{same_library}
 use Rattle.oa_server.proofs.Opened.{differs_told, differs_unfit, finds_one, gate_within, is_two, of_library, of_text, refuses_one, refuses_unfit, says_library}
 use Rattle.oa_turn.proofs.Texts.{is_read}
 use Rattle.oa_server.proofs.starting.open_store.Goals as goal

@@ -1,4 +1,4 @@
-use Rattle.oaut.proofs.Held.{plays}
+use Rattle.oaut.proofs.SharedSessionEnds.{plays}
 use Rattle.oaut.proofs.play.play_shared.Goals as goal
 
 pub returns : goal.returns

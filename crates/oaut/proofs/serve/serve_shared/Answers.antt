@@ -1,6 +1,6 @@
 use Rattle.std.proofs.Common.{rules, ◌≡◌, ℕ, subst}
 use Rattle.oaut.specs.Clients.{HoldsClients, group_near}
-use Rattle.oaut.proofs.Held.{serves}
+use Rattle.oaut.proofs.SharedSessionEnds.{serves}
 use Rattle.oaut.proofs.serve.serve_shared.Goals as goal
 
 pub returns : goal.returns

@@ -1,5 +1,5 @@
 use Rattle.std.proofs.Common.{rules}
-use Rattle.oaut.proofs.Held.{holds}
+use Rattle.oaut.proofs.SharedSessionEnds.{holds}
 use Rattle.oaut.proofs.session.hold_shared.Goals as goal
 
 pub returns : goal.returns

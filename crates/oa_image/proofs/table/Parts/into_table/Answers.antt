@@ -1,6 +1,6 @@
 use Rattle.std.proofs.Common.{sym, subst, ◌∙◌}
 use Rattle.oa_image.specs.Tables.{table}
-use Rattle.oa_image.proofs.Whole.{are_parts, stays, same_answer}
+use Rattle.oa_image.proofs.TablesWithImages.{are_parts, stays, same_answer}
 use Rattle.oa_image.proofs.table.Parts.into_table.Goals as goal
 
 pub from_parts-requires : goal.from_parts-requires

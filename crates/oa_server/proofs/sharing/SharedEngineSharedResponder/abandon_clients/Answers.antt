@@ -1,6 +1,6 @@
 use Rattle.std.proofs.Common.{refl, subst}
 use Rattle.oa_server.specs.Desks.{all_frames, told_at}
-use Rattle.oa_server.proofs.Desked.{now_over}
+use Rattle.oa_server.proofs.HeldForMany.{now_over}
 use Rattle.oa_server.proofs.sharing.SharedEngineSharedResponder.abandon_clients.Goals as goal
 
 pub returns-in-Disk-clause-gives_up : goal.returns-in-Disk-clause-gives_up

@@ -3,7 +3,7 @@ use Rattle.oa_record.specs.Replies.{reply_record}
 use Rattle.oa_server.specs.Desks.{all_frames, told_at}
 use Rattle.oa_server.specs.Sharing.{Replies}
 use Rattle.oa_share.specs.Readers.{Body}
-use Rattle.oa_server.proofs.Desked.{held_over, told_over}
+use Rattle.oa_server.proofs.HeldForMany.{held_over, told_over}
 use Rattle.oa_server.proofs.PutFrames.{puts_frame, puts_nothing}
 use Rattle.oa_server.proofs.sharing.SharedEngineSharedResponder.answer_client.Goals as goal
 

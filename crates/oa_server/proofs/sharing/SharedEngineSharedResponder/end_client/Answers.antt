@@ -1,7 +1,7 @@
 use Rattle.std.proofs.Common.{rules, []}
 use Rattle.oa_server.specs.Desks.{all_frames, told_at}
 use Rattle.oa_share.specs.Readers.{Ends}
-use Rattle.oa_server.proofs.Desked.{held_over, told_over}
+use Rattle.oa_server.proofs.HeldForMany.{held_over, told_over}
 use Rattle.oa_server.proofs.PutFrames.{puts_nothing}
 use Rattle.oa_server.proofs.sharing.SharedEngineSharedResponder.end_client.Goals as goal
 

@@ -1,5 +1,5 @@
 use Rattle.oa_stream.specs.Ahead.{read_ahead}
-use Rattle.oa_stream.proofs.Held.{takes_front}
+use Rattle.oa_stream.proofs.ReadAhead.{takes_front}
 use Rattle.oa_stream.proofs.ahead.Ahead.advance.Goals as goal
 
 pub returns-clause-taken : goal.returns-clause-taken

@@ -1,4 +1,4 @@
-use Rattle.oa_stream.proofs.Kept.{back_delivers}
+use Rattle.oa_stream.proofs.KeptBack.{back_delivers}
 use Rattle.oa_stream.proofs.behind.BehindSink.deliver.Goals as goal
 
 pub returns : goal.returns

@@ -1,6 +1,6 @@
 use Rattle.std.proofs.lemmas.Result.{err_from_is_err_and}
 use Rattle.oa_stream.proofs.Stretches.{breaks_before}
-use Rattle.oa_stream.proofs.Kept.{back_puts, back_breaks}
+use Rattle.oa_stream.proofs.KeptBack.{back_puts, back_breaks}
 use Rattle.oa_stream.proofs.behind.BehindSink.put.Goals as goal
 
 pub returns-in_err-pass : goal.returns-in_err-pass

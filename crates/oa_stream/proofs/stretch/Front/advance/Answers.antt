@@ -1,4 +1,4 @@
-use Rattle.oa_stream.proofs.Held.{slice_advanced}
+use Rattle.oa_stream.proofs.ReadAhead.{slice_advanced}
 use Rattle.oa_stream.proofs.stretch.Front.advance.Goals as goal
 
 pub returns : goal.returns

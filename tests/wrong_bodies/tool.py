@@ -271,11 +271,16 @@ def choices(root):
         tell(f"a crate with another {path} has changed: {is_counted}", chosen().whole == ({"above"} if is_counted else set()), chosen().why)
         git(root, "checkout", "-q", ".")
         git(root, "clean", "-qfd")
-    write(f"{root}/crates/above/specs/S.antt", "-- one\na : X → Y\na = x\n")
+    write(f"{root}/crates/above/specs/S.antt", "-- one\nuse steps.specs.S.{a, b}\na : X → Y\na = { x = 1 }\n")
     tried_over(root, steps=git(root, "rev-parse", "HEAD"), above=commit(root, "a definition"))
     for name, text, is_counted in (
-        ("in other lines, with another comment", "-- a\n-- comment\na :\n    X\n    → Y\na = x\n", False),
-        ("of other words", "-- one\na : X → Y\na = y\n", True),
+        (
+            "in other lines, with another comment",
+            "-- a\n-- comment\nuse steps.specs.S.{a}\nuse steps.specs.S.{b}\na :\n    X\n    → Y\na = {\n    x = 1;\n}\n",
+            False,
+        ),
+        ("of other words", "-- one\nuse steps.specs.S.{a, b}\na : X → Y\na = { x = 2 }\n", True),
+        ("that names something else", "-- one\nuse steps.specs.S.{a, c}\na : X → Y\na = { x = 1 }\n", True),
     ):
         write(f"{root}/crates/above/specs/S.antt", text)
         tell(f"a definition {name} has changed: {is_counted}", chosen().whole == ({"above"} if is_counted else set()), chosen().why)

@@ -53,15 +53,25 @@ def seconds_of(tried):
     return {name: int(seconds) / int(count) for name, (_, _, count, seconds) in tried.items()}
 
 
+def said_by(text):
+    """Returns what a text of definitions or proofs names from elsewhere, and what it says: without comments and white space, and without what stands behind a record's last field."""
+    text, named = re.sub("(?m)--.*", "", text), set()
+
+    def name(found):
+        named.update((found[1], it) for it in found[2].replace(" ", "").split(","))
+        return ""
+
+    rest = re.sub(r"(?m)^((?:pub )?use [^\s{]+)\{([^}]*)\}$", name, text)
+    return named, "".join(rest.split()).replace(";}", "}")
+
+
 def says_the_same(root, commit, path):
-    """Returns whether a file of definitions or proofs differs from how it stood in a commit by no more than white space and comments."""
+    """Returns whether a file of definitions or proofs is the one of a commit but for comments, and for the lines that it is laid out in."""
     before = git(root, "show", f"{commit}:{path}") if path.endswith(".antt") else None
     if before is None or not os.path.isfile(f"{root}/{path}"):
         return False
     with open(f"{root}/{path}", encoding="utf-8") as it:
-        texts = before, it.read()
-    old, new = ("".join(re.sub("(?m)--.*", "", text).split()) for text in texts)
-    return old == new
+        return said_by(before) == said_by(it.read())
 
 
 def changed_crates(root, commit, folders=FOLDERS):

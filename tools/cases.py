@@ -34,11 +34,11 @@ class Counts(unittest.TestResult):
     def startTest(self, test):
         super().startTest(test)
         self.within = False
-        faulthandler.dump_traceback_later(LONGEST, exit=True)
+        watch()
 
     def stopTest(self, test):
         super().stopTest(test)
-        faulthandler.cancel_dump_traceback_later()
+        watch()
 
     def addSubTest(self, test, subtest, err):
         super().addSubTest(test, subtest, err)
@@ -69,6 +69,11 @@ class Counts(unittest.TestResult):
         kind, what, _ = err
         said = str(what) if failure and issubclass(kind, failure) else self._exc_info_to_string(err, test)
         print(f"FAILED {named(test)}: {said}", flush=True)
+
+
+def watch():
+    """Ends all where the next test, or what stands before or behind it, takes too long."""
+    faulthandler.dump_traceback_later(LONGEST, exit=True)
 
 
 def named(test):
@@ -135,7 +140,9 @@ def main():
             print("\n".join(it.id() for it in tests_of(suite)))
             continue
         counts, begun = Counts(), time.monotonic()
+        watch()
         suite.run(counts)
+        faulthandler.cancel_dump_traceback_later()
         print(f"{part}: {counts.passed} passed, {counts.failed} failed, {len(counts.skipped)} tests left out, {time.monotonic() - begun:.1f} s", flush=True)
         passed, failed, left = passed + counts.passed, failed + counts.failed, left + len(counts.skipped)
     if given.list:

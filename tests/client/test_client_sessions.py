@@ -141,7 +141,7 @@ class Sessions(ClientCases):
 
             before = signal.signal(signal.SIGALRM, interrupt)
             try:
-                signal.setitimer(signal.ITIMER_REAL, 0.2, 0.2)
+                signal.setitimer(signal.ITIMER_REAL, 0.2, 5)
                 self.raises("an interrupt", Interrupted, lambda: setattr(server.object(1, "Item"), "Name", "n" * 131_072))
             finally:
                 signal.setitimer(signal.ITIMER_REAL, 0)

@@ -62,7 +62,7 @@ def said_by(text):
         return ""
 
     rest = re.sub(r"(?m)^((?:pub )?use [^\s{]+)\{([^}]*)\}$", name, text)
-    return named, "".join(rest.split()).replace(";}", "}")
+    return named, re.sub(r" ?([][(){},;]) ?", r"\1", " ".join(rest.split())).replace(";}", "}")
 
 
 def says_the_same(root, commit, path):

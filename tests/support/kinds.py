@@ -36,7 +36,7 @@ def with_parameters(count):
 
 
 # how many times a put of a long a kind takes at most, and which takes more (docs/DECISIONS.md, "Speed")
-MOST, SLOWER = 3, {"put-element": 3.5}
+MOST, SLOWER = 3, {"put-array": 3.5, "redim": 3.5, "put-element": 4}
 # what is sent for each object before the kinds, whose requests are sent one kind behind another: so all puts are over a value that is there
 BEFORE = [
     lambda of: oaut.ask_create(ITEM),

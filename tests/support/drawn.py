@@ -203,8 +203,9 @@ class Session:
             cut = body[: self.dice.randrange(len(body))] if spoil < 0.02 else body + bytes(8)
             if cut:
                 return cut, struct.pack("<IIII", tag if len(cut) >= 8 else 0, BAD_STUB, oaut.NO_INDEX, 0)
-        if spoil > 0.99:
-            return body[:4] + struct.pack("<H", self.dice.choice([0, 12, 99])) + body[6:], struct.pack("<IIII", tag, BAD_STUB, oaut.NO_INDEX, 0)
+        opcode = struct.pack("<H", self.dice.choice([0, 12, 99])) if spoil > 0.99 else body[4:6]
+        if opcode != body[4:6]:
+            return body[:4] + opcode + body[6:], struct.pack("<IIII", tag, BAD_STUB, oaut.NO_INDEX, 0)
         try:
             fields = act()
         except Refusal as refusal:

@@ -1,4 +1,4 @@
-"""Bounds on the instructions of a request: by two a program falls that looks through all its objects, or through all cells of one, by the others one that takes more for a long than what is committed."""
+"""Bounds on the instructions of a request: by three a program falls that looks through all its objects, or through all cells or rows of one, by the others one that takes more for a long than what is committed."""
 import unittest
 
 import instructions
@@ -15,6 +15,10 @@ class Instructions(Cases):
     def test_a_put_into_a_large_object(self):
         few, many = map(instructions.of_a_put, (10, 3_000))
         self.tell("a put into an object of 3,000 cells takes at most twice the instructions of one into one of 10", 0 < many <= 2 * few, (few, many))
+
+    def test_a_new_cell_of_a_large_object(self):
+        few, many = map(instructions.of_a_new_cell, (1_000, 300_000))
+        self.tell("a put of a new cell among 300,000 of an object takes at most twice the instructions of one among 1,000", 0 < many <= 2 * few, (few, many))
 
     def test_no_rise_above_what_is_committed(self):
         found = {way: instructions.of_longs(way) for way in instructions.LONGS}

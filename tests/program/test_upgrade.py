@@ -141,10 +141,9 @@ class Upgrade(Cases):
 
 def is_told(place, parts, what):
     """What is told where a call fails, whose parts begin at these places: the first look, the longer file, and the upgrade."""
-    begun = max(it for it in parts if it <= place)
-    if place < begun + len(OPENED) - (begun == parts[1]):
+    if place < len(OPENED):
         return cannot("read", "it.store", what[-1])
-    if begun == parts[1]:
+    if parts[1] <= place < parts[2]:
         return cannot("write", "it.store", what[-1])
     return fault(f"device fault 0x8003001{'e' if what[0] == 'read' else 'd'}")
 
@@ -152,28 +151,30 @@ def is_told(place, parts, what):
 @unittest.skipIf(STRACE is None, "strace is not there: the calls of the system are not looked at, and no call is made to fail")
 class UpgradeCalls(Cases):
     def made(self):
-        """The calls of an upgrade of the short file, and where its parts begin: each with a lock."""
+        """The calls of an upgrade of the short file, and where its parts begin."""
         with tempfile.TemporaryDirectory() as room:
             fill(room, {"it.store": SHORT})
             calls = Calls(room, UPGRADE)
             self.tell("upgrade: under strace", (calls.answer, text_held(room)) == ((0, UPGRADED, b""), ONE), calls.answer)
         made = calls.does()
-        return made, [place for place, it in enumerate(made) if it == ("lock",)]
+        zeros = next(place for place, it in enumerate(made) if it[0] == "write")
+        return made, [0, zeros, made.index(("sync",), zeros) + 1]
 
     def test_the_calls(self):
         made, parts = self.made()
-        self.tell("upgrade: it is locked in each part", len(parts) == 3 and parts[0] == 0, made)
+        self.tell("upgrade: it is locked once, before all else", [place for place, it in enumerate(made) if it == ("lock",)] == [0], made)
         first, second, third = made[: parts[1]], made[parts[1] : parts[2]], made[parts[2] :]
         self.tell("upgrade: it looks before it writes", first[:2] == OPENED and all(it[0] in ("sync", "read") for it in first[2:]), first)
         self.tell(
             "upgrade: zeros behind the end, and a sync",
-            second == [("lock",), ("write", SIZE - 100_000, 65_536), ("write", SIZE - 34_464, 34_464), ("sync",)],
+            second == [("write", SIZE - 100_000, 65_536), ("write", SIZE - 34_464, 34_464), ("sync",)],
             second,
         )
+        looks = OPENING[len(OPENED) :]
         last = [("write", 16_785_408, 32), ("write", BODY_1, 340), ("sync",), ("write", 4096, 1), ("sync",), OUT]
         self.tell(
             "upgrade: a head, a body, a sync, the selector, a sync",
-            third[-len(last) :] == last and third[: len(OPENING)] == OPENING and all(it[0] == "read" for it in third[len(OPENING) : -len(last)]),
+            third[-len(last) :] == last and third[: len(looks)] == looks and all(it[0] == "read" for it in third[len(looks) : -len(last)]),
             third,
         )
 

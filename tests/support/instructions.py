@@ -6,6 +6,7 @@ import subprocess
 import tempfile
 
 from wire import oaut
+import full
 import worked
 from oaut.frames import frames_of
 from model import LIBRARY
@@ -14,6 +15,7 @@ from running import PROGRAM, fill, rows_of
 
 VALGRIND = shutil.which("valgrind")
 TIMES = 200
+GOLDEN = 0.618034  # whose multiples lie evenly between whole numbers
 # requests that are repeated, by the number of the object that they are about
 REQUESTS = {
     "put": lambda of: worked.put(worked.COUNT, worked.i4(of), of),
@@ -82,6 +84,16 @@ def of_a_put(cells):
     cell = lambda at: worked.put(worked.CELL, worked.text(worked.HI), named=(-3, 1, 0), more=(worked.text(worked.LETTER), worked.i4(at)))
     front = [oaut.ask_create(worked.ITEM), worked.put(worked.COUNT, worked.i4(0)), *map(cell, range(cells))]
     return (of_session(front + [worked.put(worked.COUNT, worked.i4(at)) for at in range(TIMES)]) - of_session(front)) // TIMES
+
+
+def of_a_new_cell(cells):
+    """How many instructions a put of a new cell takes between the cells of an object that a store has, on the average of many, spread over all of them."""
+    spread = [2 * int(at * GOLDEN % 1 * cells) + 1 for at in range(TIMES)]
+    puts = [worked.put(1, worked.i4(at), more=(worked.i4(key),)) for at, key in enumerate(spread)]
+    with tempfile.TemporaryDirectory(dir=fast_folder()) as room:
+        full.laid(room, full.keyed("long", 1), {(full.FACE, 1, (full.long(2 * at),)): full.long(at) for at in range(cells)})
+        begun, ended = (of_program([PROGRAM, "serve", "it.store", "lib.idl"], oaut.Raw.pack(tagged(it)), room) for it in ([], puts))
+    return (ended - begun) // TIMES
 
 
 def of_longs(way, count=None):

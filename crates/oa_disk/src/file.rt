@@ -12,7 +12,7 @@ use std::io;
 use std::os::unix::fs::FileExt;
 use std::rt::Files;
 
-/// How many bytes a new file is filled with in one call.
+/// How many zeros are written in one call.
 const PIECE: usize = 65_536;
 
 /// A file as a disk of the length that it had when it was taken. It keeps a record of its calls that only clauses
@@ -75,6 +75,26 @@ impl FileDisk {
         file.try_lock()?;
         file.sync_all()?;
         let size = file.metadata()?.len();
+        Ok(FileDisk::begin(file, size))
+    }
+
+    /// The same file where it has so many bytes or more, and else lengthened to so many by zeros, which take their room on the device at
+    /// once, and brought there. It is locked throughout. Where that fails, the error is the system's, and the file, which is let go, has its
+    /// length of before, if that can be set. A stop leaves one that is shorter than asked.
+    pub fn lengthen(self, size: u64) -> io::Result<FileDisk>
+        ensures kept { IfOk result (λ disk. size ≤ file_size self → file_size disk ≡ file_size self) }
+        ensures lengthened { IfOk result (λ disk. file_size self ≤ size → file_size disk ≡ size) }
+        ensures begins { IfOk result (BeginsHonest ⟦<FileDisk as Disk>⟧) }
+    {
+        let old = self.size;
+        let file = self.file;
+        if old >= size {
+            return Ok(FileDisk::begin(file, old));
+        }
+        if let Err(error) = add_zeros(&file, old, size) {
+            let _ = file.set_len(old);
+            return Err(error);
+        }
         Ok(FileDisk::begin(file, size))
     }
 
@@ -213,15 +233,20 @@ impl Disk for FileDisk {
 fn lay_down<R: Files<File = File>>(rt: &R, file: &File, path: &str, size: u64) -> io::Result<()> {
     file.try_lock()?;
     file.set_len(size)?;
+    add_zeros(file, 0, size)?;
+    File::open(rt, folder_of(path))?.sync_all()
+}
+
+/// Writes zeros from one place of a file to another, and brings the file to the device.
+fn add_zeros(file: &File, from: u64, to: u64) -> io::Result<()> {
     let zeros = [0; PIECE];
-    let mut at = 0;
-    'pieces: while at < size {
-        let count = (size - at).min(PIECE as u64);
+    let mut at = from;
+    'pieces: while at < to {
+        let count = (to - at).min(PIECE as u64);
         file.write_all_at(&zeros[..count as usize], at)?;
         at += count;
     }
-    file.sync_all()?;
-    File::open(rt, folder_of(path))?.sync_all()
+    file.sync_all()
 }
 
 /// The folder of a path.

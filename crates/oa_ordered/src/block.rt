@@ -7,7 +7,7 @@ ghost use Rattle.std.specs.BTreeMap.{insert_entry, is_at};
 ghost use Rattle.oa_ordered.specs.Rows.{AreFilled, IsOrdered, begins_after, joined};
 
 use crate::row::Row;
-use crate::rows::{insert_at, place_near, place_of, remove_at};
+use crate::rows::{Search, insert_at, place_near, place_of, remove_at};
 use std::alloc::{AllocError, AllocFailed, Global};
 use std::marker::Model;
 use std::mem::replace;
@@ -107,7 +107,7 @@ impl<K, V> Block<K, V> {
         ensures absent { OnErr result (lookup (is_at (K.cmp key)) self.old ≡ None) }
         ensures err { OnErr result (self.new ≡ self.old) }
     {
-        match place_of(&self.rows, &key) {
+        match place_of(&self.rows, &key, Search::Behind) {
             Ok(place) => Ok(Some(replace(self.rows[place.row].value_mut(place.at), value))),
             Err(place) => {
                 insert_at(alloc, &mut self.rows, place, (key, value))?;
@@ -125,7 +125,7 @@ impl<K, V> Block<K, V> {
         ensures value { result ≡ lookup (is_at (K.cmp key.now)) self.old }
         ensures entries { self.new ≡ remove_entry (is_at (K.cmp key.now)) self.old }
     {
-        match place_of(&self.rows, key) {
+        match place_of(&self.rows, key, Search::Halves) {
             Ok(place) => {
                 let (_key, value) = remove_at(&mut self.rows, place);
                 Some(value)

@@ -33,7 +33,8 @@ fn is_block_for<K: Ord, V>(blocks: &[Block<K, V>], key: &K, block: usize) -> boo
     blocks[block + 1].begins_after(key)
 }
 
-/// The block in which the key is or would stand: the last that begins at or before it, or else the first. Looks first at one that is told, where that is not the first.
+/// The block in which the key is or would stand: the last that begins at or before it, or else the first. Looks first at one that is
+/// told, where that is not the first.
 pub(crate) fn block_for<K: Ord, V>(blocks: &[Block<K, V>], key: &K, near: usize) -> usize
     requires ordered { IsOrdered K.cmp (joined blocks.now) }
     requires filled { AreFilled blocks.now }
@@ -137,7 +138,7 @@ pub(crate) fn insert_in<K: Ord + Drop, V: Drop>(
     ensures err { OnErr result (joined blocks.new.items ≡ joined blocks.old.items) }
     ensures filled { AreFilled blocks.new.items }
 {
-    let block = block_for(blocks, &key, 0);
+    let block = block_for(blocks, &key, blocks.len() - 1);
     let old = insert_in_block(alloc, blocks, block, key, value)?;
     split_long_block(blocks, block);
     Ok(old)

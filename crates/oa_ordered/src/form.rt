@@ -7,7 +7,7 @@ ghost use Rattle.oa_ordered.specs.Forms.{IsFilled, entries_of};
 
 use crate::block::Block;
 use crate::blocks::{blocks_of, blocks_of_row, insert_in, remove_in};
-use crate::row::{Row, place_in};
+use crate::row::{Row, place_in, place_to_insert};
 use crate::rows::{FULL, HALF, rows_of};
 use std::alloc::{AllocError, AllocFailed, Global};
 use std::mem::replace;
@@ -56,7 +56,7 @@ impl<K, V> Form<K, V> {
         ensures filled { IsFilled self.new }
     {
         match self {
-            Form::One(row) => match place_in(row.as_slice(), &key) {
+            Form::One(row) => match place_to_insert(row.as_slice(), &key) {
                 Ok(at) => Ok(Some(replace(row.value_mut(at), value))),
                 Err(at) => {
                     let keep = if at == FULL { FULL } else { HALF };

@@ -3,7 +3,7 @@
 //! Its contract: `OrderedMap` is the list of its entries, whose keys rise, and its calls do to the list what those of std's `BTreeMap` do
 //! to theirs; what is refused for want of memory is handed back, and nothing changes.
 //!
-//! What stands on it: oa_table keeps objects and cells in it.
+//! What stands on it: oa_table keeps objects and cells in it, oa_share its clients; oa_image makes such maps of what a store has.
 #![tactic(auto)]
 
 mod block;

@@ -22,7 +22,7 @@ const MOST: usize = usize::MAX / 2;
 /// Its entries lie in rows of up to 64, each an allocation of its own with few places to spare, and the rows in blocks of up to 128; a row
 /// or a block that finds no memory to be split gets longer. A look-up halves the blocks, then one of them and then a row of it; a new entry
 /// moves those behind it in its row, and where that is split the rows behind it in its block. Up to 64 entries stand in one row, which
-/// lies in the map itself.
+/// lies in the map itself. An insert looks behind the last entry first.
 #[derive(Drop)]
 pub struct OrderedMap<K: Ord, V> {
     alloc: Global,

@@ -72,6 +72,21 @@ pub(crate) fn place_in_near<K: Ord, V>(
     place_in(entries, key)
 }
 
+/// Where the key is among entries in order, or where it would stand. Looks behind the last one first.
+pub(crate) fn place_to_insert<K: Ord, V>(entries: &[(K, V)], key: &K) -> Result<usize, usize>
+    requires { IsOrdered K.cmp entries.now }
+    ensures found { IfOk result (λ at. IsFoundIn K.cmp key.now entries.now at) }
+    ensures absent { IfErr result (λ at. IsGapIn K.cmp key.now entries.now at) }
+{
+    let behind = entries.len();
+    if behind > 0 {
+        if let Ordering::Greater = key.cmp(&entries[behind - 1].0) {
+            return Err(behind);
+        }
+    }
+    place_in(entries, key)
+}
+
 impl<K, V> Row<K, V> {
     ghost use Rattle.oa_ordered.specs.Lending.{lends_value};
 

@@ -1,9 +1,9 @@
 //! Rows, whose entries in turn are those of a map.
 ghost use Rattle.std.specs.Prelude.{◌≡◌, ◌<◌, ◌≤◌, ◌++◌, ◌∷◌, [], take, drop, suc, length, slice_index_or, false, IsTrue, IfOk, IfErr, OnOk, OnErr};
 ghost use Rattle.std.specs.List.{remove};
-ghost use Rattle.oa_ordered.specs.Rows.{AreFilled, IsFound, IsGap, IsOrdered, IsRowFor, after, before, from, joined};
+ghost use Rattle.oa_ordered.specs.Rows.{AreFilled, IsFound, IsFoundIn, IsGap, IsGapIn, IsOrdered, IsRowFor, after, before, from, joined};
 
-use crate::row::{Row, make_room, place_in};
+use crate::row::{Row, make_room, place_in, place_to_insert};
 use std::alloc::{AllocError, AllocFailed, Global};
 use std::cmp::Ordering;
 
@@ -39,18 +39,70 @@ fn row_for<K: Ord, V>(rows: &[Row<K, V>], key: &K) -> usize
     low
 }
 
+/// The row in which the key is or would stand. Looks first at the last one.
+fn row_to_insert<K: Ord, V>(rows: &[Row<K, V>], key: &K) -> usize
+    requires ordered { IsOrdered K.cmp (joined rows.now) }
+    requires filled { AreFilled rows.now }
+    ensures { IsRowFor K.cmp key.now rows.now result }
+{
+    let behind = rows.len();
+    if behind > 0 {
+        if !rows[behind - 1].begins_after(key) {
+            return behind - 1;
+        }
+    }
+    row_for(rows, key)
+}
+
+/// Where a search begins: with halves, or behind the last entry, where new keys often stand.
+#[derive(Clone, Copy)]
+pub(crate) enum Search {
+    Halves,
+    Behind,
+}
+
+impl Search {
+    /// The row in which the key is or would stand.
+    fn row<K: Ord, V>(self, rows: &[Row<K, V>], key: &K) -> usize
+        requires ordered { IsOrdered K.cmp (joined rows.now) }
+        requires filled { AreFilled rows.now }
+        ensures { IsRowFor K.cmp key.now rows.now result }
+    {
+        match self {
+            Search::Halves => row_for(rows, key),
+            Search::Behind => row_to_insert(rows, key),
+        }
+    }
+
+    /// Where the key is among entries in order, or where it would stand.
+    fn place<K: Ord, V>(self, entries: &[(K, V)], key: &K) -> Result<usize, usize>
+        requires { IsOrdered K.cmp entries.now }
+        ensures found { IfOk result (λ at. IsFoundIn K.cmp key.now entries.now at) }
+        ensures absent { IfErr result (λ at. IsGapIn K.cmp key.now entries.now at) }
+    {
+        match self {
+            Search::Halves => place_in(entries, key),
+            Search::Behind => place_to_insert(entries, key),
+        }
+    }
+}
+
 /// Where the key is, or where it would stand.
-pub(crate) fn place_of<K: Ord, V>(rows: &[Row<K, V>], key: &K) -> Result<Place, Place>
+pub(crate) fn place_of<K: Ord, V>(
+    rows: &[Row<K, V>],
+    key: &K,
+    search: Search,
+) -> Result<Place, Place>
     requires ordered { IsOrdered K.cmp (joined rows.now) }
     requires filled { AreFilled rows.now }
     ensures found { IfOk result (λ p. IsFound K.cmp key.now rows.now p.row p.at) }
     ensures absent { IfErr result (λ p. IsGap K.cmp key.now rows.now p.row p.at) }
 {
-    let row = row_for(rows, key);
+    let row = search.row(rows, key);
     if row == rows.len() {
         return Err(Place { row, at: 0 });
     }
-    match place_in(rows[row].as_slice(), key) {
+    match search.place(rows[row].as_slice(), key) {
         Ok(at) => Ok(Place { row, at }),
         Err(at) => Err(Place { row, at }),
     }
@@ -77,7 +129,7 @@ pub(crate) fn place_near<K: Ord, V>(
             }
         }
     }
-    place_of(rows, key)
+    place_of(rows, key, Search::Halves)
 }
 
 /// Adds a row of one entry behind the others.

@@ -1,5 +1,5 @@
 use Rattle.std.proofs.Common.{◌-◌}
-use Rattle.oa_disk.proofs.file.lay_down.Given as goal
+use Rattle.oa_disk.proofs.file.add_zeros.Given as goal
 
 abbrev pub decreases-pieces : goal.decreases-pieces
-decreases-pieces g l = l.size - l.at
+decreases-pieces l = l.to - l.at

@@ -99,7 +99,7 @@ logging {
 }
 """
 
-PACEMAKER = """property stonith-enabled=%s stonith-action=off no-quorum-policy=stop
+PACEMAKER = """property stonith-enabled=%s stonith-action=off no-quorum-policy=stop cluster-recheck-interval=30s
 rsc_defaults resource-stickiness=100
 primitive files ocf:heartbeat:Filesystem \\
     params device=localhost:/stores directory=/srv/stores fstype=glusterfs options=direct-io-mode=enable \\

@@ -30,7 +30,7 @@ SENTENCES = {
     9: ["oa_keeps.specs.Keeps.KeepsLibrary", "oa_server.specs.Answers.RenewsStore", "oa_store.specs.Changes.IsUpgrade", "oa_store.specs.Faults.IsBrought"],
 }
 # more than this nobody should have to read
-LIMITS = {"Turn": 980, "IsLived": 1_230}
+LIMITS = {"Turn": 820, "IsLived": 1_240}
 
 COLUMNS = "| Sentence | Word | Definitions | Lines | Files | Crates |"
 TABLE = re.compile(rf"^{re.escape(COLUMNS)}\n(?:\|.*\n)*", re.MULTILINE)

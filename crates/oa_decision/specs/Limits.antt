@@ -1,22 +1,24 @@
 -- The limits on what a change makes. (This project's choice: a table has to leave so much of a bank's body that a group
 -- of one event fits behind it, and a server in memory refuses what one over a store refuses.)
-use Rattle.std.specs.Prelude.{◌≡◌, ◌-◌, ℕ, nat_lt, if◌then◌else◌, length, Option, Some, None, Result, Ok, Err, IsOk}
-use Rattle.oa_image.specs.Tables.{reserved_bytes, table_image}
+use Rattle.std.specs.Prelude.{◌≡◌, ◌-◌, ℕ, nat_lt, if◌then◌else◌, Option, Some, None, Result, Ok, Err, IsOk}
+use Rattle.oa_image.specs.Sizes.{event_size}
+use Rattle.oa_image.specs.Tables.{reserved_bytes}
 use Rattle.oa_model.specs.Limits.{max_event_bytes}
-use Rattle.oa_image.specs.Events.{event_image}
 use Rattle.oa_model.specs.declared.hresult.HResult.{HResult}
 use Rattle.oa_model.specs.Codes.{e_invalidarg, stg_e_mediumfull}
 use Rattle.oa_table.specs.declared.event.Event.{Event}
 use Rattle.oa_table.specs.declared.fault.TableFault.{TableFault}
 use Rattle.oa_table.specs.Events.{applied}
 use Rattle.oa_table.specs.Faults.{table_code}
+use Rattle.oa_table.specs.Sizes.{table_size}
 use Rattle.oa_table.specs.Tables.{TableValue}
 
--- the image of the event, and then that of the table after it, in a bank of this size
+-- How many bytes the image of the event has, and then that of the table after it, in a bank of this size: what is
+-- counted here is what is written (`images_are_counted` of oa_image).
 abbrev pub within_limits : ℕ → Event → TableValue → Result TableValue HResult
 within_limits bank event new =
-    if nat_lt max_event_bytes (length (event_image event)) then Err e_invalidarg
-    else if nat_lt (bank - reserved_bytes) (length (table_image new)) then Err stg_e_mediumfull
+    if nat_lt max_event_bytes (event_size event) then Err e_invalidarg
+    else if nat_lt (bank - reserved_bytes) (table_size new) then Err stg_e_mediumfull
     else Ok new
 
 -- the table after the event, where it applies, is within them

@@ -1,7 +1,9 @@
 //! The limits on what a change makes.
-ghost use Rattle.std.specs.Prelude.{◌≡◌, ◌-◌, true, Ok, length, nat_lt};
-ghost use Rattle.oa_image.specs.Tables.{reserved_bytes, table_image};
+ghost use Rattle.std.specs.Prelude.{◌≡◌, ◌-◌, true, Ok, nat_lt};
+ghost use Rattle.oa_image.specs.Sizes.{event_size};
+ghost use Rattle.oa_image.specs.Tables.{reserved_bytes};
 ghost use Rattle.oa_table.specs.Events.{applied};
+ghost use Rattle.oa_table.specs.Sizes.{table_size};
 ghost use Rattle.oa_table.specs.Tables.{TableValue};
 ghost use Rattle.oa_decision.specs.Limits.{GivesReason, StaysWithin, allowed};
 
@@ -25,7 +27,7 @@ pub fn disallowed(bank: u32, table: &Table, event: &Event) -> Option<HResult>
     if let Some(fault) = refusal_of(table, event) {
         return Some(fault.code());
     }
-    if event_len(event) > MAX_EVENT_BYTES {
+    if size_of(event) > MAX_EVENT_BYTES {
         return Some(HResult::E_INVALIDARG);
     }
     if is_too_large(bank, table, event) {
@@ -38,13 +40,20 @@ pub fn disallowed(bank: u32, table: &Table, event: &Event) -> Option<HResult>
 pub fn is_surely_within(bank: u32, table: &Table, event: &Event) -> bool
     ensures { result ≡ true → StaysWithin bank event.now table.now }
 {
-    event_len(event) <= MAX_EVENT_BYTES && table.most_after(event) <= most_of(bank)
+    size_of(event) <= MAX_EVENT_BYTES && table.most_after(event) <= most_of(bank)
+}
+
+/// How many bytes the image of an event has.
+fn size_of(event: &Event) -> usize
+    ensures { result ≡ event_size event.now }
+{
+    event_len(event)
 }
 
 /// Whether the image of the table has too many bytes after an event that applies. Where even the most that it can have are few, they are
 /// not counted.
 fn is_too_large(bank: u32, table: &Table, event: &Event) -> bool
-    ensures { (new : TableValue) → applied event.now table.now ≡ Ok new → result ≡ nat_lt (bank - reserved_bytes) (length (table_image new)) }
+    ensures { (new : TableValue) → applied event.now table.now ≡ Ok new → result ≡ nat_lt (bank - reserved_bytes) (table_size new) }
 {
     let most = most_of(bank);
     if table.most_after(event) <= most {
@@ -55,7 +64,7 @@ fn is_too_large(bank: u32, table: &Table, event: &Event) -> bool
 
 /// How many bytes the image of the table has after an event that applies.
 fn size_after(table: &Table, event: &Event) -> u64
-    ensures { (new : TableValue) → applied event.now table.now ≡ Ok new → result ≡ length (table_image new) }
+    ensures { (new : TableValue) → applied event.now table.now ≡ Ok new → result ≡ table_size new }
 {
     table.size_after(event)
 }

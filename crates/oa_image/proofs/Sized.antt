@@ -1,5 +1,5 @@
 -- Images are as long as oa_table counts them.
-use Rattle.std.proofs.Common.{◌≡◌, ℕ, ◌+◌, ◌*◌, List, [], ◌∷◌, length, Option, Some, None, Ok, refl, arith}
+use Rattle.std.proofs.Common.{◌≡◌, ℕ, ◌+◌, ◌*◌, List, [], ◌∷◌, length, Option, Some, None, Ok, refl, arith, ℤ}
 use Rattle.std.specs.List.{flat_map, sum_by}
 use Rattle.std.specs.Map.{values_of}
 use Rattle.std.proofs.lemmas.List.{length-append}
@@ -19,13 +19,19 @@ use Rattle.oa_layout.specs.Numbers.{u8, u16, u32, u64, i8, i16, i32, i64, guid, 
 use Rattle.oa_layout.specs.Values.{decimal, of_type, scalar, text, text_header, text_of_size, vt}
 use Rattle.oa_layout.specs.Variants.{content, kind, value}
 use Rattle.oa_table.specs.declared.event.Event.{Event}
+use Rattle.oa_table.specs.declared.event.Event.TheVariants.{Create, Release, Put, PutElement, Redim}
+use Rattle.oa_table.specs.declared.name.CellName.{CellName}
 use Rattle.oa_table.specs.Events.{applied}
 use Rattle.oa_table.specs.Places.{PlaceValue}
 use Rattle.oa_table.specs.Sizes.{array_size, cell_size, content_size, element_size, object_size, place_size, scalar_size, size_after}
 use Rattle.oa_table.specs.Sizes.{table_size, value_size}
 use Rattle.oa_table.specs.Tables.{ObjectValue, TableValue}
-use Rattle.oa_image.specs.Names.{key, place}
+use Rattle.oa_image.specs.Events.{event_image, indices}
+use Rattle.oa_image.specs.Names.{key, name, place}
+use Rattle.oa_image.specs.Sizes.{event_size}
 use Rattle.oa_image.specs.Tables.{cell, cells, object, objects, table}
+use Rattle.oa_image.proofs.Lengths.{indices_len}
+use Rattle.oa_image.proofs.Parts.{create_len, put_element_len, put_len, redim_len, release_len}
 
 -- images one behind the other
 all_sized : {X : Type 0} (image : X → List ℕ) (size : X → ℕ) → ((x : X) → length (image x) ≡ size x) → (xs : List X)
@@ -129,3 +135,19 @@ table_sized t = omega (arith, all_sized object.image (λ o. object_size o.1) obj
 
 pub applied_sized : (event : Event) (old new : TableValue) → applied event old ≡ Ok new → length (table.image new) ≡ size_after event old
 applied_sized event old new made = rw made (table_sized new)
+
+name_sized : (n : CellName) → length (name.image n) ≡ 4 + place_size n.place
+unfolding name next_by made_where u32 raw
+name_sized n = omega (arith, place_sized n.place)
+
+indices_sized : (index : List ℤ) → length (indices.image index) ≡ 2 + 4 * length index
+unfolding indices counted times next_by made_where u16 raw
+indices_sized index = omega (arith, indices_len index)
+
+pub event_sized : (e : Event) → length (event_image e) ≡ event_size e
+unfolding event_size
+event_sized (Create number class) = create_len number class
+event_sized (Release number) = release_len number
+event_sized (Put n v) = omega (arith, put_len n v, name_sized n, value_sized v)
+event_sized (PutElement n index v) = omega (arith, put_element_len n index v, name_sized n, indices_sized index, scalar_sized v)
+event_sized (Redim n b) = omega (arith, redim_len n b, name_sized n)

@@ -7,8 +7,10 @@ use Rattle.std.specs.Result.{IsErrAnd, MatchResult}
 use Rattle.oa_image.specs.Tables.{reserved_bytes}
 use Rattle.oa_model.specs.Limits.{max_event_bytes}
 use Rattle.oa_image.specs.Events.{event_image}
+use Rattle.oa_image.specs.Sizes.{event_size}
 use Rattle.oa_image.specs.Tables.{is_numbered, objects, table as a_table, table_image}
 use Rattle.oa_image.proofs.Numbered.{numbers_stay, unlocked_numbers}
+use Rattle.oa_image.proofs.Sized.{event_sized, table_sized}
 use Rattle.oa_image.proofs.TablesWithImages.{same_table}
 use Rattle.oa_layout.specs.Formats.{only, made_where, counted, coded, next_by, times, raw}
 use Rattle.oa_layout.specs.Numbers.{u32}
@@ -21,6 +23,7 @@ use Rattle.oa_table.specs.declared.fault.TableFault.TheVariants.{Memory, NoObjec
 use Rattle.oa_table.specs.Events.{applied}
 use Rattle.oa_table.specs.Faults.{table_code}
 use Rattle.oa_table.specs.Outcomes.{Because}
+use Rattle.oa_table.specs.Sizes.{table_size}
 use Rattle.oa_table.specs.Tables.{TableValue, first_table, unlocked_table}
 use Rattle.oa_decision.specs.declared.decision.LockChange.{LockChange}
 use Rattle.oa_decision.specs.declared.decision.LockChange.TheVariants.{Lock, Unlock}
@@ -37,20 +40,21 @@ pub record IsWithin (bank : ℕ) (event : Event) (made new : TableValue) : Type 
 
 within : (bank : ℕ) (event : Event) (made new : TableValue) → within_limits bank event made ≡ Ok new → IsWithin bank event made new
 within bank event made new =
-    by (nat_lt max_event_bytes (length (event_image event))) refl (nat_lt (bank - reserved_bytes) (length (table_image made))) refl
+    by (nat_lt max_event_bytes (event_size event)) refl (nat_lt (bank - reserved_bytes) (table_size made)) refl
   where
-    by : (long : Bool) → nat_lt max_event_bytes (length (event_image event)) ≡ long → (full : Bool)
-        → nat_lt (bank - reserved_bytes) (length (table_image made)) ≡ full
+    by : (long : Bool) → nat_lt max_event_bytes (event_size event) ≡ long → (full : Bool)
+        → nat_lt (bank - reserved_bytes) (table_size made) ≡ full
         → (if long then Err e_invalidarg else if full then Err stg_e_mediumfull else Ok made) ≡ Ok new → IsWithin bank event made new
     by true a full b is = absurd cc
     by false a true b is = absurd cc
     by false a false b is =
         let same : made ≡ new = cc in
+        let small : length (event_image event) ≤ max_event_bytes = omega (arith, event_sized event, ltb-false max_event_bytes (event_size event) a) in
+        let fits : length (table_image made) ≤ (bank - reserved_bytes) = omega (arith, table_sized made, ltb-false (bank - reserved_bytes) (table_size made) b) in
         record {
           same = same;
-          event_small = ltb-false max_event_bytes (length (event_image event)) a;
-          table_small = subst (λ (t : TableValue).
-              length (table_image t) ≤ (bank - reserved_bytes)) same (ltb-false (bank - reserved_bytes) (length (table_image made)) b);
+          event_small = small;
+          table_small = subst (λ (t : TableValue). length (table_image t) ≤ (bank - reserved_bytes)) same fits;
         }
 
 pub record IsMade (bank : ℕ) (event : Event) (old new : TableValue) : Type 0 where

@@ -53,8 +53,8 @@ use Rattle.oa_bind.specs.Names.{is_consistent, lacks, most, names_none}
 use Rattle.oa_bind.specs.Refusals.{any_at, each_at}
 use Rattle.oa_coerce.specs.Answers.{coerced, coerced_scalar}
 use Rattle.oa_idl.specs.declared.parts.Parameter.{Parameter}
-use Rattle.oa_image.specs.Events.{event_image}
-use Rattle.oa_image.specs.Tables.{table_image}
+use Rattle.oa_image.specs.Sizes.{event_size}
+use Rattle.oa_table.specs.Sizes.{table_size}
 use Rattle.oa_model.specs.Codes.{disp_e_badindex, disp_e_badparamcount, disp_e_paramnotfound, disp_e_paramnotoptional}
 use Rattle.oa_model.specs.Codes.{disp_e_unknowninterface, disp_e_unknownname, e_invalidarg, e_nointerface, e_unexpected}
 use Rattle.oa_model.specs.Codes.{regdb_e_classnotreg, rpc_e_disconnected, s_ok, stg_e_mediumfull}
@@ -274,8 +274,8 @@ refused_own (Err fault) = table_own fault
 
 -- what an event is refused for
 limits_own : (bank : ℕ) (event : Event) (new : TableValue) → (code : HResult) → within_limits bank event new ≡ Err code → is_own code ≡ true
-limits_own bank event new code is = by (nat_lt max_event_bytes (length (event_image event)))
-    (nat_lt (bank - reserved_bytes) (length (table_image new))) is
+limits_own bank event new code is = by (nat_lt max_event_bytes (event_size event))
+    (nat_lt (bank - reserved_bytes) (table_size new)) is
   where
     same : (a b : HResult) → err a ≡ err b → a ≡ b
     same a b e = cc

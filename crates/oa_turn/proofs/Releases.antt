@@ -5,8 +5,9 @@ use Rattle.std.specs.Prelude.{nat_lt}
 use Rattle.std.specs.Result.{IsErrAnd, MatchResult}
 use Rattle.std.proofs.lemmas.Bool.{le-ltb}
 use Rattle.oa_array.specs.declared.fault.ArrayFault.TheVariants as arrays
-use Rattle.oa_image.specs.Events.{event_image}
-use Rattle.oa_image.specs.Tables.{reserved_bytes, table_image}
+use Rattle.oa_image.specs.Sizes.{event_size}
+use Rattle.oa_image.specs.Tables.{reserved_bytes}
+use Rattle.oa_table.specs.Sizes.{table_size}
 use Rattle.oa_model.specs.Codes.{e_invalidarg, e_outofmemory, stg_e_mediumfull}
 use Rattle.oa_model.specs.Limits.{max_event_bytes}
 use Rattle.oa_model.specs.declared.hresult.HResult.{HResult}
@@ -83,7 +84,7 @@ not_allowed bank number table code is memory = by (applied (ARelease number) tab
     by_limits new false false is = absurd cc
 
     by : (due : Result TableValue TableFault) → applied (ARelease number) table ≡ due → limited bank (ARelease number) due ≡ refused_with code → ⊥
-    by (Ok new) at is = by_limits new (nat_lt max_event_bytes (length (event_image (ARelease number)))) (nat_lt (bank - reserved_bytes) (length (table_image new))) is
+    by (Ok new) at is = by_limits new (nat_lt max_event_bytes (event_size (ARelease number))) (nat_lt (bank - reserved_bytes) (table_size new)) is
     by (Err fault) at is = refused number table fault at (same_code (table_code fault) code is ∙ memory)
 
 pub is_made : {E : Type 0} (P : E → HResult → Type 0) (from : Result (Unit {0}) E) (to : Result (Unit {0}) HResult) → OnErr from ⊥

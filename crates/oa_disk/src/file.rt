@@ -78,9 +78,9 @@ impl FileDisk {
         Ok(FileDisk::begin(file, size))
     }
 
-    /// The same file where it has so many bytes or more, and else lengthened to so many by zeros, which take their room on the device at
-    /// once, and brought there. It is locked throughout. Where that fails, the error is the system's, and the file, which is let go, has its
-    /// length of before, if that can be set. A stop leaves one that is shorter than asked.
+    /// The same file, lengthened to so many bytes where it is shorter, by zeros, which take their room on the device at once; all that was
+    /// written to it is brought there. It is locked throughout. Where that fails, the error is the system's, and the file, which is let go,
+    /// has its length of before, if that can be set. A stop leaves one that is shorter than asked.
     pub fn lengthen(self, size: u64) -> io::Result<FileDisk>
         ensures kept { IfOk result (λ disk. size ≤ file_size self → file_size disk ≡ file_size self) }
         ensures lengthened { IfOk result (λ disk. file_size self ≤ size → file_size disk ≡ size) }
@@ -88,14 +88,12 @@ impl FileDisk {
     {
         let old = self.size;
         let file = self.file;
-        if old >= size {
-            return Ok(FileDisk::begin(file, old));
-        }
         if let Err(error) = add_zeros(&file, old, size) {
             let _ = file.set_len(old);
             return Err(error);
         }
-        Ok(FileDisk::begin(file, size))
+        let long = if old < size { size } else { old };
+        Ok(FileDisk::begin(file, long))
     }
 
     /// A file of which this is the beginning.

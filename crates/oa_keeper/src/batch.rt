@@ -1,5 +1,5 @@
 //! The events of a group, as they will go out.
-ghost use Rattle.std.specs.Prelude.{◌≡◌, ◌⊎◌, ◌↔◌, ◌+◌, ◌≤◌, ◌++◌, [], IsTrue, OnErr, OnOk, length, take, vec_capacity};
+ghost use Rattle.std.specs.Prelude.{◌≡◌, ◌⊎◌, ◌↔◌, ◌≤◌, ◌++◌, [], IsTrue, OnErr, OnOk, length, take};
 ghost use Rattle.oa_image.specs.Events.{event_image};
 ghost use Rattle.oa_journal.specs.Append.{group_of};
 
@@ -67,32 +67,19 @@ impl Batch {
     }
 }
 
-/// Adds an event between the others and the free byte behind them, in room that is asked for once: where it is refused, no byte changes.
+/// Adds an event over the free byte behind the others, and one behind it, in room that is asked for once: where it is refused, no byte
+/// changes.
 fn add_event(bytes: &mut Vec<u8>, event: &Event) -> Result<(), AllocError>
     requires { (length bytes.old.items ≡ 0) ⊎ (5 ≤ length bytes.old.items) }
     ensures ok { OnOk result (group_of bytes.new.items ≡ group_of bytes.old.items ++ event_image event.now) }
     ensures err { OnErr result (bytes.new.items ≡ bytes.old.items) }
     ensures len { (length bytes.new.items ≡ 0) ⊎ (5 ≤ length bytes.new.items) }
 {
-    bytes.reserve(event_len(event).saturating_add(5))?;
-    begin(bytes);
-    let end = bytes.len();
-    write_event(event, bytes).unwrap();
-    bytes.copy_within(end.., end - 1);
+    let begun = bytes.len().max(5);
+    let Some(end) = begun.checked_add(event_len(event)) else {
+        return Err(AllocError);
+    };
+    bytes.resize(end, 0)?;
+    write_event(event, begun - 1, bytes);
     Ok(())
-}
-
-/// The free bytes, for which there is room.
-fn begin(bytes: &mut Vec<u8>)
-    requires len { (length bytes.old.items ≡ 0) ⊎ (5 ≤ length bytes.old.items) }
-    requires room { length bytes.old.items + 5 ≤ vec_capacity bytes.old }
-    ensures group { group_of bytes.new.items ≡ group_of bytes.old.items }
-    ensures len { 5 ≤ length bytes.new.items }
-    ensures most { length bytes.new.items ≤ length bytes.old.items + 5 }
-    ensures capacity { vec_capacity bytes.old ≤ vec_capacity bytes.new }
-{
-    if !bytes.is_empty() {
-        return;
-    }
-    bytes.extend_from_slice(&[0; 5]).unwrap();
 }

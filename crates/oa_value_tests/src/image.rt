@@ -1,7 +1,7 @@
 //! An event by itself, which the images of a store's groups show only among others, and how far it is read where it is cut, which no fault of a store
 //! tells. What else is read of images, and written, is shown by the cases of the program.
 use crate::asserts::expect;
-use oa_image::{ImageFault, read_event, write_event};
+use oa_image::{ImageFault, event_len, read_event, write_event};
 use oa_table::Event;
 use std::alloc::Global;
 use std::rt::HostRuntime;
@@ -15,8 +15,11 @@ static PUT: [u8; 33] = [
 /// Whether an event has this image.
 fn is_imaged(alloc: Global, event: &Event, image: &[u8]) -> bool {
     let mut written = Vec::new(alloc);
-    let is_written = write_event(event, &mut written).is_ok();
-    is_written && written.as_slice() == image
+    if let Err(_) = written.resize(event_len(event), 0) {
+        return false;
+    }
+    write_event(event, 0, &mut written);
+    written.as_slice() == image
 }
 
 /// Whether the event is read that has this image.

@@ -103,6 +103,7 @@ PACEMAKER = """property stonith-enabled=%s stonith-action=off no-quorum-policy=s
 rsc_defaults resource-stickiness=100
 primitive files ocf:heartbeat:Filesystem \\
     params device=localhost:/stores directory=/srv/stores fstype=glusterfs options=direct-io-mode=enable \\
+    meta failure-timeout=30s \\
     op start timeout=60s op stop timeout=20s op monitor interval=10s timeout=20s
 primitive server ocf:oaut:gateway \\
     params store=/srv/stores/items.store before="/usr/lib/oaut/rewrite /srv/stores/items.store" \\

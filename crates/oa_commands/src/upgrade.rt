@@ -69,5 +69,6 @@ fn lengthened(
     ensures refused { IfErr result IsOfTaking }
 {
     allow_writes(rt, alloc, path, size)?;
-    disk.lengthen(size).map_err(|error| unwritten(alloc, &error, path))
+    disk.lengthen(size)
+        .map_err(|error| unwritten(alloc, &error, path))
 }

@@ -1,7 +1,7 @@
 #!/usr/bin/env python3
 """Makes clusters of three hosts from nothing, breaks them while clients put and get through their address, and counts what was lost and how long they waited.
 
-    python3 bench/takeover.py [--program PATH] [--gateway PATH] [--rounds N] [--clusters N] [--until HH:MM] [--without lock|fencing].. [--two] [--log FILE] [ROUND ..]
+    python3 bench/takeover.py [--program PATH] [--gateway PATH] [--rounds N] [--clusters N] [--until HH:MM] [--without lock|fencing].. [--two] [--in-memory] [--log FILE] [ROUND ..]
     python3 bench/takeover.py --summary FILE..
 
 As root, by hand, with Debian's pacemaker, corosync, crmsh, resource-agents, glusterfs-server, glusterfs-client, attr, socat, iproute2, a C compiler and /dev/fuse.
@@ -336,6 +336,8 @@ class Host:
         self.acks = f"{self.home}/upper/var/acks"
         for it in ("upper", "work", "root", "brick"):
             os.makedirs(f"{self.home}/{it}")
+        if site.in_memory:
+            must("mount", "-t", "tmpfs", "brick", f"{self.home}/brick")
         self.write("/etc/hosts", "127.0.0.1 localhost\n" + "".join(f"10.78.1.{n} {it}\n" for n, it in enumerate(HOSTS, 1)))
         for path, line in (("/etc/passwd", "oaut:x:990:990::/:/bin/sh\n"), ("/etc/group", "oaut:x:990:\n")):
             with open(path) as file:
@@ -518,6 +520,7 @@ class Site:
     def __init__(self, room, given):
         self.room, self.program, self.gateway = room, os.path.abspath(given.program), os.path.abspath(given.gateway or f"{room}/oaut-gateway")
         self.without_lock, self.without_fencing, self.members = "lock" in given.without, "fencing" in given.without, 2 if given.two else 3
+        self.in_memory = given.in_memory
         if not given.gateway:
             must(f"{ROOT}/clients/gateway/build.sh", room)
         with open(f"{room}/shim.c", "w") as file:
@@ -910,6 +913,7 @@ def main():
     parser.add_argument("--until", metavar="HH:MM")
     parser.add_argument("--without", choices=("lock", "fencing"), action="append", default=[])
     parser.add_argument("--two", action="store_true", help="the third host is a brick alone")
+    parser.add_argument("--in-memory", action="store_true", help="the bricks' files are in memory, for a machine whose disk is slow")
     parser.add_argument("--log", metavar="FILE", help="add what each round was, a line of JSON each, to a file")
     parser.add_argument("--summary", action="store_true", help="print what such files have, and make no rounds")
     parser.add_argument("--keep", action="store_true", help="keep the folder with the logs")

@@ -166,9 +166,7 @@ class UpgradeCalls(Cases):
         first, second, third = made[: parts[1]], made[parts[1] : parts[2]], made[parts[2] :]
         self.tell("upgrade: it looks before it writes", first[:2] == OPENED and all(it[0] in ("sync", "read") for it in first[2:]), first)
         self.tell(
-            "upgrade: zeros behind the end, and a sync",
-            second == [("write", SIZE - 100_000, 65_536), ("write", SIZE - 34_464, 34_464), ("sync",)],
-            second,
+            "upgrade: zeros behind the end, and a sync", second == [("write", SIZE - 100_000, 65_536), ("write", SIZE - 34_464, 34_464), ("sync",)], second
         )
         looks = OPENING[len(OPENED) :]
         last = [("write", 16_785_408, 32), ("write", BODY_1, 340), ("sync",), ("write", 4096, 1), ("sync",), OUT]

@@ -31,20 +31,7 @@ unfolding scalar vt of_type tagged coded case nothing u8 u16 u32 u64 i8 i16 i32 
 scalar_is scalars.Empty h = (tt, (refl, tt))
 scalar_is scalars.Null h = (tt, (refl, tt))
 scalar_is (scalars.Bstr t) h = (tt, (refl, text_is t h))
-scalar_is (scalars.I1 x) h = (tt, (refl, h))
-scalar_is (scalars.I2 x) h = (tt, (refl, h))
-scalar_is (scalars.I4 x) h = (tt, (refl, h))
-scalar_is (scalars.I8 x) h = (tt, (refl, h))
-scalar_is (scalars.Int x) h = (tt, (refl, h))
-scalar_is (scalars.Ui1 x) h = (tt, (refl, h))
-scalar_is (scalars.Ui2 x) h = (tt, (refl, h))
-scalar_is (scalars.Ui4 x) h = (tt, (refl, h))
-scalar_is (scalars.Ui8 x) h = (tt, (refl, h))
-scalar_is (scalars.Uint x) h = (tt, (refl, h))
-scalar_is (scalars.Cy x) h = (tt, (refl, h))
-scalar_is (scalars.Bool x) h = (tt, (refl, h))
-scalar_is (scalars.Error x) h = (tt, (refl, h))
-scalar_is (scalars.Decimal x) h = (tt, (refl, h))
+scalar_is s h = (tt, (refl, h))
 
 bound_is : (b : Bound) → IsBound b → bound.Is b
 unfolding IsBound bound next_by made_where u32 i32
@@ -59,23 +46,7 @@ own_content t s other (inr e) h = subst (λ (k : VarType). (of_type k).Is s) e (
 cell_is : (t : VarType) (s : Scalar) → FitsType s t → IsScalar s → (cell_of t).Is s
 unfolding cell_of
 cell_is types.Variant s fits h = scalar_is s h
-cell_is types.Empty s fits h = own_content types.Empty s (λ e. absurd cc) fits h
-cell_is types.Null s fits h = own_content types.Null s (λ e. absurd cc) fits h
-cell_is types.I2 s fits h = own_content types.I2 s (λ e. absurd cc) fits h
-cell_is types.I4 s fits h = own_content types.I4 s (λ e. absurd cc) fits h
-cell_is types.Cy s fits h = own_content types.Cy s (λ e. absurd cc) fits h
-cell_is types.Bstr s fits h = own_content types.Bstr s (λ e. absurd cc) fits h
-cell_is types.Error s fits h = own_content types.Error s (λ e. absurd cc) fits h
-cell_is types.Bool s fits h = own_content types.Bool s (λ e. absurd cc) fits h
-cell_is types.Decimal s fits h = own_content types.Decimal s (λ e. absurd cc) fits h
-cell_is types.I1 s fits h = own_content types.I1 s (λ e. absurd cc) fits h
-cell_is types.Ui1 s fits h = own_content types.Ui1 s (λ e. absurd cc) fits h
-cell_is types.Ui2 s fits h = own_content types.Ui2 s (λ e. absurd cc) fits h
-cell_is types.Ui4 s fits h = own_content types.Ui4 s (λ e. absurd cc) fits h
-cell_is types.I8 s fits h = own_content types.I8 s (λ e. absurd cc) fits h
-cell_is types.Ui8 s fits h = own_content types.Ui8 s (λ e. absurd cc) fits h
-cell_is types.Int s fits h = own_content types.Int s (λ e. absurd cc) fits h
-cell_is types.Uint s fits h = own_content types.Uint s (λ e. absurd cc) fits h
+cell_is t s fits h = own_content t s (λ e. absurd cc) fits h
 
 each_cell : (t : VarType) (cells : List Scalar) → All (λ s. FitsType s t) cells → All IsScalar cells → AllByRecursion (cell_of t).Is cells
 each_cell t [] fits h = tt

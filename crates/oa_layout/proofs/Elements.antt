@@ -20,23 +20,7 @@ by_type t s other fits = ⊎_elim (λ is. absurd (other is)) (λ same. ap (λ (k
 pub element_same : (t : VarType) (s : Scalar) → FitsType s t → element_image t s ≡ (cell_of t).image s
 unfolding element_image cell_of
 element_same types.Variant s fits = refl
-element_same types.Empty s fits = by_type types.Empty s (λ is. absurd cc) fits
-element_same types.Null s fits = by_type types.Null s (λ is. absurd cc) fits
-element_same types.I1 s fits = by_type types.I1 s (λ is. absurd cc) fits
-element_same types.I2 s fits = by_type types.I2 s (λ is. absurd cc) fits
-element_same types.I4 s fits = by_type types.I4 s (λ is. absurd cc) fits
-element_same types.I8 s fits = by_type types.I8 s (λ is. absurd cc) fits
-element_same types.Int s fits = by_type types.Int s (λ is. absurd cc) fits
-element_same types.Ui1 s fits = by_type types.Ui1 s (λ is. absurd cc) fits
-element_same types.Ui2 s fits = by_type types.Ui2 s (λ is. absurd cc) fits
-element_same types.Ui4 s fits = by_type types.Ui4 s (λ is. absurd cc) fits
-element_same types.Ui8 s fits = by_type types.Ui8 s (λ is. absurd cc) fits
-element_same types.Uint s fits = by_type types.Uint s (λ is. absurd cc) fits
-element_same types.Cy s fits = by_type types.Cy s (λ is. absurd cc) fits
-element_same types.Bool s fits = by_type types.Bool s (λ is. absurd cc) fits
-element_same types.Error s fits = by_type types.Error s (λ is. absurd cc) fits
-element_same types.Bstr s fits = by_type types.Bstr s (λ is. absurd cc) fits
-element_same types.Decimal s fits = by_type types.Decimal s (λ is. absurd cc) fits
+element_same t s fits = by_type t s (λ is. absurd cc) fits
 
 elements_same : (t : VarType) (cells : List Scalar) → AllByRecursion (λ s. FitsType s t) cells
     → flat_map (element_image t) cells ≡ flat_map (cell_of t).image cells

@@ -9,23 +9,7 @@ use Rattle.oa_layout.specs.Formats.{same_content}
 
 pub type_here : (t : VarType) → type_at (vt_of t) ≡ Some t
 type_here types.Empty = refl
-type_here types.Null = refl
-type_here types.I2 = refl
-type_here types.I4 = refl
-type_here types.Cy = refl
-type_here types.Bstr = refl
-type_here types.Error = refl
-type_here types.Bool = refl
-type_here types.Variant = refl
-type_here types.Decimal = refl
-type_here types.I1 = refl
-type_here types.Ui1 = refl
-type_here types.Ui2 = refl
-type_here types.Ui4 = refl
-type_here types.I8 = refl
-type_here types.Ui8 = refl
-type_here types.Int = refl
-type_here types.Uint = refl
+type_here t = refl
 
 -- the test of one number
 pub tested : (b : Bool) (n m : ℕ) (j : VarType) (others : Option VarType) (t : VarType) → vt_of j ≡ m
@@ -58,20 +42,4 @@ type_there n t e =
 -- the number of a type is below VT_ARRAY
 pub vt_low : (t : VarType) → vt_of t < vt_array
 vt_low types.Empty = omega arith
-vt_low types.Null = omega arith
-vt_low types.I2 = omega arith
-vt_low types.I4 = omega arith
-vt_low types.Cy = omega arith
-vt_low types.Bstr = omega arith
-vt_low types.Error = omega arith
-vt_low types.Bool = omega arith
-vt_low types.Variant = omega arith
-vt_low types.Decimal = omega arith
-vt_low types.I1 = omega arith
-vt_low types.Ui1 = omega arith
-vt_low types.Ui2 = omega arith
-vt_low types.Ui4 = omega arith
-vt_low types.I8 = omega arith
-vt_low types.Ui8 = omega arith
-vt_low types.Int = omega arith
-vt_low types.Uint = omega arith
+vt_low t = omega arith

@@ -1,8 +1,8 @@
 -- The images of texts, DECIMAL and scalars (this project's choice).
-use Rattle.std.proofs.Common.{◌≡◌, ℕ, ℤ, ◌+◌, ◌*◌, ◌<◌, ◌≤◌, ◌^◌, Bool, true, false, cond, eqb, leb, List, length}
+use Rattle.std.proofs.Common.{◌≡◌, ℕ, ◌+◌, ◌*◌, ◌<◌, ◌≤◌, ◌^◌, Bool, true, false, cond, eqb, leb, List, length}
 use Rattle.std.proofs.Common.{Option, Some, None, refl, sym, ap, subst, arith, rules}
 use Rattle.std.specs.Prelude.{⊤}
-use Rattle.std.specs.Prelude.{◌==◌, nat_le, if◌then◌else◌, pos}
+use Rattle.std.specs.Prelude.{◌==◌, nat_le, if◌then◌else◌}
 use Rattle.std.proofs.lemmas.Bool.{eqb-true, leb-true, le-leb}
 use Rattle.oa_model.specs.Limits.{max_text_bytes}
 use Rattle.oa_model.specs.declared.var_type.VarType.{VarType}
@@ -10,7 +10,7 @@ use Rattle.oa_model.specs.declared.var_type.VarType.TheVariants as types
 use Rattle.oa_model.specs.Types.{vt_of, type_at}
 use Rattle.oa_bstr.specs.Text.{bytes_of}
 use Rattle.oa_variant.specs.Decimals.{DecimalValue, high_of, low_of, halves}
-use Rattle.oa_variant.specs.Keys.{decimal_of}
+use Rattle.oa_variant.specs.Keys.{key_number, unsigned_in, truth_in, decimal_of, is_made}
 use Rattle.oa_variant.specs.Scalars.{type_of, text_of}
 use Rattle.oa_variant.specs.declared.scalar.Scalar.{Scalar}
 use Rattle.oa_variant.specs.declared.scalar.Scalar.TheVariants as scalars
@@ -128,141 +128,40 @@ decimal = coded IsDecimal decimal_of_parts decimal_parts decimal_fields decimal_
 
 -- ---- scalars: the number of the type, and the content
 
--- what a scalar holds; of one of another type nothing is meant
-abbrev pub signed_in : Scalar → ℤ
-signed_in (scalars.I1 z) = z
-signed_in (scalars.I2 z) = z
-signed_in (scalars.I4 z) = z
-signed_in (scalars.I8 z) = z
-signed_in (scalars.Int z) = z
-signed_in (scalars.Cy z) = z
-signed_in s = pos 0
-
-abbrev pub unsigned_in : Scalar → ℕ
-unsigned_in (scalars.Ui1 n) = n
-unsigned_in (scalars.Ui2 n) = n
-unsigned_in (scalars.Ui4 n) = n
-unsigned_in (scalars.Ui8 n) = n
-unsigned_in (scalars.Uint n) = n
-unsigned_in (scalars.Error n) = n
-unsigned_in s = 0
-
-abbrev pub truth_in : Scalar → Bool
-truth_in (scalars.Bool b) = b
-truth_in s = false
-
-pub is_empty : (s : Scalar) → type_of s ≡ types.Empty → scalars.Empty ≡ s
-is_empty scalars.Empty e = refl
-is_empty s e = absurd cc
-
-pub is_null : (s : Scalar) → type_of s ≡ types.Null → scalars.Null ≡ s
-is_null scalars.Null e = refl
-is_null s e = absurd cc
-
-pub is_i1 : (s : Scalar) → type_of s ≡ types.I1 → scalars.I1 (signed_in s) ≡ s
-is_i1 (scalars.I1 x) e = refl
-is_i1 s e = absurd cc
-
-pub is_i2 : (s : Scalar) → type_of s ≡ types.I2 → scalars.I2 (signed_in s) ≡ s
-is_i2 (scalars.I2 x) e = refl
-is_i2 s e = absurd cc
-
-pub is_i4 : (s : Scalar) → type_of s ≡ types.I4 → scalars.I4 (signed_in s) ≡ s
-is_i4 (scalars.I4 x) e = refl
-is_i4 s e = absurd cc
-
-pub is_i8 : (s : Scalar) → type_of s ≡ types.I8 → scalars.I8 (signed_in s) ≡ s
-is_i8 (scalars.I8 x) e = refl
-is_i8 s e = absurd cc
-
-pub is_int : (s : Scalar) → type_of s ≡ types.Int → scalars.Int (signed_in s) ≡ s
-is_int (scalars.Int x) e = refl
-is_int s e = absurd cc
-
-pub is_cy : (s : Scalar) → type_of s ≡ types.Cy → scalars.Cy (signed_in s) ≡ s
-is_cy (scalars.Cy x) e = refl
-is_cy s e = absurd cc
-
-pub is_ui1 : (s : Scalar) → type_of s ≡ types.Ui1 → scalars.Ui1 (unsigned_in s) ≡ s
-is_ui1 (scalars.Ui1 x) e = refl
-is_ui1 s e = absurd cc
-
-pub is_ui2 : (s : Scalar) → type_of s ≡ types.Ui2 → scalars.Ui2 (unsigned_in s) ≡ s
-is_ui2 (scalars.Ui2 x) e = refl
-is_ui2 s e = absurd cc
-
-pub is_ui4 : (s : Scalar) → type_of s ≡ types.Ui4 → scalars.Ui4 (unsigned_in s) ≡ s
-is_ui4 (scalars.Ui4 x) e = refl
-is_ui4 s e = absurd cc
-
-pub is_ui8 : (s : Scalar) → type_of s ≡ types.Ui8 → scalars.Ui8 (unsigned_in s) ≡ s
-is_ui8 (scalars.Ui8 x) e = refl
-is_ui8 s e = absurd cc
-
-pub is_uint : (s : Scalar) → type_of s ≡ types.Uint → scalars.Uint (unsigned_in s) ≡ s
-is_uint (scalars.Uint x) e = refl
-is_uint s e = absurd cc
-
-pub is_error : (s : Scalar) → type_of s ≡ types.Error → scalars.Error (unsigned_in s) ≡ s
-is_error (scalars.Error x) e = refl
-is_error s e = absurd cc
-
-pub is_bool : (s : Scalar) → type_of s ≡ types.Bool → scalars.Bool (truth_in s) ≡ s
-is_bool (scalars.Bool x) e = refl
-is_bool s e = absurd cc
-
-pub is_bstr : (s : Scalar) → type_of s ≡ types.Bstr → scalars.Bstr (text_of s) ≡ s
-is_bstr (scalars.Bstr x) e = refl
-is_bstr s e = absurd cc
-
-pub is_decimal : (s : Scalar) → type_of s ≡ types.Decimal → scalars.Decimal (decimal_of s) ≡ s
-is_decimal (scalars.Decimal x) e = refl
-is_decimal s e = absurd cc
+pub truth_again : (b : Bool) → truth_in (scalars.Bool b) ≡ b
+truth_again false = refl
+truth_again true = refl
 
 -- what a scalar of a type has behind the number of the type; there is none of VARIANT
 unfoldable pub of_type : VarType → Format Scalar
 of_type types.Empty =
-    case type_of types.Empty (λ u. scalars.Empty) (λ s. tt) nothing (λ u is. refl) (λ u. refl) is_empty
-of_type types.Null = case type_of types.Null (λ u. scalars.Null) (λ s. tt) nothing (λ u is. refl) (λ u. refl) is_null
-of_type types.I1 = case type_of types.I1 (λ x. scalars.I1 x) signed_in i8 (λ x is. refl) (λ x. refl) is_i1
-of_type types.I2 = case type_of types.I2 (λ x. scalars.I2 x) signed_in i16 (λ x is. refl) (λ x. refl) is_i2
-of_type types.I4 = case type_of types.I4 (λ x. scalars.I4 x) signed_in i32 (λ x is. refl) (λ x. refl) is_i4
-of_type types.I8 = case type_of types.I8 (λ x. scalars.I8 x) signed_in i64 (λ x is. refl) (λ x. refl) is_i8
-of_type types.Int = case type_of types.Int (λ x. scalars.Int x) signed_in i32 (λ x is. refl) (λ x. refl) is_int
-of_type types.Cy = case type_of types.Cy (λ x. scalars.Cy x) signed_in i64 (λ x is. refl) (λ x. refl) is_cy
-of_type types.Ui1 = case type_of types.Ui1 (λ x. scalars.Ui1 x) unsigned_in u8 (λ x is. refl) (λ x. refl) is_ui1
-of_type types.Ui2 = case type_of types.Ui2 (λ x. scalars.Ui2 x) unsigned_in u16 (λ x is. refl) (λ x. refl) is_ui2
-of_type types.Ui4 = case type_of types.Ui4 (λ x. scalars.Ui4 x) unsigned_in u32 (λ x is. refl) (λ x. refl) is_ui4
-of_type types.Ui8 = case type_of types.Ui8 (λ x. scalars.Ui8 x) unsigned_in u64 (λ x is. refl) (λ x. refl) is_ui8
-of_type types.Uint = case type_of types.Uint (λ x. scalars.Uint x) unsigned_in u32 (λ x is. refl) (λ x. refl) is_uint
+    case type_of types.Empty (λ u. scalars.Empty) (λ s. tt) nothing (λ u is. refl) (λ u. refl) (is_made types.Empty)
+of_type types.Null =
+    case type_of types.Null (λ u. scalars.Null) (λ s. tt) nothing (λ u is. refl) (λ u. refl) (is_made types.Null)
+of_type types.I1 = case type_of types.I1 scalars.I1 key_number i8 (λ x is. refl) (λ x. refl) (is_made types.I1)
+of_type types.I2 = case type_of types.I2 scalars.I2 key_number i16 (λ x is. refl) (λ x. refl) (is_made types.I2)
+of_type types.I4 = case type_of types.I4 scalars.I4 key_number i32 (λ x is. refl) (λ x. refl) (is_made types.I4)
+of_type types.I8 = case type_of types.I8 scalars.I8 key_number i64 (λ x is. refl) (λ x. refl) (is_made types.I8)
+of_type types.Int = case type_of types.Int scalars.Int key_number i32 (λ x is. refl) (λ x. refl) (is_made types.Int)
+of_type types.Cy = case type_of types.Cy scalars.Cy key_number i64 (λ x is. refl) (λ x. refl) (is_made types.Cy)
+of_type types.Ui1 = case type_of types.Ui1 scalars.Ui1 unsigned_in u8 (λ x is. refl) (λ x. refl) (is_made types.Ui1)
+of_type types.Ui2 = case type_of types.Ui2 scalars.Ui2 unsigned_in u16 (λ x is. refl) (λ x. refl) (is_made types.Ui2)
+of_type types.Ui4 = case type_of types.Ui4 scalars.Ui4 unsigned_in u32 (λ x is. refl) (λ x. refl) (is_made types.Ui4)
+of_type types.Ui8 = case type_of types.Ui8 scalars.Ui8 unsigned_in u64 (λ x is. refl) (λ x. refl) (is_made types.Ui8)
+of_type types.Uint =
+    case type_of types.Uint scalars.Uint unsigned_in u32 (λ x is. refl) (λ x. refl) (is_made types.Uint)
 of_type types.Error =
-    case type_of types.Error (λ x. scalars.Error x) unsigned_in u32 (λ x is. refl) (λ x. refl) is_error
-of_type types.Bool = case type_of types.Bool (λ x. scalars.Bool x) truth_in truth (λ x is. refl) (λ x. refl) is_bool
-of_type types.Bstr = case type_of types.Bstr (λ x. scalars.Bstr x) text_of text (λ x is. refl) (λ x. refl) is_bstr
+    case type_of types.Error scalars.Error unsigned_in u32 (λ x is. refl) (λ x. refl) (is_made types.Error)
+of_type types.Bool = case type_of types.Bool scalars.Bool truth_in truth (λ x is. refl) truth_again (is_made types.Bool)
+of_type types.Bstr = case type_of types.Bstr scalars.Bstr text_of text (λ x is. refl) (λ x. refl) (is_made types.Bstr)
 of_type types.Decimal =
-    case type_of types.Decimal (λ x. scalars.Decimal x) decimal_of decimal (λ x is. refl) (λ x. refl) is_decimal
+    case type_of types.Decimal scalars.Decimal decimal_of decimal (λ x is. refl) (λ x. refl) (is_made types.Decimal)
 of_type types.Variant = never
 
 pub type_agrees : (t : VarType) (s : Scalar) → (of_type t).Is s → type_of s ≡ t
 unfolding of_type case never
 type_agrees types.Variant s h = absurd h
-type_agrees types.Empty s h = h.0
-type_agrees types.Null s h = h.0
-type_agrees types.I1 s h = h.0
-type_agrees types.I2 s h = h.0
-type_agrees types.I4 s h = h.0
-type_agrees types.I8 s h = h.0
-type_agrees types.Int s h = h.0
-type_agrees types.Cy s h = h.0
-type_agrees types.Ui1 s h = h.0
-type_agrees types.Ui2 s h = h.0
-type_agrees types.Ui4 s h = h.0
-type_agrees types.Ui8 s h = h.0
-type_agrees types.Uint s h = h.0
-type_agrees types.Error s h = h.0
-type_agrees types.Bool s h = h.0
-type_agrees types.Bstr s h = h.0
-type_agrees types.Decimal s h = h.0
+type_agrees t s h = h.0
 
 unfoldable pub vt : Format VarType
 unfolding u16 made_where

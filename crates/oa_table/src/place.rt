@@ -2,10 +2,10 @@
 ghost use Rattle.std.specs.Prelude.{◌≡◌, ◌≤◌, length};
 ghost use Rattle.std.specs.Cmp.{partial_order_from_total, partial_equiv_from_equiv, eq_by_cmp_equiv};
 ghost use Rattle.std.specs.Cmp.Rules.{comparing};
-ghost use Rattle.std.specs.Ordering.{as_partial_cmp, eq_by_cmp};
+ghost use Rattle.std.specs.Ordering.{as_partial_cmp, eq_by_cmp, int_cmp, on, then_cmp};
 ghost use Rattle.std.proofs.Common.{rules};
 ghost use Rattle.oa_model.specs.Limits.{max_key_scalars};
-ghost use Rattle.oa_table.specs.Places.{IsPlace, place_cmp, places_total};
+ghost use Rattle.oa_table.specs.Places.{IsPlace, key_cmp, place_cmp, places_total};
 ghost use Rattle.oa_table.specs.Members.{dispid_in, key_in};
 
 use oa_variant::Scalar;
@@ -81,6 +81,19 @@ impl Member {
             Member::Many(_, key) => key.as_slice(),
         }
     }
+
+    /// By DISPID, then by arguments. Of two without any, as most are, no lists are compared.
+    fn order(&self, other: &Member) -> Ordering
+        ensures { result ≡ then_cmp (on dispid_in int_cmp) (on key_in key_cmp) self.now other.now }
+    {
+        if let Member::Bare(dispid) = self {
+            if let Member::Bare(other) = other {
+                return dispid.cmp(other);
+            }
+        }
+        let by_key = self.key().cmp(other.key());
+        self.dispid().cmp(&other.dispid()).then(by_key)
+    }
 }
 
 impl Place {
@@ -155,8 +168,7 @@ impl Ord for Place {
     ghost matches_eq = { Prim.search (comparing, rules) };
 
     fn cmp(&self, other: &Place) -> Ordering {
-        let by_key = self.key().cmp(other.key());
-        let by_member = self.dispid().cmp(&other.dispid()).then(by_key);
+        let by_member = self.member.order(&other.member);
         self.interface.cmp(&other.interface).then(by_member)
     }
 }

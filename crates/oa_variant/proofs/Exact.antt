@@ -1,5 +1,5 @@
 -- Scalars that stand at one place in the order of keys are the same.
-use Rattle.std.specs.Prelude.{◌≡◌, ℕ, ℤ, pos, negsuc, zero, suc, Bool, true, false, List, Option, Some, None, unsigned_abs}
+use Rattle.std.specs.Prelude.{◌≡◌, ℕ, ℤ, true, false, List, Option, Some, None}
 use Rattle.std.proofs.Common.{refl, sym, ap, ◌∙◌}
 use Rattle.std.proofs.lemmas.Bool.{true≢false}
 use Rattle.std.specs.Ordering.{nat_cmp, int_cmp, bool_cmp, ordering_then, is_lt, is_gt}
@@ -7,12 +7,11 @@ use Rattle.std.specs.declared.cmp.Ordering.{Ordering}
 use Rattle.std.specs.declared.cmp.Ordering.TheVariants.{Less, Equal, Greater}
 use Rattle.std.proofs.lemmas.Map.Lookups.{CmpEqualImpliesEq, exact_unsigned, exact_signed, exact_bytes}
 use Rattle.oa_model.specs.declared.var_type.VarType.{VarType}
-use Rattle.oa_model.specs.declared.var_type.VarType.TheVariants as types
 use Rattle.oa_model.specs.Types.{type_at}
 use Rattle.oa_bstr.specs.Text.{text_cmp}
 use Rattle.oa_variant.specs.Decimals.{DecimalValue, decimal_cmp}
 use Rattle.oa_variant.specs.Scalars.{text_of}
-use Rattle.oa_variant.specs.Keys.{key_number, decimal_of, key_type, scalar_cmp}
+use Rattle.oa_variant.specs.Keys.{key_number, decimal_of, scalar_of, scalar_again, key_type, scalar_cmp}
 use Rattle.oa_variant.specs.declared.scalar.Scalar.{Scalar}
 use Rattle.oa_variant.specs.declared.scalar.Scalar.TheVariants as scalars
 
@@ -42,51 +41,13 @@ exact_decimals c d e = let h = both_equal (bool_cmp c.negative d.negative) (orde
     λ i. record { negative = n i; scale = s i; magnitude = m i }
 
 -- a scalar from the parts that its place goes by
-abbrev truth : ℤ → Bool
-truth (pos zero) = false
-truth (pos (suc n)) = true
-truth (negsuc n) = true
-
 abbrev made : Option VarType → ℤ → Option (List ℕ) → DecimalValue → Scalar
 made None z t d = scalars.Empty
-made (Some types.Empty) z t d = scalars.Empty
-made (Some types.Variant) z t d = scalars.Empty
-made (Some types.Null) z t d = scalars.Null
-made (Some types.I1) z t d = scalars.I1 z
-made (Some types.I2) z t d = scalars.I2 z
-made (Some types.I4) z t d = scalars.I4 z
-made (Some types.I8) z t d = scalars.I8 z
-made (Some types.Int) z t d = scalars.Int z
-made (Some types.Ui1) z t d = scalars.Ui1 (unsigned_abs z)
-made (Some types.Ui2) z t d = scalars.Ui2 (unsigned_abs z)
-made (Some types.Ui4) z t d = scalars.Ui4 (unsigned_abs z)
-made (Some types.Ui8) z t d = scalars.Ui8 (unsigned_abs z)
-made (Some types.Uint) z t d = scalars.Uint (unsigned_abs z)
-made (Some types.Cy) z t d = scalars.Cy z
-made (Some types.Bool) z t d = scalars.Bool (truth z)
-made (Some types.Error) z t d = scalars.Error (unsigned_abs z)
-made (Some types.Bstr) z t d = scalars.Bstr t
-made (Some types.Decimal) z t d = scalars.Decimal d
+made (Some k) z t d = scalar_of k z t d
 
 made_back : (s : Scalar) → made (type_at (key_type s)) (key_number s) (text_of s) (decimal_of s) ≡ s
-made_back scalars.Empty = refl
-made_back scalars.Null = refl
-made_back (scalars.I1 z) = refl
-made_back (scalars.I2 z) = refl
-made_back (scalars.I4 z) = refl
-made_back (scalars.I8 z) = refl
-made_back (scalars.Int z) = refl
-made_back (scalars.Ui1 n) = refl
-made_back (scalars.Ui2 n) = refl
-made_back (scalars.Ui4 n) = refl
-made_back (scalars.Ui8 n) = refl
-made_back (scalars.Uint n) = refl
-made_back (scalars.Cy z) = refl
-made_back (scalars.Bool false) = refl
-made_back (scalars.Bool true) = refl
-made_back (scalars.Error n) = refl
-made_back (scalars.Bstr t) = refl
-made_back (scalars.Decimal d) = refl
+made_back (scalars.Bool b) = scalar_again (scalars.Bool b)
+made_back s = scalar_again s
 
 pub exact_scalars : CmpEqualImpliesEq scalar_cmp
 exact_scalars a b e = let h = both_equal (nat_cmp (key_type a) (key_type b)) (ordering_then (int_cmp (key_number a) (key_number b)) (ordering_then (text_cmp (text_of a) (text_of b)) (decimal_cmp (decimal_of a) (decimal_of b)))) e in

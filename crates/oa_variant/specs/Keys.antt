@@ -1,11 +1,14 @@
 -- The order of scalars as keys of cells (this project's choice): by the number of the type, then integers, CY and ERROR
 -- by value, false before true, DECIMAL by sign, scale and magnitude, the null text first and texts then by their bytes.
-use Rattle.std.specs.Prelude.{ℕ, ℤ, pos, true, false}
+use Rattle.std.specs.Prelude.{◌≡◌, ℕ, ℤ, zero, pos, unsigned_abs, Bool, true, false, List, Option}
+use Rattle.std.proofs.Common.{refl, subst}
 use Rattle.std.specs.Ordering.{nat_cmp, int_cmp, on, then_cmp}
 use Rattle.std.specs.Cmp.{IsTotalOrder}
 use Rattle.std.specs.declared.cmp.Ordering.{Ordering}
 use Rattle.std.proofs.lemmas.Cmp.{then_total, on_total, nat_cmp_total, int_cmp_total}
 use Rattle.oa_model.specs.Types.{vt_of}
+use Rattle.oa_model.specs.declared.var_type.VarType.{VarType}
+use Rattle.oa_model.specs.declared.var_type.VarType.TheVariants as types
 use Rattle.oa_bstr.specs.Text.{text_cmp, texts_total}
 use Rattle.oa_variant.specs.Decimals.{DecimalValue, zero_decimal, decimal_cmp, decimals_total}
 use Rattle.oa_variant.specs.Scalars.{type_of, text_of}
@@ -14,8 +17,6 @@ use Rattle.oa_variant.specs.declared.scalar.Scalar.TheVariants as scalars
 
 -- the number inside, 0 for false and 1 for true; 0 where there is none
 abbrev pub key_number : Scalar → ℤ
-key_number scalars.Empty = pos 0
-key_number scalars.Null = pos 0
 key_number (scalars.I1 z) = z
 key_number (scalars.I2 z) = z
 key_number (scalars.I4 z) = z
@@ -30,28 +31,53 @@ key_number (scalars.Cy z) = z
 key_number (scalars.Bool false) = pos 0
 key_number (scalars.Bool true) = pos 1
 key_number (scalars.Error n) = pos n
-key_number (scalars.Bstr t) = pos 0
-key_number (scalars.Decimal d) = pos 0
+key_number s = pos 0
+
+-- the same without its sign, and as a truth value
+abbrev pub unsigned_in : Scalar → ℕ
+unsigned_in s = unsigned_abs (key_number s)
+
+abbrev pub not_zero : ℤ → Bool
+not_zero (pos zero) = false
+not_zero z = true
+
+abbrev pub truth_in : Scalar → Bool
+truth_in s = not_zero (key_number s)
 
 -- the DECIMAL inside; zero where there is none
 abbrev pub decimal_of : Scalar → DecimalValue
-decimal_of scalars.Empty = zero_decimal
-decimal_of scalars.Null = zero_decimal
-decimal_of (scalars.I1 z) = zero_decimal
-decimal_of (scalars.I2 z) = zero_decimal
-decimal_of (scalars.I4 z) = zero_decimal
-decimal_of (scalars.I8 z) = zero_decimal
-decimal_of (scalars.Int z) = zero_decimal
-decimal_of (scalars.Ui1 n) = zero_decimal
-decimal_of (scalars.Ui2 n) = zero_decimal
-decimal_of (scalars.Ui4 n) = zero_decimal
-decimal_of (scalars.Ui8 n) = zero_decimal
-decimal_of (scalars.Uint n) = zero_decimal
-decimal_of (scalars.Cy z) = zero_decimal
-decimal_of (scalars.Bool b) = zero_decimal
-decimal_of (scalars.Error n) = zero_decimal
-decimal_of (scalars.Bstr t) = zero_decimal
 decimal_of (scalars.Decimal d) = d
+decimal_of s = zero_decimal
+
+-- the other way round: the scalar of a type with a number, a text and a DECIMAL inside; EMPTY of VARIANT
+abbrev pub scalar_of : VarType → ℤ → Option (List ℕ) → DecimalValue → Scalar
+scalar_of types.Null z t d = scalars.Null
+scalar_of types.I1 z t d = scalars.I1 z
+scalar_of types.I2 z t d = scalars.I2 z
+scalar_of types.I4 z t d = scalars.I4 z
+scalar_of types.I8 z t d = scalars.I8 z
+scalar_of types.Int z t d = scalars.Int z
+scalar_of types.Ui1 z t d = scalars.Ui1 (unsigned_abs z)
+scalar_of types.Ui2 z t d = scalars.Ui2 (unsigned_abs z)
+scalar_of types.Ui4 z t d = scalars.Ui4 (unsigned_abs z)
+scalar_of types.Ui8 z t d = scalars.Ui8 (unsigned_abs z)
+scalar_of types.Uint z t d = scalars.Uint (unsigned_abs z)
+scalar_of types.Cy z t d = scalars.Cy z
+scalar_of types.Bool z t d = scalars.Bool (not_zero z)
+scalar_of types.Error z t d = scalars.Error (unsigned_abs z)
+scalar_of types.Bstr z t d = scalars.Bstr t
+scalar_of types.Decimal z t d = scalars.Decimal d
+scalar_of k z t d = scalars.Empty
+
+pub scalar_again : (s : Scalar) → scalar_of (type_of s) (key_number s) (text_of s) (decimal_of s) ≡ s
+scalar_again (scalars.Bool false) = refl
+scalar_again (scalars.Bool true) = refl
+scalar_again s = refl
+
+pub is_made : (t : VarType) (s : Scalar) → type_of s ≡ t
+    → scalar_of t (key_number s) (text_of s) (decimal_of s) ≡ s
+is_made t s e =
+    subst (λ (k : VarType). scalar_of k (key_number s) (text_of s) (decimal_of s) ≡ s) e (scalar_again s)
 
 abbrev pub key_type : Scalar → ℕ
 key_type s = vt_of (type_of s)

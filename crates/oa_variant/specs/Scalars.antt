@@ -35,23 +35,8 @@ type_of (scalars.Decimal d) = types.Decimal
 
 -- the text inside; nothing in a scalar of another type, and in the null BSTR
 abbrev pub text_of : Scalar → Option (List ℕ)
-text_of scalars.Empty = None
-text_of scalars.Null = None
-text_of (scalars.I1 z) = None
-text_of (scalars.I2 z) = None
-text_of (scalars.I4 z) = None
-text_of (scalars.I8 z) = None
-text_of (scalars.Int z) = None
-text_of (scalars.Ui1 n) = None
-text_of (scalars.Ui2 n) = None
-text_of (scalars.Ui4 n) = None
-text_of (scalars.Ui8 n) = None
-text_of (scalars.Uint n) = None
-text_of (scalars.Cy z) = None
-text_of (scalars.Bool b) = None
-text_of (scalars.Error n) = None
 text_of (scalars.Bstr t) = t
-text_of (scalars.Decimal d) = None
+text_of s = None
 
 -- a cell of a type holds values of that type; one of VARIANT holds any scalar
 abbrev pub FitsType : Scalar → VarType → Type 0
@@ -87,24 +72,8 @@ zero_of types.Variant = scalars.Empty
 
 -- the zero of a type fits a cell of that type
 pub zero_fits : (t : VarType) → FitsType (zero_of t) t
-zero_fits types.Empty = inr refl
-zero_fits types.Null = inr refl
-zero_fits types.I1 = inr refl
-zero_fits types.I2 = inr refl
-zero_fits types.I4 = inr refl
-zero_fits types.I8 = inr refl
-zero_fits types.Int = inr refl
-zero_fits types.Ui1 = inr refl
-zero_fits types.Ui2 = inr refl
-zero_fits types.Ui4 = inr refl
-zero_fits types.Ui8 = inr refl
-zero_fits types.Uint = inr refl
-zero_fits types.Cy = inr refl
-zero_fits types.Bool = inr refl
-zero_fits types.Error = inr refl
-zero_fits types.Bstr = inr refl
-zero_fits types.Decimal = inr refl
 zero_fits types.Variant = inl refl
+zero_fits t = inr refl
 
 -- what a scalar may be (MS-OAUT sections 2.2.7, 2.2.24 and 2.2.26; the length of texts is this project's choice)
 abbrev pub IsScalar : Scalar → Type 0

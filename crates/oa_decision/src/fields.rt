@@ -32,7 +32,7 @@ impl Fields {
     }
 
     /// No fields. Takes no memory.
-    pub(crate) fn none(alloc: Global) -> Fields
+    pub fn none(alloc: Global) -> Fields
         ensures { result ≡ [] }
     {
         Fields {

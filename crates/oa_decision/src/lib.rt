@@ -20,6 +20,6 @@ pub use decider::Decider;
 pub use decider::cell::BoundCell;
 pub use decision::{Decision, LockChange, Undecided};
 pub use fields::Fields;
-pub use limits::{disallowed, is_surely_within};
-pub use plan::{Plan, Planned};
+pub use limits::{disallowed, is_surely_within, most_of};
+pub use plan::{Plan, Planned, ValuePlan, ValuePut};
 pub use refusal::Refusal;

@@ -13,8 +13,8 @@ use oa_model::{HResult, MAX_EVENT_BYTES};
 use oa_table::{Event, Table};
 
 /// How many bytes a table's image has at most where the body of a bank has so many.
-fn most_of(bank: u32) -> u64
-    ensures { result ≡ bank - reserved_bytes }
+pub fn most_of(bank: u32) -> u64
+    ensures value { result ≡ bank - reserved_bytes }
 {
     u64::from(bank.saturating_sub(RESERVED_BYTES))
 }

@@ -28,4 +28,4 @@ pub use live::LiveObject;
 pub use name::CellName;
 pub use object::Object;
 pub use place::Place;
-pub use table::Table;
+pub use table::{LARGEST_IMAGE, Table};

@@ -7,12 +7,12 @@ ghost use Rattle.oa_table.specs.Elements.{with_element_put, locked_value, redime
 ghost use Rattle.oa_table.specs.Objects.{any_locked, locks_of_cell, with_change, with_put};
 ghost use Rattle.oa_table.specs.Outcomes.{CountsLocks, Does};
 ghost use Rattle.oa_table.specs.Places.{place_cmp};
-ghost use Rattle.oa_table.specs.Sizes.{largest_cell, largest_object, object_size, size_due};
+ghost use Rattle.oa_table.specs.Sizes.{largest_cell, largest_object, object_size, size_due, value_size};
 ghost use Rattle.oa_table.specs.Tables.{cell_at};
 
 use crate::difference::{Difference, element_difference, no_difference, redim_difference};
 use crate::size::{place_size, value_size};
-use crate::value::{lock, locks_of, put_element, redim, replace, unlock};
+use crate::value::{Room, lock, locks_of, put_element, redim, replace, replace_within, unlock};
 use crate::{Place, TableFault};
 use oa_model::Bound;
 use oa_ordered::{Iter, OrderedMap};
@@ -181,22 +181,26 @@ impl LiveObject {
         replace(old, value).map_err(|(value, fault)| ((place, value), fault))
     }
 
-    /// Sets a cell that was put before, unless its array is locked, and answers the same. Else hands the value back, and nothing changes.
-    pub(crate) fn put_again(&mut self, place: &Place, value: Variant) -> Result<Difference, Variant>
+    /// Sets a cell that was put before to a value for which there is room, unless its array is locked, and answers the same. Else hands the
+    /// value back, and nothing changes.
+    pub(crate) fn put_again(
+        &mut self,
+        place: &Place,
+        value: Variant,
+        room: Room,
+    ) -> Result<Difference, Variant>
         ensures done { OnOk result (with_put place.now value self.old ≡ Ok self.new) }
         ensures size { IfOk result (λ change. object_size self.new + change.gone ≡ object_size self.old + change.come) }
         ensures small { IfOk result (λ change. change.come ≤ largest_cell) }
+        ensures within { IfOk result (λ change. change.come ≤ change.gone + room.growth) }
+        ensures longest { OnOk result (value_size value ≤ room.longest) }
         ensures back { IfErr result (λ back. (back ≡ value) × (self.new ≡ self.old)) }
     {
         self.places_rise();
         let Some(old) = self.cells.get_mut(place) else {
             return Err(value);
         };
-        let change = match replace(old, value) {
-            Ok(change) => change,
-            Err((value, _fault)) => return Err(value),
-        };
-        Ok(change)
+        replace_within(old, value, room)
     }
 
     /// Sets a cell that was never put.

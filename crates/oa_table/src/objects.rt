@@ -9,11 +9,12 @@ ghost use Rattle.oa_table.specs.Locks.{locked_in, locks_at, with_lock, without_l
 ghost use Rattle.oa_table.specs.Memory.{MayWantMemory};
 ghost use Rattle.oa_table.specs.Outcomes.{CountsLocks, Does};
 ghost use Rattle.oa_table.specs.Parts.{table_of};
-ghost use Rattle.oa_table.specs.Sizes.{largest_cell, table_size};
+ghost use Rattle.oa_table.specs.Sizes.{largest_cell, table_size, value_size};
 ghost use Rattle.oa_table.specs.Tables.{first_table, object_at};
 
 use crate::difference::Difference;
 use crate::parts::ordered_objects;
+use crate::value::Room;
 use crate::{CellName, Event, LiveObject, Object, TableFault};
 use oa_array::{ArrayFault, Indices};
 use oa_model::{Bound, GREATEST_OBJECT_NUMBER};
@@ -219,22 +220,26 @@ impl Objects {
         Ok(change)
     }
 
-    /// Sets a cell that was put before, unless its array is locked, and answers the same. Else hands the value back, and nothing changes.
+    /// Sets a cell that was put before to a value for which there is room, unless its array is locked, and answers the same. Else hands the
+    /// value back, and nothing changes.
     #[inline(always)]
     pub(crate) fn put_again(
         &mut self,
         name: &CellName,
         value: Variant,
+        room: Room,
     ) -> Result<Difference, Variant>
         ensures done { OnOk result (applied (Event.Put name.now value) self.old ≡ Ok self.new) }
         ensures size { IfOk result (λ change. table_size self.new + change.gone ≡ table_size self.old + change.come) }
         ensures small { IfOk result (λ change. change.come ≤ largest_cell) }
+        ensures within { IfOk result (λ change. change.come ≤ change.gone + room.growth) }
+        ensures longest { OnOk result (value_size value ≤ room.longest) }
         ensures back { IfErr result (λ back. (back ≡ value) × (self.new ≡ self.old)) }
     {
         let Some(found) = self.objects.get_mut_near(&name.object, near(name.object)) else {
             return Err(value);
         };
-        found.put_again(&name.place, value)
+        found.put_again(&name.place, value, room)
     }
 
     fn put_element(

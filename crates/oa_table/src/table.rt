@@ -1,5 +1,5 @@
 //! The table of objects.
-ghost use Rattle.std.specs.Prelude.{◌≡◌, ◌<◌, ◌≤◌, ℕ, List, length, IfOk, IfErr, MatchOption};
+ghost use Rattle.std.specs.Prelude.{◌≡◌, ◌<◌, ◌≤◌, ℕ, List, length, Ok, IfOk, IfErr, OnOk, MatchOption};
 ghost use Rattle.std.specs.List.Sorted.{IsStrictlySortedBy};
 ghost use Rattle.std.specs.Map.{keys_of};
 ghost use Rattle.std.specs.Option.{option_map};
@@ -11,12 +11,13 @@ ghost use Rattle.oa_table.specs.Memory.{MayWantMemory};
 ghost use Rattle.oa_table.specs.Outcomes.{CountsLocks, Does};
 ghost use Rattle.oa_table.specs.Parts.{AreParts, table_of};
 ghost use Rattle.oa_table.specs.Sizes as sizes;
-ghost use Rattle.oa_table.specs.Sizes.{largest_image, size_in, table_size};
+ghost use Rattle.oa_table.specs.Sizes.{largest_image, size_in, table_size, value_size};
 ghost use Rattle.oa_table.specs.Tables.{cell_in, class_in, first_table, object_at};
 
 use crate::difference::Difference;
 use crate::objects::Objects;
 use crate::size::{place_size, value_size};
+use crate::value::Room;
 use crate::{CellName, Event, LiveObject, Object, TableFault};
 use oa_array::Indices;
 use oa_model::{Bound, GREATEST_OBJECT_NUMBER, MAX_CELLS, MAX_DIMENSIONS, MAX_TEXT_BYTES};
@@ -26,8 +27,8 @@ use std::alloc::{AllocError, Global};
 use std::marker::Model;
 use uuid::Uuid;
 
-/// The greatest size of an image whose table fits in memory. A change to more than that finds none.
-const LARGEST_IMAGE: u64 = 0x7FFF_FFFF_FFFF_FFFF;
+/// The greatest size of an image in bytes whose table fits in memory. A change to more than that finds none.
+pub const LARGEST_IMAGE: u64 = 0x7FFF_FFFF_FFFF_FFFF;
 
 /// The most bytes that a cell has in an image: its place, and its value, an array of the most bounds and of the longest texts.
 const LARGEST_CELL: u64 = 2
@@ -283,17 +284,14 @@ impl Table {
         ensures does { let event = Event.Put name value in Does event (applied event self.old) self.old self.new result }
         ensures starved { IfErr result (λ e. e.1 ≡ TableFault.Memory → MayWantMemory (Event.Put name value) self.old) }
     {
+        // Most puts are over a value that is there: these have no event to hand back.
+        let value = match self.put_again(&name, value, u64::MAX, LARGEST_IMAGE) {
+            Ok(()) => return Ok(()),
+            Err(value) => value,
+        };
         if self.size > ROOM_FOR_ANY_PUT {
             return self.change(Event::Put { name, value });
         }
-        // Most puts are over a value that is there: these have no event to hand back.
-        let value = match self.objects.put_again(&name, value) {
-            Ok(Difference { gone, come }) => {
-                self.size = self.size + come - gone;
-                return Ok(());
-            }
-            Err(value) => value,
-        };
         // A match: `?` would move the whole answer, which has room for a refused event, on each put.
         match self.objects.put(name, value) {
             Ok(change) => {
@@ -301,6 +299,37 @@ impl Table {
                 Ok(())
             }
             Err(refused) => Err(refused),
+        }
+    }
+
+    /// `apply` of the event that sets a cell, where it was put before, the value has at most `longest` bytes in an image, and the image then
+    /// has at most `most`. Else, and where the array in the cell is locked, the value is handed back, and nothing changes. Takes no memory.
+    pub fn put_again(
+        &mut self,
+        name: &CellName,
+        value: Variant,
+        longest: u64,
+        most: u64,
+    ) -> Result<(), Variant>
+        requires { most ≤ largest_image }
+        ensures done { OnOk result (applied (Event.Put name.now value) self.old ≡ Ok self.new) }
+        ensures longest { OnOk result (value_size value ≤ longest) }
+        ensures most { OnOk result (table_size self.new ≤ most) }
+        ensures back { IfErr result (λ back. (back ≡ value) × (self.new ≡ self.old)) }
+    {
+        if self.size > most {
+            return Err(value);
+        }
+        let room = Room {
+            longest,
+            growth: most - self.size,
+        };
+        match self.objects.put_again(name, value, room) {
+            Ok(Difference { gone, come }) => {
+                self.size = self.size + come - gone;
+                Ok(())
+            }
+            Err(value) => Err(value),
         }
     }
 

@@ -1,5 +1,5 @@
 //! Changes of the value in a cell.
-ghost use Rattle.std.specs.Prelude.{◌≡◌, ◌≤◌, IfOk, IfErr};
+ghost use Rattle.std.specs.Prelude.{◌≡◌, ◌≤◌, ◌+◌, Ok, IfOk, IfErr, OnOk};
 ghost use Rattle.oa_variant.specs.declared.variant.Variant.TheVariants as variants;
 ghost use Rattle.oa_table.specs.Elements.{with_element_put, locked_value, locks_of, of_array, redimensioned_value, released_value};
 ghost use Rattle.oa_table.specs.Elements.{replaced_value};
@@ -40,6 +40,37 @@ pub(crate) fn replace(
     }
     let gone = value_size(old);
     let come = value_size(&value);
+    *old = value;
+    Ok(Difference { gone, come })
+}
+
+/// How far a value may be replaced: how many bytes the new one has in an image at most, and by how many the image may grow.
+#[derive(Clone, Copy)]
+pub(crate) struct Room {
+    pub longest: u64,
+    pub growth: u64,
+}
+
+/// Replaces a value by one for which there is room, unless its array is locked, and answers the same. Else hands the new value back.
+pub(crate) fn replace_within(
+    old: &mut Variant,
+    value: Variant,
+    room: Room,
+) -> Result<Difference, Variant>
+    ensures done { OnOk result (replaced_value value old.old ≡ Ok old.new) }
+    ensures set { OnOk result (old.new ≡ value) }
+    ensures gone { IfOk result (λ change. change.gone ≡ value_size old.old) }
+    ensures come { IfOk result (λ change. change.come ≡ value_size value) }
+    ensures small { IfOk result (λ change. change.come ≤ largest_value) }
+    ensures longest { IfOk result (λ change. change.come ≤ room.longest) }
+    ensures within { IfOk result (λ change. change.come ≤ change.gone + room.growth) }
+    ensures back { IfErr result (λ back. (back ≡ value) × (old.new ≡ old.old)) }
+{
+    let gone = value_size(old);
+    let come = value_size(&value);
+    if locks_of(old) > 0 || come > room.longest || come > gone.saturating_add(room.growth) {
+        return Err(value);
+    }
     *old = value;
     Ok(Difference { gone, come })
 }

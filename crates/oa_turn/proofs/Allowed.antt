@@ -106,6 +106,15 @@ allowed_sound bank event old new sound is = stays_sound bank event old new sound
 pub within_allowed : (bank : ℕ) (event : Event) (old new : TableValue) → applied event old ≡ Ok new → within_limits bank event new ≡ Ok new → allowed bank event old ≡ Ok new
 within_allowed bank event old new at is = rw at is
 
+-- a put into a cell without a key, of a value that has so few bytes, is within them where the table has so few
+pub again_allowed : (bank : ℕ) (name : CellName) (value : Variant) (old new : TableValue) → name.place.key ≡ [] → applied (Put name value) old ≡ Ok new
+    → value_size value ≤ 4194277 → table_size new ≤ bank - reserved_bytes → allowed bank (Put name value) old ≡ Ok new
+unfolding event_size place_size
+again_allowed bank name value old new keyless at short small =
+    let place : place_size name.place ≡ 22 = rw keyless refl in
+    let event : event_size (Put name value) ≤ max_event_bytes = omega (arith, short, place) in
+    within_allowed bank (Put name value) old new at (rw (le-ltb max_event_bytes (event_size (Put name value)) event, le-ltb (bank - reserved_bytes) (table_size new) small) refl)
+
 -- a change that is allowed, where each refusal was made the code of want of memory
 pub changed : {E : Type 0} (bank : ℕ) (event : Event) (old new : TableValue) (P : E → HResult → Type 0) (from : Result (Unit {0}) E) (to : Result (Unit {0}) HResult)
     → IsOk (allowed bank event old) → MakesTable event old new from → MatchResult from (λ u. to ≡ Ok u) (λ e. IsErrAnd to (P e))

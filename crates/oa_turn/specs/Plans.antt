@@ -3,7 +3,8 @@ use Rattle.std.specs.Prelude.{◌≡◌, List, [], ℕ, None, Ok, Err, IsOk, ⊤
 use Rattle.oa_model.specs.Codes.{e_outofmemory}
 use Rattle.oa_model.specs.declared.hresult.HResult.{HResult}
 use Rattle.oa_record.specs.declared.request.Request.{Request}
-use Rattle.oa_record.specs.declared.request.Request.TheVariants.{Release}
+use Rattle.oa_record.specs.declared.request.Call.{Call}
+use Rattle.oa_record.specs.declared.request.Request.TheVariants.{Invoke, Release}
 use Rattle.oa_record.specs.Replies.{ReplyValue}
 use Rattle.oa_record.specs.Asks.{Asks, tag_at}
 use Rattle.oa_table.specs.declared.event.Event.{Event}
@@ -13,11 +14,22 @@ use Rattle.oa_decision.specs.declared.decision.Decision.TheVariants as decisions
 use Rattle.oa_decision.specs.declared.plan.Plan.{Plan}
 use Rattle.oa_decision.specs.declared.plan.Plan.TheVariants.{Answered, Change}
 use Rattle.oa_decision.specs.declared.plan.Planned.{Planned}
+use Rattle.oa_decision.specs.declared.plan.ValuePlan.{ValuePlan}
+use Rattle.oa_decision.specs.declared.plan.ValuePut.{ValuePut}
 use Rattle.oa_decision.specs.Limits.{allowed}
+use Rattle.oa_decision.specs.ValuePlans.{PlansValue, put_event}
 use Rattle.oa_turn.specs.Events.{HasEvent}
 use Rattle.oa_decision.specs.States.{State}
 use Rattle.oa_decision.specs.Decided.{decided, refusal}
 use Rattle.oa_turn.specs.Turns.{Ordinary}
+
+-- the body asks a call, of which this is planned
+abbrev pub PlansCall : State → List ℕ → ValuePlan → Type 0
+PlansCall state body plan = (call : Call) × Asks body (Invoke call) × PlansValue state (tag_at body) (Invoke call) plan
+
+-- a put of a value as a change that is told without fields
+abbrev pub put_planned : ℕ → ValuePut → Planned
+put_planned tag put = record { tag = tag; event = put_event put; fields = [] }
 
 -- the body asks a request of which this change is decided
 pub record IsDrafted (state : State) (body : List ℕ) (planned : Planned) : Type 0 where

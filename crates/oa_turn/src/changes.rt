@@ -1,5 +1,5 @@
 //! The ways in which a table changes.
-ghost use Rattle.std.specs.Prelude.{◌≡◌, ℕ, IfErr, IsOk, OnErr};
+ghost use Rattle.std.specs.Prelude.{◌≡◌, [], ℕ, Ok, IfErr, IsOk, OnErr, OnOk};
 ghost use Rattle.oa_model.specs.Codes.{e_outofmemory};
 ghost use Rattle.oa_turn.specs.Changes.{ChangesTable, MakesTable, RelocksTable};
 ghost use Rattle.oa_turn.specs.Limits.{IsSoundTable};
@@ -8,17 +8,36 @@ ghost use Rattle.oa_turn.specs.Steps.{relocked};
 ghost use Rattle.oa_decision.specs.Limits.{StaysWithin, allowed};
 ghost use Rattle.oa_decision.specs.declared.decision.LockChange.TheVariants.{Lock as ALock, Unlock as AnUnlock};
 ghost use Rattle.oa_table.specs.Events.{BringsNoLocks};
-ghost use Rattle.oa_table.specs.declared.event.Event.TheVariants.{Release as ARelease};
+ghost use Rattle.oa_table.specs.declared.event.Event.TheVariants.{Put as APut, Release as ARelease};
 ghost use Rattle.oa_table.specs.Memory.{MayWantMemory};
 ghost use Rattle.oa_table.specs.Tables.{unlocked_table};
 
-use oa_decision::{LockChange, disallowed, is_surely_within};
-use oa_model::HResult;
-use oa_table::{CellName, Event, Table, TableFault};
+use oa_decision::{LockChange, disallowed, is_surely_within, most_of};
+use oa_model::{HResult, MAX_EVENT_BYTES};
+use oa_table::{CellName, Event, LARGEST_IMAGE, Table, TableFault};
+use oa_variant::Variant;
 use std::alloc::AllocError;
 
-/// Makes a change that is allowed. Err only where memory is refused; then nothing changes.
+/// Makes a change that is allowed. Err only where memory is refused; then nothing changes. Most are puts over a value that is there, which
+/// have no event to hand back.
 pub(crate) fn apply(table: &mut Table, event: Event) -> Result<(), AllocError>
+    requires unlocked { BringsNoLocks event }
+    ensures change { MakesTable event table.old table.new result }
+    ensures starved { (bank : ℕ) → IsOk (allowed bank event table.old) → OnErr result (MayWantMemory event table.old) }
+    ensures sound { (bank : ℕ) → IsOk (allowed bank event table.old) → IsSoundTable bank table.old → IsSoundTable bank table.new }
+{
+    match event {
+        Event::Put { name, value } => match table.put_again(&name, value, u64::MAX, LARGEST_IMAGE) {
+            Ok(()) => Ok(()),
+            Err(value) => apply_any(table, Event::Put { name, value }),
+        },
+        event => apply_any(table, event),
+    }
+}
+
+/// The same of any change.
+#[inline(never)]
+fn apply_any(table: &mut Table, event: Event) -> Result<(), AllocError>
     requires unlocked { BringsNoLocks event }
     ensures change { MakesTable event table.old table.new result }
     ensures starved { (bank : ℕ) → IsOk (allowed bank event table.old) → OnErr result (MayWantMemory event table.old) }
@@ -46,6 +65,24 @@ pub(crate) fn change(bank: u32, table: &mut Table, event: Event) -> Result<(), H
         return Err(code);
     }
     apply(table, event).map_err(|_| HResult::E_OUTOFMEMORY)
+}
+
+/// The most bytes of a value whose put into a cell without a key has no more than an event may have.
+const LONGEST_VALUE: u64 = MAX_EVENT_BYTES as u64 - 27;
+
+/// Sets a cell without a key that was put before, where that is within the limits. Else hands the value back, and nothing changes.
+pub(crate) fn put_again(
+    bank: u32,
+    table: &mut Table,
+    name: &CellName,
+    value: Variant,
+) -> Result<(), Variant>
+    requires keyless { name.now.place.key ≡ [] }
+    ensures change { OnOk result (allowed bank (APut name.now value) table.old ≡ Ok table.new) }
+    ensures back { IfErr result (λ back. (back ≡ value) × (table.new ≡ table.old)) }
+    ensures sound { IsSoundTable bank table.old → IsSoundTable bank table.new }
+{
+    table.put_again(name, value, LONGEST_VALUE, most_of(bank))
 }
 
 /// The same of one that is within the limits, where it applies.

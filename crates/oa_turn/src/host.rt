@@ -1,11 +1,12 @@
 //! A library and a table in memory, and one turn after another.
-ghost use Rattle.std.specs.Prelude.{◌≡◌, ◌≤◌, List, ℕ, [], map, IsOk, IfOk, OnErr};
+ghost use Rattle.std.specs.Prelude.{◌≡◌, ◌≤◌, List, ℕ, [], map, IsOk, IfOk, IfSome, OnErr};
 ghost use Rattle.oa_decision.specs.Decisions.{ChangesNoLocks, Decides};
 ghost use Rattle.oa_turn.specs.Changes.{MakesChange};
 ghost use Rattle.oa_turn.specs.Steps.{after_outcome, relocked, relocking};
 ghost use Rattle.oa_turn.specs.Limits.{IsSoundTable, least_bank};
 ghost use Rattle.oa_decision.specs.Limits.{allowed};
-ghost use Rattle.oa_turn.specs.Plans.{Drafts, HasNoEvent, HoldsSame, IsDrafted, Plans, PlansChange};
+ghost use Rattle.oa_decision.specs.ValuePlans.{put_event};
+ghost use Rattle.oa_turn.specs.Plans.{Drafts, HasNoEvent, HoldsSame, IsDrafted, Plans, PlansCall, PlansChange, put_planned};
 ghost use Rattle.oa_turn.specs.Plans.{PlansWithoutMemory, ReleasesWithoutMemory};
 ghost use Rattle.oa_model.specs.Codes.{e_outofmemory};
 ghost use Rattle.oa_decision.specs.Decided.{DecidingTakesMemory, decided};
@@ -16,14 +17,15 @@ ghost use Rattle.oa_table.specs.declared.event.Event.TheVariants.{Release as ARe
 ghost use Rattle.oa_table.specs.Memory.{MayWantMemory};
 ghost use Rattle.oa_table.specs.Tables.{first_table};
 
-use crate::changes::{apply, change, change_locks};
+use crate::changes::{apply, change, change_locks, put_again};
 use oa_decision::{
-    Decider, Decision, Fields, LockChange, Plan, Planned, Refusal, Undecided, disallowed,
+    Decider, Decision, Fields, LockChange, Plan, Planned, Refusal, Undecided, ValuePlan, ValuePut,
+    disallowed,
 };
 use oa_model::HResult;
 use oa_record::laws::{one_request, opcode_stands};
 use oa_record::{Reply, Request, ValueCall, is_replacement, read_request, read_value_call, tag_of};
-use oa_table::{Event, Table};
+use oa_table::{CellName, Event, Place, Table};
 use oa_typelib::Library;
 use std::alloc::{AllocError, Global};
 use std::marker::Model;
@@ -103,8 +105,55 @@ impl Host {
         self.ordinary_turn(body)
     }
 
-    /// One turn of a body with another opcode than 12.
+    /// One turn of a body with another opcode than 12. A call that brings no more than a new value is looked at first, since most are such
+    /// calls.
     fn ordinary_turn(&mut self, body: &[u8]) -> Reply
+        ensures turn { Ordinary self.old body.now result self.new }
+        ensures released { ReleasesWithoutMemory body.now result }
+    {
+        one_request();
+        match self.value_plan(body) {
+            Some(ValuePlan::Answered(reply)) => reply,
+            Some(ValuePlan::Put(put)) => self.put_value(tag_of(body), put),
+            None => self.other_turn(body),
+        }
+    }
+
+    /// What is left of the turn of a call that brings no more than a new value. None, of which nothing is said, of any other body.
+    fn value_plan(&self, body: &[u8]) -> Option<ValuePlan>
+        ensures { IfSome result (PlansCall self.now body.now) }
+    {
+        let ValueCall { head, value } = read_value_call(self.alloc, body)?;
+        self.decider().plan_value(tag_of(body), &head, value)
+    }
+
+    /// Sets a cell, and tells it, or why it is refused. Most puts are over a value that is there, and far from the limits: no event is made
+    /// of these.
+    fn put_value(&mut self, tag: u32, put: ValuePut) -> Reply
+        requires { BringsNoLocks (put_event put) }
+        ensures turn { (body : List ℕ) → IsDrafted self.old body (put_planned tag put) → Ordinary self.old body result self.new }
+    {
+        let ValuePut {
+            object,
+            interface,
+            dispid,
+            value,
+        } = put;
+        let place = Place::new(interface, dispid, Vec::new(self.alloc));
+        let name = CellName { object, place };
+        match put_again(self.bank, &mut self.table, &name, value) {
+            Ok(()) => Reply::bare(self.alloc, tag, HResult::S_OK, None),
+            Err(value) => self.make(Planned {
+                tag,
+                event: Event::Put { name, value },
+                fields: Fields::none(self.alloc),
+            }),
+        }
+    }
+
+    /// One turn of a body with another opcode than 12, as of any request.
+    #[inline(never)]
+    fn other_turn(&mut self, body: &[u8]) -> Reply
         ensures turn { Ordinary self.old body.now result self.new }
         ensures released { ReleasesWithoutMemory body.now result }
     {
@@ -122,31 +171,32 @@ impl Host {
         ensures released { PlansWithoutMemory body.now result }
     {
         one_request();
+        match self.value_plan(body) {
+            Some(ValuePlan::Answered(reply)) => Plan::Answered(reply),
+            Some(ValuePlan::Put(put)) => {
+                let event = put.into_event(self.alloc);
+                self.plan_change(tag_of(body), event, Fields::none(self.alloc))
+            }
+            None => self.plan_other(body),
+        }
+    }
+
+    /// The same, as of any request.
+    #[inline(never)]
+    fn plan_other(&mut self, body: &[u8]) -> Plan
+        ensures plans { Plans self.old body.now self.new result }
+        ensures quiet { HasNoEvent self.old body.now result }
+        ensures released { PlansWithoutMemory body.now result }
+    {
+        one_request();
         match self.draft(body) {
             Plan::Answered(reply) => Plan::Answered(reply),
             Plan::Change(Planned { tag, event, fields }) => self.plan_change(tag, event, fields),
         }
     }
 
-    /// The same, but a change that was decided may still be refused. A call that brings no more than a new value is looked at first, since
-    /// most are such calls.
-    #[tactic(auto, using(crate::proofs::Bringing::drafts, crate::proofs::Bringing::quiet, crate::proofs::Bringing::released))]
+    /// What becomes of any request; a change that was decided may still be refused.
     fn draft(&mut self, body: &[u8]) -> Plan
-        ensures drafts { Drafts self.old body.now self.new result }
-        ensures quiet { HasNoEvent self.old body.now result }
-        ensures released { PlansWithoutMemory body.now result }
-    {
-        one_request();
-        if let Some(ValueCall { head, value }) = read_value_call(self.alloc, body)
-            && let Some(plan) = self.decider().plan_value(tag_of(body), head, value)
-        {
-            return plan;
-        }
-        self.draft_request(body)
-    }
-
-    /// The same of any request.
-    fn draft_request(&mut self, body: &[u8]) -> Plan
         ensures drafts { Drafts self.old body.now self.new result }
         ensures quiet { HasNoEvent self.old body.now result }
         ensures released { PlansWithoutMemory body.now result }
@@ -187,6 +237,7 @@ impl Host {
     }
 
     /// Makes a change in memory, and tells it, or why it is refused.
+    #[inline(never)]
     fn make(&mut self, planned: Planned) -> Reply
         requires { BringsNoLocks planned.event }
         ensures turn { (body : List ℕ) → IsDrafted self.old body planned → Ordinary self.old body result self.new }

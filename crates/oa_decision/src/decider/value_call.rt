@@ -1,22 +1,20 @@
 //! An INVOKE that brings no more than a put's new value, of a property without parameters.
 ghost use Rattle.std.specs.Prelude.{◌≡◌, IfSome, Some};
 ghost use Rattle.oa_checks.specs.Declarations.{kind_of_property};
-ghost use Rattle.oa_coerce.specs.Answers.{coerced};
 ghost use Rattle.oa_record.specs.ValueCalls.{bringing};
 ghost use Rattle.oa_record.specs.declared.request.Request.TheVariants.{Invoke};
 ghost use Rattle.oa_table.specs.Tables.{object_at};
 ghost use Rattle.oa_decision.specs.Cells.{IsKeyless};
-ghost use Rattle.oa_decision.specs.ValuePlans.{PlansGet, PlansPut, PlansValue};
+ghost use Rattle.oa_decision.specs.ValuePlans.{PlansValue, TellsValue};
 ghost use Rattle.oa_typelib.specs.Members.{lets};
 ghost use Rattle.oa_variant.specs.Variants.{HasZero};
 
 use super::Decider;
-use crate::fields::Fields;
-use crate::plan::{Plan, Planned};
+use crate::plan::{ValuePlan, ValuePut};
 use oa_coerce::coerce;
 use oa_model::{HResult, ValueType};
 use oa_record::{CallHead, Reply};
-use oa_table::{CellName, Event, LiveObject, Place};
+use oa_table::{CellName, LiveObject, Place};
 use oa_typelib::{Access, Dispinterface, Kind};
 use oa_variant::Variant;
 
@@ -24,8 +22,8 @@ impl Decider<'_> {
     /// What is left of the turn of an INVOKE that brings this value or nothing, under this tag: the reply (E_OUTOFMEMORY where memory was
     /// wanted), or the change, which may still be refused. None, of which nothing is said, where the call is refused and where its member is
     /// no property of scalars that alone has its DISPID. Only reads.
-    pub fn plan_value(&self, tag: u32, head: CallHead, value: Option<Variant>) -> Option<Plan>
-        ensures { IfSome result (PlansValue self.now tag (Invoke (bringing head value))) }
+    pub fn plan_value(&self, tag: u32, head: &CallHead, value: Option<Variant>) -> Option<ValuePlan>
+        ensures { IfSome result (PlansValue self.now tag (Invoke (bringing head.now value))) }
     {
         let object = self.find_object(head.object).ok()?;
         let interface = self
@@ -33,53 +31,40 @@ impl Decider<'_> {
             .ok()?;
         let (declared, form) = find_keyless(&interface, head.dispid, Access::Flags(head.flags))?;
         let guid = interface.interface().guid;
-        let name = CellName {
-            object: head.object,
-            place: Place::new(guid, head.dispid, Vec::new(self.alloc)),
-        };
         match form {
             Kind::Get => match value {
-                None => Some(self.plan_get(tag, object, &name, declared)),
+                None => {
+                    let place = Place::new(guid, head.dispid, Vec::new(self.alloc));
+                    let name = CellName {
+                        object: head.object,
+                        place,
+                    };
+                    Some(ValuePlan::Answered(self.plan_get(tag, object, &name, declared)))
+                }
                 Some(_) => None,
             },
-            Kind::Put => self.plan_put(tag, name, value?, declared),
+            Kind::Put => {
+                let value = coerce(self.alloc, value?, declared).ok()?.into_unlocked();
+                Some(ValuePlan::Put(ValuePut {
+                    object: head.object,
+                    interface: guid,
+                    dispid: head.dispid,
+                    value,
+                }))
+            }
         }
     }
 
     /// A get tells the value of its cell, or that memory was wanted.
-    fn plan_get(&self, tag: u32, object: &LiveObject, name: &CellName, declared: ValueType) -> Plan
+    fn plan_get(&self, tag: u32, object: &LiveObject, name: &CellName, declared: ValueType) -> Reply
         requires object { object_at name.now.object self.now.table ≡ Some object.now }
         requires zero { HasZero declared }
-        ensures { PlansGet self.now tag name.now declared result }
+        ensures { TellsValue self.now tag name.now declared result }
     {
         match self.value_field(object, name, declared) {
-            Ok(fields) => {
-                Plan::Answered(Reply::new(tag, HResult::S_OK, None, fields.into_vec()))
-            }
-            Err(_) => { Plan::Answered(Reply::bare(self.alloc, tag, HResult::E_OUTOFMEMORY, None)) }
+            Ok(fields) => Reply::new(tag, HResult::S_OK, None, fields.into_vec()),
+            Err(_) => Reply::bare(self.alloc, tag, HResult::E_OUTOFMEMORY, None),
         }
-    }
-
-    /// A put sets its cell to what the argument becomes as a value of the declared type. None where it becomes none.
-    #[inline(always)]
-    #[tactic(auto, using(crate::proofs::Zeros::no_locks))]
-    fn plan_put(
-        &self,
-        tag: u32,
-        name: CellName,
-        argument: Variant,
-        declared: ValueType,
-    ) -> Option<Plan>
-        requires { HasZero declared }
-        ensures { IfSome result (PlansPut tag name (coerced argument declared)) }
-    {
-        let Ok(value) = coerce(self.alloc, argument, declared) else {
-            return None;
-        };
-        let value = value.into_unlocked();
-        let event = Event::Put { name, value };
-        let fields = Fields::none(self.alloc);
-        Some(Plan::Change(Planned { tag, event, fields }))
     }
 }
 

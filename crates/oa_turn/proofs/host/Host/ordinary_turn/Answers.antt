@@ -1,10 +1,15 @@
-use Rattle.oa_turn.proofs.Releases.{releases}
+use Rattle.std.proofs.Common.{rules}
+use Rattle.oa_turn.proofs.Bringing.{answers, drafted, no_release}
 use Rattle.oa_turn.proofs.host.Host.ordinary_turn.Goals as goal
 
-pub returns-in-Change-clause-released : goal.returns-in-Change-clause-released
-returns-in-Change-clause-released c = λ number of code.
-    let is = c.in-Change.ensures.drafts.0 in
-    c.make.ensures.released number (releases c.args.body.now number of c.one_request.ensures c.args.self.now is.request is.asked _ _ is.decided_is) code
+pub returns-in-Some-Answered-clause-turn : goal.returns-in-Some-Answered-clause-turn
+returns-in-Some-Answered-clause-turn c = answers c.args.self.now c.args.body.now c.in-Some-Answered.reply c.in-Some-Answered.ensures
 
-pub returns-in-Change-clause-turn : goal.returns-in-Change-clause-turn
-returns-in-Change-clause-turn c = rw (c.in-Change.ensures.drafts.2) at (c.make.ensures.turn c.args.body.now (rw c.in-Change.ensures.drafts.2 c.in-Change.ensures.drafts.0))
+pub returns-in-Some-Put-clause-turn : goal.returns-in-Some-Put-clause-turn
+returns-in-Some-Put-clause-turn c = c.put_value.ensures c.args.body.now (drafted c.args.self.now c.args.body.now c.in-Some-Put.put c.in-Some-Put.ensures)
+
+pub returns-in-Some-Answered-clause-released : goal.returns-in-Some-Answered-clause-released
+returns-in-Some-Answered-clause-released c = λ number of code. no_release c.args.self.now c.args.body.now c.one_request.ensures number c.in-Some-Answered.ensures of
+
+pub returns-in-Some-Put-clause-released : goal.returns-in-Some-Put-clause-released
+returns-in-Some-Put-clause-released c = λ number of code. no_release c.args.self.now c.args.body.now c.one_request.ensures number c.in-Some-Put.ensures of

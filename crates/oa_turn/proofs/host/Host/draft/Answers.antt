@@ -3,7 +3,7 @@ use Rattle.oa_decision.specs.declared.decision.Decision.TheVariants as decisions
 use Rattle.oa_turn.proofs.Eventless.{eventless, relocked_eventless}
 use Rattle.oa_turn.proofs.Refused.{lacks, refused_turn, relocks, told, told_why}
 use Rattle.oa_turn.proofs.Releases.{changes, is_read, takes_none}
-use Rattle.oa_turn.proofs.host.Host.draft_request.Goals as goal
+use Rattle.oa_turn.proofs.host.Host.draft.Goals as goal
 
 pub returns-in-Err-clause-drafts : goal.returns-in-Err-clause-drafts
 returns-in-Err-clause-drafts c = (

@@ -1,0 +1,10 @@
+use Rattle.std.proofs.Common.{rules, refl}
+use Rattle.oa_turn.proofs.Changing.{done}
+use Rattle.oa_turn.specs.Plans.{put_planned}
+use Rattle.oa_turn.proofs.host.Host.put_value.Goals as goal
+
+pub returns-in-Ok : goal.returns-in-Ok
+returns-in-Ok c = λ body is. done c.args.self.now body (put_planned c.args.tag c.args.put) is _ c.bare.result (search rules) (search rules) (search rules)
+
+pub returns-in-Err : goal.returns-in-Err
+returns-in-Err c = λ body is. ?

@@ -1,6 +1,6 @@
 //! Coercion of scalars and of values.
-ghost use Rattle.std.specs.Prelude.{◌≡◌, IfOk, IfErr};
-ghost use Rattle.oa_variant.specs.Variants.{HasZero};
+ghost use Rattle.std.specs.Prelude.{◌≡◌, false, IfOk, IfErr};
+ghost use Rattle.oa_variant.specs.Variants.{HasZero, fits_declared};
 ghost use Rattle.oa_coerce.specs.Coercions.{CoercesScalar, Coerces};
 ghost use Rattle.oa_coerce.specs.Refusals.{RefusesScalar, RefusesCoercion};
 ghost use Rattle.oa_coerce.specs.Answers.{coerced_scalar, coerced, IsScalarAnswer, IsCoercion};
@@ -49,6 +49,7 @@ fn scalar_by_rule(value: Scalar, to: VarType) -> Result<Scalar, (Scalar, CoerceF
 /// What a value becomes as one of a declared type; VARIANT takes any. Err hands the value back: TypeMismatch exactly where no rule is for
 /// the two types, Overflow exactly where its number, rounded to the type's unit, is none of the type's numbers, Memory only where EMPTY
 /// was to become an array and memory was refused.
+#[inline(always)]
 pub fn coerce(
     alloc: Global,
     value: Variant,
@@ -63,6 +64,7 @@ pub fn coerce(
 }
 
 /// The same against the relation alone.
+#[inline(always)]
 fn value_by_rule(
     alloc: Global,
     value: Variant,
@@ -72,9 +74,24 @@ fn value_by_rule(
     ensures made { IfOk result (λ made. Coerces value declared made) }
     ensures refused { IfErr result (λ e. (e.0 ≡ value) × RefusesCoercion value declared e.1) }
 {
+    // Most values have their type already. They stay where they stand, since the caller has no call to make then.
     if value.fits(declared) {
         return Ok(value);
     }
+    other_value(alloc, value, declared)
+}
+
+/// The same of a value that has not the type.
+fn other_value(
+    alloc: Global,
+    value: Variant,
+    declared: ValueType,
+) -> Result<Variant, (Variant, CoerceFault)>
+    requires zero { HasZero declared }
+    requires other { fits_declared value declared ≡ false }
+    ensures made { IfOk result (λ made. Coerces value declared made) }
+    ensures refused { IfErr result (λ e. (e.0 ≡ value) × RefusesCoercion value declared e.1) }
+{
     match value {
         Variant::One(scalar) => match declared {
             ValueType::One(to) => match scalar_by_rule(scalar, to) {

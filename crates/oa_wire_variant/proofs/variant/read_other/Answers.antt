@@ -11,7 +11,7 @@ use Rattle.oa_wire_text.specs.Reading.{OnMemory}
 use Rattle.oa_wire_variant.specs.Reading.{ReadsWholeField, variant_at}
 use Rattle.oa_wire_variant.specs.Variants.{Spells, ReadsVariant, TakesMemory, field_fault}
 use Rattle.oa_wire_variant.proofs.VariantLaws.{variant_reads}
-use Rattle.oa_wire_variant.proofs.variant.read_variant.Goals as goal
+use Rattle.oa_wire_variant.proofs.variant.read_other.Goals as goal
 
 -- a field's own fault is not want of memory
 no_memory : (b : Bool) → Memory ≡ cond b BadVarType BadStub → ⊥

@@ -1,5 +1,5 @@
 //! Coercion of scalars and of values.
-ghost use Rattle.std.specs.Prelude.{◌≡◌, false, IfOk, IfErr};
+ghost use Rattle.std.specs.Prelude.{◌≡◌, true, IfOk, IfErr, IsTrue};
 ghost use Rattle.oa_variant.specs.Variants.{HasZero, fits_declared};
 ghost use Rattle.oa_coerce.specs.Coercions.{CoercesScalar, Coerces};
 ghost use Rattle.oa_coerce.specs.Refusals.{RefusesScalar, RefusesCoercion};
@@ -74,24 +74,36 @@ fn value_by_rule(
     ensures made { IfOk result (λ made. Coerces value declared made) }
     ensures refused { IfErr result (λ e. (e.0 ≡ value) × RefusesCoercion value declared e.1) }
 {
-    // Most values have their type already. They stay where they stand, since the caller has no call to make then.
-    if value.fits(declared) {
+    if is_long(&value, declared) {
         return Ok(value);
     }
     other_value(alloc, value, declared)
 }
 
-/// The same of a value that has not the type.
+/// Whether a value is a long, as most are, and is to become one. It stays where it stands then, since the caller makes no call.
+#[inline(always)]
+fn is_long(value: &Variant, declared: ValueType) -> bool
+    ensures { IsTrue result → fits_declared value.now declared ≡ true }
+{
+    match (value, declared) {
+        (Variant::One(Scalar::I4(_)), ValueType::One(VarType::I4)) => true,
+        _ => false,
+    }
+}
+
+/// The same of any value.
 fn other_value(
     alloc: Global,
     value: Variant,
     declared: ValueType,
 ) -> Result<Variant, (Variant, CoerceFault)>
-    requires zero { HasZero declared }
-    requires other { fits_declared value declared ≡ false }
+    requires { HasZero declared }
     ensures made { IfOk result (λ made. Coerces value declared made) }
     ensures refused { IfErr result (λ e. (e.0 ≡ value) × RefusesCoercion value declared e.1) }
 {
+    if value.fits(declared) {
+        return Ok(value);
+    }
     match value {
         Variant::One(scalar) => match declared {
             ValueType::One(to) => match scalar_by_rule(scalar, to) {

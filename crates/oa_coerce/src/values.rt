@@ -1,6 +1,6 @@
 //! Coercion of scalars and of values.
-ghost use Rattle.std.specs.Prelude.{◌≡◌, IfOk, IfErr};
-ghost use Rattle.oa_variant.specs.Variants.{HasZero};
+ghost use Rattle.std.specs.Prelude.{◌≡◌, true, IfOk, IfErr, IsTrue};
+ghost use Rattle.oa_variant.specs.Variants.{HasZero, fits_declared};
 ghost use Rattle.oa_coerce.specs.Coercions.{CoercesScalar, Coerces};
 ghost use Rattle.oa_coerce.specs.Refusals.{RefusesScalar, RefusesCoercion};
 ghost use Rattle.oa_coerce.specs.Answers.{coerced_scalar, coerced, IsScalarAnswer, IsCoercion};
@@ -49,6 +49,7 @@ fn scalar_by_rule(value: Scalar, to: VarType) -> Result<Scalar, (Scalar, CoerceF
 /// What a value becomes as one of a declared type; VARIANT takes any. Err hands the value back: TypeMismatch exactly where no rule is for
 /// the two types, Overflow exactly where its number, rounded to the type's unit, is none of the type's numbers, Memory only where EMPTY
 /// was to become an array and memory was refused.
+#[inline(always)]
 pub fn coerce(
     alloc: Global,
     value: Variant,
@@ -63,7 +64,35 @@ pub fn coerce(
 }
 
 /// The same against the relation alone.
+#[inline(always)]
 fn value_by_rule(
+    alloc: Global,
+    value: Variant,
+    declared: ValueType,
+) -> Result<Variant, (Variant, CoerceFault)>
+    requires { HasZero declared }
+    ensures made { IfOk result (λ made. Coerces value declared made) }
+    ensures refused { IfErr result (λ e. (e.0 ≡ value) × RefusesCoercion value declared e.1) }
+{
+    if is_long(&value, declared) {
+        return Ok(value);
+    }
+    other_value(alloc, value, declared)
+}
+
+/// Whether a value is a long, as most are, and is to become one. It stays where it stands then, since the caller makes no call.
+#[inline(always)]
+fn is_long(value: &Variant, declared: ValueType) -> bool
+    ensures { IsTrue result → fits_declared value.now declared ≡ true }
+{
+    match (value, declared) {
+        (Variant::One(Scalar::I4(_)), ValueType::One(VarType::I4)) => true,
+        _ => false,
+    }
+}
+
+/// The same of any value.
+fn other_value(
     alloc: Global,
     value: Variant,
     declared: ValueType,

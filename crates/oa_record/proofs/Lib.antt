@@ -1,5 +1,6 @@
 mod Bringing
 mod Fallible
+mod Fronts
 mod HeadLengths
 mod Header
 mod Judged

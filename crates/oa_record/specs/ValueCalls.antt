@@ -1,9 +1,15 @@
 -- Calls that bring no more than a put's new value.
-use Rattle.std.specs.Prelude.{ℕ, ℤ, negsuc, List, [], ◌∷◌, Option, Some, None}
+use Rattle.std.specs.Prelude.{ℕ, ℤ, negsuc, ◌&&◌, nat_le, List, [], ◌∷◌, take, drop, Option, Some, None}
+use Rattle.std.specs.Int.{w32, cast_signed}
+use Rattle.byteorder.specs.Endian.{little_number}
+use Rattle.oa_model.specs.Guids.{wire_order}
+use Rattle.oa_model.specs.Limits.{max_arguments}
+use Rattle.oa_ndr.specs.Reading.{Reading, choose, fail}
 use Rattle.oa_variant.specs.declared.variant.Variant.{Variant}
 use Rattle.oa_wire_variant.specs.Variants.{Spells}
 use Rattle.oa_record.specs.CallParts.{CallParts}
 use Rattle.oa_record.specs.declared.request.Call.{Call}
+use Rattle.oa_record.specs.Reading.{head_of, lists_at}
 use Rattle.oa_record.specs.declared.request.CallHead.{CallHead}
 
 -- one name for a new value: DISPID_PROPERTYPUT (MS-OAUT section 2.2.32.1)
@@ -28,3 +34,26 @@ SpellsNew field value = ⊥
 -- the same as its body has it
 abbrev pub parts_bringing : CallHead → Option (List ℕ) → CallParts
 parts_bringing head field = record { head = head; named = names_of field; fields = all_of field }
+
+-- how many bytes of an INVOKE stand before its lists
+abbrev pub invoke_front : ℕ
+invoke_front = 64
+
+-- the number of n bytes at a place
+abbrev pub number_in : ℕ → ℕ → List ℕ → ℕ
+number_in n place body = little_number n (take n (drop place body))
+
+abbrev pub guid_in : ℕ → List ℕ → List ℕ
+guid_in place body = wire_order (take 16 (drop place body))
+
+-- the head of an INVOKE by the places of its fields
+abbrev pub head_in : List ℕ → CallHead
+head_in body =
+    head_of (number_in 4 8 body) (cast_signed w32 (number_in 4 12 body)) (guid_in 16 body) (guid_in 32 body)
+    (number_in 4 48 body) (number_in 2 52 body)
+
+-- its lists, behind these
+unfoldable pub lists_behind : List ℕ → Reading CallParts
+lists_behind body =
+    choose (nat_le (number_in 4 56 body) max_arguments && nat_le (number_in 4 60 body) max_arguments)
+    (lists_at (head_in body) (number_in 4 56 body) (number_in 4 60 body)) fail

@@ -1,5 +1,6 @@
 //! The layout of a body, with the bytes of its variant fields.
-ghost use Rattle.std.specs.Prelude.{◌≡◌, map, length, None, Some, IfOk};
+ghost use Rattle.std.specs.Prelude.{◌≡◌, ◌≤◌, ◌+◌, map, length, None, Some, IfOk};
+ghost use Rattle.std.specs.Int.{cast_signed, w32};
 ghost use Rattle.std.specs.Option.{option_map};
 ghost use Rattle.oa_ndr.specs.Reading.{many, unit_at, whole};
 ghost use Rattle.oa_wire_array.specs.ArrayReading.{bound_at};
@@ -29,12 +30,13 @@ ghost use Rattle.oa_record.specs.Reading.{
 };
 ghost use Rattle.oa_record.specs.Layouts.{Layout};
 ghost use Rattle.oa_record.specs.Shown.{shown};
-ghost use Rattle.oa_record.specs.ValueCalls.{parts_bringing};
+ghost use Rattle.oa_record.specs.ValueCalls.{guid_in, head_in, invoke_front, lists_behind, number_in, parts_bringing};
 ghost use Rattle.oa_record.specs.declared.opcode.Opcode.TheVariants as opcodes;
 
 use crate::body_parts::Parts;
 use crate::raw_call::{RawCall, ValueParts};
 use crate::{CallHead, GetIds, Names, Opcode, RecordFault};
+use byteorder::{ByteOrder, LittleEndian};
 use oa_array::Indices;
 use oa_model::{
     Bound, MAX_ARGUMENTS, MAX_DIMENSIONS, MAX_NAMES, PROPERTY_PUT_DISPID, guid_from_wire,
@@ -42,6 +44,9 @@ use oa_model::{
 use oa_ndr::{Ndr, Short};
 use std::alloc::Global;
 use uuid::Uuid;
+
+// How many bytes of an INVOKE stand before its lists.
+const INVOKE_FRONT: usize = 64;
 
 /// A GUID in wire order.
 #[tactic(auto, unfolding(oa_ndr::specs::Reading::bind, oa_ndr::specs::Reading::give, crate::specs::Reading::guid_at))]
@@ -161,14 +166,79 @@ fn new_value<'a>(head: CallHead, r: &mut Ndr<'a>) -> Result<&'a [u8], Short>
     field(r)
 }
 
-/// A call that brings no more than a new value, whose field has these bytes. Err of any other.
-#[tactic(auto, unfolding(oa_ndr::specs::Reading::bind, oa_ndr::specs::Reading::choose, crate::specs::Reading::call_at))]
-fn value_call<'a>(r: &mut Ndr<'a>) -> Result<ValueParts<'a>, Short>
-    ensures { IfOk result (λ c. call_at r.old ≡ Some (parts_bringing c.head (option_map (λ f. f.now) c.field), r.new)) }
+/// The number of 2 bytes at a place.
+#[inline(always)]
+fn u16_at(body: &[u8], place: usize) -> u16
+    requires { place + 2 ≤ length body.now }
+    ensures { result ≡ number_in 2 place body.now }
 {
-    let head = call_head(r)?;
-    let count = r.u32()?;
-    let named_count = r.u32()?;
+    LittleEndian::read_u16(&body[place..])
+}
+
+/// The number of 4 bytes at a place.
+#[inline(always)]
+fn u32_at(body: &[u8], place: usize) -> u32
+    requires { place + 4 ≤ length body.now }
+    ensures { result ≡ number_in 4 place body.now }
+{
+    LittleEndian::read_u32(&body[place..])
+}
+
+/// The DISPID at a place.
+#[inline(always)]
+fn dispid_at(body: &[u8], place: usize) -> i32
+    requires { place + 4 ≤ length body.now }
+    ensures { result ≡ cast_signed w32 (number_in 4 place body.now) }
+{
+    u32_at(body, place).cast_signed()
+}
+
+/// The GUID of the first 16 bytes, in wire order.
+#[inline(always)]
+fn first_guid(bytes: &[u8]) -> Uuid
+    requires { 16 ≤ length bytes.now }
+    ensures { result ≡ guid_in 0 bytes.now }
+{
+    match bytes.first_chunk::<16>() {
+        Some(bytes) => guid_from_wire(*bytes),
+        None => Uuid::nil(),
+    }
+}
+
+/// The GUID at a place, in wire order.
+#[inline(always)]
+fn guid_at(body: &[u8], place: usize) -> Uuid
+    requires { place + 16 ≤ length body.now }
+    ensures { result ≡ guid_in place body.now }
+{
+    first_guid(&body[place..])
+}
+
+/// The head of the call of an INVOKE.
+#[inline(always)]
+fn head_in(body: &[u8]) -> CallHead
+    requires { invoke_front ≤ length body.now }
+    ensures { result ≡ head_in body.now }
+{
+    CallHead {
+        object: u32_at(body, 8),
+        dispid: dispid_at(body, 12),
+        interface: guid_at(body, 16),
+        riid: guid_at(body, 32),
+        lcid: u32_at(body, 48),
+        flags: u16_at(body, 52),
+    }
+}
+
+/// A call that brings no more than a new value, whose field has these bytes; the reader stands at its lists. Err of any other.
+#[inline(always)]
+fn call_behind<'a>(body: &[u8], r: &mut Ndr<'a>) -> Result<ValueParts<'a>, Short>
+    requires { invoke_front ≤ length body.now }
+    ensures { IfOk result (λ c. lists_behind body.now r.old ≡ Some (parts_bringing c.head (option_map (λ f. f.now) c.field), r.new)) }
+{
+    let head = head_in(body);
+    let count = u32_at(body, 56);
+    let named_count = u32_at(body, 60);
     if count == 0 && named_count == 0 {
         no_lists(head, r)?;
         return Ok(ValueParts { head, field: None });
@@ -181,18 +251,17 @@ fn value_call<'a>(r: &mut Ndr<'a>) -> Result<ValueParts<'a>, Short>
 }
 
 /// The head of an INVOKE that brings no more than a new value, and the bytes of that value's field. Err of any other body.
-#[tactic(auto, unfolding(oa_ndr::specs::Reading::steps, crate::specs::Reading::layout_at, crate::specs::Reading::named_at, crate::specs::Reading::fields_at))]
+#[inline(always)]
 pub(crate) fn read_value_parts(body: &[u8]) -> Result<ValueParts<'_>, Short>
     ensures { IfOk result (λ c. whole layout_at body.now ≡ Some (Layout.InvokeBody (parts_bringing c.head (option_map (λ f. f.now) c.field)))) }
 {
-    let mut r = Ndr::new(body);
-    r.u32()?;
-    let number = r.u16()?;
-    r.u16()?;
-    let Some(Opcode::Invoke) = Opcode::from_number(number) else {
+    // What stands before the lists has places of its own: the bytes are counted once, and not for each number.
+    if body.len() < INVOKE_FRONT || u16_at(body, 4) != Opcode::Invoke.number() {
         return Err(Short);
-    };
-    let Ok(call) = value_call(&mut r) else {
+    }
+    let mut r = Ndr::new(body);
+    r.bytes(INVOKE_FRONT)?;
+    let Ok(call) = call_behind(body, &mut r) else {
         return Err(Short);
     };
     if r.rest().is_empty() {

@@ -56,6 +56,9 @@ module _ {K V : Type 0} (f : V → List ℕ) (es : List (K × V)) where
   pub found_places : (t : K → Bool) (o : Option V) → o ≡ lookup t es → unwrap_or (option_map f o) [] ≡ places_in (position t (keys_of es)) (map f (values_of es))
   found_places t o is = ap (λ r. unwrap_or (option_map f r) []) (is ∙ sym (by_place t es)) ∙ sym (mapped_places f (position t (keys_of es)) (values_of es))
 
+  pub own_places : (t : K → Bool) (v : V) → lookup t es ≡ Some v → f v ≡ places_in (position t (keys_of es)) (map f (values_of es))
+  own_places t v is = found_places t (Some v) (sym is)
+
   module _ (eq : K → K → Bool) (k : K) (new : List (K × V)) where
     -- a key that is there
     module _ (v w : V) (at : Some v ≡ lookup (eq k) es) (is : new ≡ set_value (eq k) es w) where

@@ -116,7 +116,7 @@ impl<'a> Dispinterface<'a> {
         ensures { filter_map (slice_get (declarations self.now)) result.now ≡ forms_with id self.now }
     {
         let members: &'a Members = self.members;
-        members.by_id.places(&id)
+        members.by_id.places_of(id)
     }
 
     /// The declarations with a name, which is folded.

@@ -143,6 +143,21 @@ impl<K: Eq + Hash> Groups<K> {
     }
 }
 
+impl Groups<i32> {
+    /// The places of a DISPID. Where those of an interface rise from 1, it stands at the entry before its own number, and is not hashed.
+    pub(crate) fn places_of(&self, id: i32) -> &[usize]
+        ensures { result.now ≡ places_in (position (int_eq id) self.now.keys) self.now.places }
+    {
+        let near = id.cast_unsigned().wrapping_sub(1) as usize;
+        if let Some((key, places)) = self.groups.get_index(near) {
+            if *key == id {
+                return places.as_slice();
+            }
+        }
+        self.places(&id)
+    }
+}
+
 /// Names, folded, with their places.
 pub(crate) fn places_by_name(
     alloc: Global,

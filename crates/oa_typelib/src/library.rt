@@ -184,12 +184,21 @@ impl Library {
     }
 
     /// The place of the item with a GUID.
+    #[inline(always)]
     fn place(&self, guid: &Uuid) -> Option<usize>
         ensures { result ≡ position (λ i. same guid.now (item_guid i)) self.now.items }
     {
         if let Some(place) = place_in_front(self.items(), guid) {
             return Some(place);
         }
+        self.hashed_place(guid)
+    }
+
+    /// The same of a GUID that is hashed.
+    #[inline(never)]
+    fn hashed_place(&self, guid: &Uuid) -> Option<usize>
+        ensures { result ≡ position (λ i. same guid.now (item_guid i)) self.now.items }
+    {
         self.guids.place(guid)
     }
 
@@ -241,6 +250,7 @@ impl Library {
     }
 
     /// The default interface of the coclass with a GUID.
+    #[inline(always)]
     pub fn default_interface(&self, class: &Uuid) -> Option<Dispinterface<'_>>
         ensures { result ≡ option_and_then (default_interface self.now.items) (class_of self.now class.now) }
     {
@@ -250,6 +260,7 @@ impl Library {
     }
 
     /// The interface at a place where an entry of the coclass at a place names it.
+    #[inline(always)]
     pub fn entered_at(&self, class: usize, place: usize) -> Option<Dispinterface<'_>>
         ensures { result ≡ option_and_then
             (λ c. option_and_then (if_entered c) (option_and_then as_interface (slice_get self.now.items place)))
@@ -272,6 +283,7 @@ impl Library {
 
     /// The interface with a GUID where one of the entries of the coclass with a GUID names it. The zero GUID stands for no other interface
     /// than the one whose own GUID it is. None where there is no such coclass or interface.
+    #[inline(always)]
     pub fn entered(&self, class: &Uuid, interface: &Uuid) -> Option<Dispinterface<'_>>
         ensures { result ≡ option_and_then (λ c. option_and_then (if_entered c) (interface_of self.now interface.now))
             (class_of self.now class.now) }
@@ -284,6 +296,7 @@ impl Library {
     /// The interface that a GUID selects for the coclass with a GUID. The zero GUID stands for the coclass's default interface, which each
     /// coclass has; an interface whose own GUID is zero is reached only so. Any other stands for the interface that has it, where one of
     /// the coclass's entries names that interface. None where there is no such coclass or interface.
+    #[inline(always)]
     pub fn select(&self, class: &Uuid, interface: &Uuid) -> Option<Dispinterface<'_>>
         ensures selected { result ≡ selected_in self.now class.now interface.now }
         ensures default { is_nil_bytes interface.now ≡ true → IsSome (class_of self.now class.now) → IsSome result }

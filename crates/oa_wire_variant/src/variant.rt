@@ -130,9 +130,6 @@ fn whole(alloc: Global, bytes: &[u8]) -> Result<Variant, StubFault>
     ensures value { ReadsWholeField result (whole variant_at bytes.now) }
     ensures memory { OnMemory result (TakesMemory bytes.now) }
 {
-    if let Some(number) = long(bytes) {
-        return Ok(Variant::One(Scalar::I4(number)));
-    }
     let mut r = Ndr::new(bytes);
     let value = variant(alloc, &mut r)?;
     if !r.rest().is_empty() {
@@ -176,7 +173,18 @@ fn field_fault(bytes: &[u8]) -> WireFault
 /// `Memory` only where a block for the value was refused: the vt is that of BSTR and the field has at
 /// least 36 bytes, all before the text, or the vt is VT_ARRAY with a type of which there are arrays and
 /// the field has at least 56 bytes, all before the bounds.
+#[inline(always)]
 pub fn read_variant(alloc: Global, bytes: &[u8]) -> Result<Variant, WireFault>
+    ensures exact { ReadsVariant bytes.now result }
+{
+    if let Some(number) = long(bytes) {
+        return Ok(Variant::One(Scalar::I4(number)));
+    }
+    read_other(alloc, bytes)
+}
+
+/// The same of a field that may be any.
+fn read_other(alloc: Global, bytes: &[u8]) -> Result<Variant, WireFault>
     ensures exact { ReadsVariant bytes.now result }
 {
     whole(alloc, bytes).map_err(|fault| match fault {

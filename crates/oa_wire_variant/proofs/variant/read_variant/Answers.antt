@@ -1,38 +1,17 @@
-use Rattle.std.proofs.Common.{◌≡◌, Bool, true, false, cond, List, ℕ, Result, Ok, Err, sym, rules}
-use Rattle.std.specs.Result.{IsErrAnd, MatchResult}
-use Rattle.oa_ndr.specs.Reading.{whole}
-use Rattle.oa_ndr.proofs.Laws.{whole_takes, whole_again}
-use Rattle.oa_variant.specs.declared.variant.Variant.{Variant}
-use Rattle.oa_wire_text.specs.declared.fault.StubFault.{StubFault}
-use Rattle.oa_wire_text.specs.declared.fault.StubFault.TheVariants as faults
-use Rattle.oa_wire_array.specs.declared.fault.WireFault.{WireFault}
-use Rattle.oa_wire_array.specs.declared.fault.WireFault.TheVariants.{BadStub, BadVarType, Memory}
-use Rattle.oa_wire_text.specs.Reading.{OnMemory}
-use Rattle.oa_wire_variant.specs.Reading.{ReadsWholeField, variant_at}
-use Rattle.oa_wire_variant.specs.Variants.{Spells, ReadsVariant, TakesMemory, field_fault}
+use Rattle.std.proofs.Common.{Ok, ℤ, SFits, sym, subst, rules}
+use Rattle.std.specs.Int.{w32}
+use Rattle.std.proofs.lemmas.Int.{to_z-of_z}
+use Rattle.oa_ndr.proofs.Laws.{whole_takes}
+use Rattle.oa_variant.specs.declared.scalar.Scalar.TheVariants.{I4}
+use Rattle.oa_variant.specs.declared.variant.Variant.TheVariants.{One}
+use Rattle.oa_wire_variant.specs.Variants.{ReadsVariant}
 use Rattle.oa_wire_variant.proofs.VariantLaws.{variant_reads}
 use Rattle.oa_wire_variant.proofs.variant.read_variant.Goals as goal
 
--- a field's own fault is not want of memory
-no_memory : (b : Bool) → Memory ≡ cond b BadVarType BadStub → ⊥
-no_memory true e = absurd cc
-no_memory false e = absurd cc
-
-fault_is : (bytes : List ℕ) (e : WireFault) → e ≡ field_fault bytes → ((v : Variant) → Spells bytes v → ⊥) → ReadsVariant bytes (Err e)
-fault_is bytes BadStub is never = (never, sym is)
-fault_is bytes BadVarType is never = (never, sym is)
-fault_is bytes Memory is never = absurd (no_memory _ is)
-
--- what was made of the answer of `whole`: the value, or what each refusal becomes
-told : (P : StubFault → WireFault → Type 0) (bytes : List ℕ) (from : Result Variant StubFault) (to : Result Variant WireFault)
-    → ReadsWholeField from (whole variant_at bytes) → OnMemory from (TakesMemory bytes) → MatchResult from (λ v. to ≡ Ok v) (λ e. IsErrAnd to (P e))
-    → ((e : WireFault) → P faults.BadStub e → e ≡ field_fault bytes) → ((e : WireFault) → P faults.Memory e → e ≡ Memory) → ReadsVariant bytes to
-told P bytes (Ok v) to read takes is stub memory = rw is (whole_takes variant_reads bytes v read).1
-told P bytes (Err e) (Ok v) read takes is stub memory = absurd is
-told P bytes (Err faults.BadStub) (Err e) read takes is stub memory = fault_is bytes e (stub e is) (λ v h. let again = whole_again variant_reads bytes v tt h in cc)
-told P bytes (Err faults.Memory) (Err e) read takes is stub memory = rw (memory e is) takes
-
-pub returns : goal.returns
-returns c = record {
-  exact = told _ c.args.bytes.now c.whole.result c.map_err.result c.whole.ensures.value c.whole.ensures.memory c.map_err.ensures.cases (λ e h. search rules) (λ e h. search rules);
-}
+pub returns-in-Some : goal.returns-in-Some
+returns-in-Some c =
+    let fits : SFits w32 c.in-Some.number = search rules in
+    record {
+      exact = subst (λ (number : ℤ). ReadsVariant c.args.bytes.now (Ok (One (I4 number)))) (sym (to_z-of_z w32 c.in-Some.number fits))
+          (whole_takes variant_reads c.args.bytes.now (One (I4 c.in-Some.number)) c.in-Some.ensures).1;
+    }

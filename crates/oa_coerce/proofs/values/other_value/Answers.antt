@@ -3,7 +3,7 @@ use Rattle.oa_variant.specs.Scalars.{type_of}
 use Rattle.oa_variant.specs.declared.variant.Variant.TheVariants.{One}
 use Rattle.oa_coerce.specs.Coercions.{rule_for}
 use Rattle.oa_coerce.proofs.Lifted.{lifted, refused_too}
-use Rattle.oa_coerce.proofs.values.value_by_rule.Goals as goal
+use Rattle.oa_coerce.proofs.values.other_value.Goals as goal
 
 pub returns-in-Ok-clause-made : goal.returns-in-Ok-clause-made
 returns-in-Ok-clause-made c = rw (c.in-One.is, c.in-One-declared.is)

@@ -66,8 +66,7 @@ pub(crate) fn replace_within(
     ensures within { IfOk result (λ change. change.come ≤ change.gone + room.growth) }
     ensures back { IfErr result (λ back. (back ≡ value) × (old.new ≡ old.old)) }
 {
-    let gone = value_size(old);
-    let come = value_size(&value);
+    let (gone, come) = (value_size(old), value_size(&value));
     if locks_of(old) > 0 || come > room.longest || come > gone.saturating_add(room.growth) {
         return Err(value);
     }

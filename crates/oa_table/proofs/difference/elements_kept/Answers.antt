@@ -6,7 +6,7 @@ pub returns-then-count-cells-clause-size : goal.returns-then-count-cells-clause-
 returns-then-count-cells-clause-size c =
     let a = c.args.array.now in
     let less : c.args.count < length a.cells = rw c.cells-cells.ensures.value at c.if-count-cells.true in
-    rw (c.elements_len.ensures.value, c.elem-elem.ensures, c.cells-cells.ensures.value) (omega (arith, cut_sum a.elem c.args.count a.cells less))
+    rw (c.elements_len-gone.ensures.value, c.elem-elem.ensures, c.cells-cells.ensures.value) (omega (arith, cut_sum a.elem c.args.count a.cells less))
 
 pub returns-clause-size : goal.returns-clause-size
 returns-clause-size c =

@@ -1,5 +1,5 @@
--- How long the images of values are, counted. Who reads what a limit says reads this, and no format. That the images are
--- so long is a law of each: what counts a value's bytes tells both.
+-- How long the images of values are, counted: who reads what a limit says reads this, and no format. What counts the
+-- bytes of a value in memory tells both this and the length of its image. (This project's choice.)
 use Rattle.std.specs.Prelude.{ℕ, ◌+◌, ◌*◌, length}
 use Rattle.std.specs.List.{sum_by}
 use Rattle.oa_model.specs.Limits.{max_cells, max_dimensions, max_text_bytes}
@@ -42,7 +42,8 @@ unfoldable pub element_size : VarType → Scalar → ℕ
 element_size types.Variant = scalar_size
 element_size t = content_size t
 
--- a scalar; or the number of the type, how many bounds there are, each with a count and a lowest index, and the elements
+-- a scalar; or the number of the type, how many bounds there are, each with a count and a lowest index, and the
+-- elements
 unfoldable pub value_size : Variant → ℕ
 value_size (One s) = scalar_size s
 value_size (Array a) = 4 + 8 * length a.bounds + sum_by (element_size a.elem) a.cells

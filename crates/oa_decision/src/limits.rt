@@ -1,6 +1,5 @@
 //! The limits on what a change makes.
 ghost use Rattle.std.specs.Prelude.{◌≡◌, ◌-◌, true, Ok, nat_lt};
-ghost use Rattle.oa_image.specs.Sizes.{event_size};
 ghost use Rattle.oa_image.specs.Tables.{reserved_bytes};
 ghost use Rattle.oa_table.specs.Events.{applied};
 ghost use Rattle.oa_table.specs.Sizes.{table_size};
@@ -27,7 +26,7 @@ pub fn disallowed(bank: u32, table: &Table, event: &Event) -> Option<HResult>
     if let Some(fault) = refusal_of(table, event) {
         return Some(fault.code());
     }
-    if size_of(event) > MAX_EVENT_BYTES {
+    if event_len(event) > MAX_EVENT_BYTES {
         return Some(HResult::E_INVALIDARG);
     }
     if is_too_large(bank, table, event) {
@@ -40,14 +39,7 @@ pub fn disallowed(bank: u32, table: &Table, event: &Event) -> Option<HResult>
 pub fn is_surely_within(bank: u32, table: &Table, event: &Event) -> bool
     ensures { result ≡ true → StaysWithin bank event.now table.now }
 {
-    size_of(event) <= MAX_EVENT_BYTES && table.most_after(event) <= most_of(bank)
-}
-
-/// How many bytes the image of an event has.
-fn size_of(event: &Event) -> usize
-    ensures { result ≡ event_size event.now }
-{
-    event_len(event)
+    event_len(event) <= MAX_EVENT_BYTES && table.most_after(event) <= most_of(bank)
 }
 
 /// Whether the image of the table has too many bytes after an event that applies. Where even the most that it can have are few, they are

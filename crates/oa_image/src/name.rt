@@ -1,19 +1,18 @@
 //! The images of names of cells.
-ghost use Rattle.std.specs.Prelude.{◌≡◌, ◌≤◌, ◌+◌, ◌*◌, IfOk, length};
-ghost use Rattle.std.specs.List.{flat_map};
+ghost use Rattle.std.specs.Prelude.{◌≡◌, ◌≤◌, ◌+◌, IfOk, length};
 ghost use Rattle.oa_layout.specs.Answers.{ReadsImageBy};
-ghost use Rattle.oa_layout.specs.Lengths.{max_scalar_bytes};
+ghost use Rattle.oa_layout.specs.Lengths.{max_value_image};
 ghost use Rattle.oa_layout.specs.Windows.{Adds};
-ghost use Rattle.oa_layout.specs.Values.{scalar as a_scalar};
 ghost use Rattle.oa_model.specs.Limits.{max_key_scalars};
+ghost use Rattle.oa_table.specs.Sizes.{place_size};
 ghost use Rattle.oa_image.specs.Names as names;
 
 use oa_layout::{
     PutImage, ReadFault, ReadImage, ScalarFormat, Window, put_each, put_guid, put_i32, put_u16,
-    put_u32, read_guid, read_i32, read_times, read_u16, read_u32, scalar_image_len,
+    put_u32, read_guid, read_i32, read_times, read_u16, read_u32,
 };
 use oa_ndr::Ndr;
-use oa_table::{CellName, Place};
+use oa_table::{CellName, Place, place_size};
 use oa_variant::Scalar;
 use std::alloc::Global;
 
@@ -86,25 +85,10 @@ impl PutImage for NameFormat {
     }
 }
 
-/// How many bytes the images of scalars have, one behind the other.
-fn scalars_len(scalars: &[Scalar]) -> usize
-    requires few { length scalars.now ≤ max_key_scalars }
-    ensures value { result ≡ length (flat_map a_scalar.image scalars.now) }
-    ensures small { result ≤ max_scalar_bytes * length scalars.now }
-{
-    let mut len = 0;
-    'scalars: for scalar in scalars {
-        len += scalar_image_len(scalar);
-    }
-    len
-}
-
-/// How many bytes the image of a name has.
-#[tactic(auto, unfolding(oa_layout::specs::Formats::combinators, oa_layout::specs::Numbers::numbers, crate::specs::Names::names))]
+/// How many bytes the image of a name has: 4 for the object, and the place.
 pub(crate) fn name_len(name: &CellName) -> usize
-    ensures value { result ≡ length (names.name.image name.now) }
-    ensures small { result ≤ 26 + max_scalar_bytes * max_key_scalars }
+    ensures value { result ≡ 4 + place_size name.now.place }
+    ensures small { result ≤ 4 + max_value_image }
 {
-    let key = name.place.key();
-    26 + scalars_len(key)
+    4 + place_size(&name.place) as usize
 }

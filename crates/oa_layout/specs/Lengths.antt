@@ -1,6 +1,54 @@
--- How long the images of scalars are at most.
-use Rattle.std.specs.Prelude.{ℕ, ◌+◌, ◌*◌}
+-- How long the images of values are, counted: who reads what a limit says reads this, and no format. What counts the
+-- bytes of a value in memory tells both this and the length of its image. (This project's choice.)
+use Rattle.std.specs.Prelude.{ℕ, ◌+◌, ◌*◌, length}
+use Rattle.std.specs.List.{sum_by}
 use Rattle.oa_model.specs.Limits.{max_cells, max_dimensions, max_text_bytes}
+use Rattle.oa_model.specs.declared.var_type.VarType.{VarType}
+use Rattle.oa_model.specs.declared.var_type.VarType.TheVariants as types
+use Rattle.oa_bstr.specs.Text.{bytes_of}
+use Rattle.oa_variant.specs.Scalars.{type_of, text_of}
+use Rattle.oa_variant.specs.declared.scalar.Scalar.{Scalar}
+use Rattle.oa_variant.specs.declared.variant.Variant.{Variant}
+use Rattle.oa_variant.specs.declared.variant.Variant.TheVariants.{One, Array}
+
+-- what a scalar of a type has behind the number of its type; a text the number of its bytes and these; there is no
+-- scalar of VARIANT
+unfoldable pub content_size : VarType → Scalar → ℕ
+content_size types.Empty s = 0
+content_size types.Null s = 0
+content_size types.I1 s = 1
+content_size types.I2 s = 2
+content_size types.I4 s = 4
+content_size types.I8 s = 8
+content_size types.Int s = 4
+content_size types.Cy s = 8
+content_size types.Ui1 s = 1
+content_size types.Ui2 s = 2
+content_size types.Ui4 s = 4
+content_size types.Ui8 s = 8
+content_size types.Uint s = 4
+content_size types.Error s = 4
+content_size types.Bool s = 1
+content_size types.Bstr s = 4 + length (bytes_of (text_of s))
+content_size types.Decimal s = 14
+content_size types.Variant s = 0
+
+-- the number of the type, and the content
+unfoldable pub scalar_size : Scalar → ℕ
+scalar_size s = 2 + content_size (type_of s) s
+
+-- an element of an array: without the number of its type, but in an array of VARIANT
+unfoldable pub element_size : VarType → Scalar → ℕ
+element_size types.Variant = scalar_size
+element_size t = content_size t
+
+-- a scalar; or the number of the type, how many bounds there are, each with a count and a lowest index, and the
+-- elements
+unfoldable pub value_size : Variant → ℕ
+value_size (One s) = scalar_size s
+value_size (Array a) = 4 + 8 * length a.bounds + sum_by (element_size a.elem) a.cells
+
+-- ---- at most
 
 -- a content: a text behind its length
 abbrev pub max_content_bytes : ℕ
@@ -10,10 +58,6 @@ max_content_bytes = max_text_bytes + 4
 abbrev pub max_scalar_bytes : ℕ
 max_scalar_bytes = max_text_bytes + 6
 
--- an array behind its type: how many bounds there are, these, and the cells
-abbrev pub max_array_image : ℕ
-max_array_image = 2 + 8 * max_dimensions + max_scalar_bytes * max_cells
-
--- a value: its type, and a content or an array
+-- a value: an array of the most bounds and elements
 abbrev pub max_value_image : ℕ
-max_value_image = 2 + max_array_image
+max_value_image = 4 + 8 * max_dimensions + max_scalar_bytes * max_cells

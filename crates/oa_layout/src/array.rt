@@ -1,15 +1,16 @@
 //! The images of arrays.
 ghost use Rattle.std.specs.Prelude.{◌≡◌, ◌≤◌, ◌*◌, All, IfOk, length};
-ghost use Rattle.std.specs.List.{AllByRecursion, flat_map};
+ghost use Rattle.std.specs.List.{AllByRecursion, flat_map, sum_by};
 ghost use Rattle.oa_model.specs.Limits.{max_cells};
 ghost use Rattle.oa_array.specs.Arrays.{IsArrayShape};
 ghost use Rattle.oa_array.specs.Boxes.{box_size};
 ghost use Rattle.oa_variant.specs.Scalars.{FitsType};
+ghost use Rattle.oa_variant.specs.declared.variant.Variant.TheVariants as variants;
 ghost use Rattle.oa_layout.specs.Answers.{ReadsImage, ReadsImageBy};
 ghost use Rattle.oa_layout.specs.Arrays as arrays;
 ghost use Rattle.oa_layout.specs.Elements.{array_head, element_image};
 ghost use Rattle.oa_layout.specs.Formats.{times};
-ghost use Rattle.oa_layout.specs.Lengths.{max_array_image, max_scalar_bytes};
+ghost use Rattle.oa_layout.specs.Lengths.{element_size, max_scalar_bytes, max_value_image, value_size};
 ghost use Rattle.oa_layout.specs.Windows.{Adds};
 
 use crate::image::{PutImage, ReadImage, put_each, read_times};
@@ -175,37 +176,37 @@ pub fn put_array_head(a: &SafeArray<Scalar>, w: &mut Window, out: &mut [u8])
     put_each::<BoundFormat>(bounds, w, out)
 }
 
-#[tactic(auto, unfolding(crate::specs::Arrays::cell_of))]
-fn cell_len(elem: VarType, s: &Scalar) -> usize
-    requires { FitsType s.now elem }
-    ensures value { result ≡ length ((arrays.cell_of elem).image s.now) }
+/// How many bytes an element has in the image of an array of a type.
+#[tactic(auto, unfolding(crate::specs::Lengths::element_size))]
+pub fn element_len(elem: VarType, s: &Scalar) -> usize
+    ensures value { result ≡ element_size elem s.now }
     ensures small { result ≤ max_scalar_bytes }
 {
     match elem {
         VarType::Variant => scalar_image_len(s),
-        _ => content_len(s),
+        _ => content_len(elem, s),
     }
 }
 
-fn cells_len(elem: VarType, cells: &[Scalar]) -> usize
-    requires fits { All (λ s. FitsType s elem) cells.now }
-    requires few { length cells.now ≤ max_cells }
-    ensures value { result ≡ length (flat_map (arrays.cell_of elem).image cells.now) }
-    ensures small { result ≤ max_scalar_bytes * length cells.now }
+/// How many bytes elements have in the image of an array of a type, one behind the other.
+pub fn elements_len(elem: VarType, elements: &[Scalar]) -> usize
+    requires { length elements.now ≤ max_cells }
+    ensures value { result ≡ sum_by (element_size elem) elements.now }
+    ensures small { result ≤ max_scalar_bytes * length elements.now }
 {
     let mut len = 0;
-    'cells: for s in cells {
-        len += cell_len(elem, s);
+    'elements: for s in elements {
+        len += element_len(elem, s);
     }
     len
 }
 
-/// The bytes behind the number of the type.
-#[tactic(auto, unfolding(crate::specs::Formats::combinators, crate::specs::Numbers::u16, crate::specs::Arrays::bounds_of, crate::specs::Arrays::array_of))]
-pub(crate) fn array_len(a: &SafeArray<Scalar>) -> usize
-    ensures value { result ≡ length ((arrays.array_of a.now.elem).image a.now) }
-    ensures small { result ≤ max_array_image }
+/// The number of the type, how many bounds there are, these, and the elements.
+#[tactic(auto, unfolding(crate::specs::Lengths::value_size))]
+pub(crate) fn array_image_len(a: &SafeArray<Scalar>) -> usize
+    ensures value { result ≡ value_size (variants.Array a.now) }
+    ensures small { result ≤ max_value_image }
 {
-    let cells = a.cells();
-    2 + 8 * a.bounds().len() + cells_len(a.elem(), cells)
+    let elements = a.cells();
+    4 + 8 * a.bounds().len() + elements_len(a.elem(), elements)
 }

@@ -1,8 +1,9 @@
 //! The images of texts, DECIMAL and scalars.
-ghost use Rattle.std.specs.Prelude.{◌≡◌, ◌≤◌, length, IfOk};
-ghost use Rattle.oa_variant.specs.Scalars.{type_of};
+ghost use Rattle.std.specs.Prelude.{◌≡◌, ◌≤◌, ◌+◌, length, IfOk};
+ghost use Rattle.oa_bstr.specs.Text.{bytes_of};
+ghost use Rattle.oa_variant.specs.Scalars.{type_of, text_of};
 ghost use Rattle.oa_layout.specs.Answers.{ReadsImage};
-ghost use Rattle.oa_layout.specs.Lengths.{max_content_bytes, max_scalar_bytes};
+ghost use Rattle.oa_layout.specs.Lengths.{content_size, max_content_bytes, max_scalar_bytes, scalar_size};
 ghost use Rattle.oa_layout.specs.Values as values;
 ghost use Rattle.oa_layout.specs.Windows.{Adds};
 
@@ -183,48 +184,42 @@ impl PutImage for ScalarFormat {
     }
 }
 
-#[tactic(auto, unfolding(crate::specs::Formats::combinators, crate::specs::Numbers::u32, crate::specs::Values::texts))]
-fn text_len(text: &Bstr) -> usize
-    ensures value { result ≡ length (values.text.image text.now) }
-    ensures small { result ≤ max_content_bytes }
-{
-    if text.is_null() {
-        return 4;
-    }
-    4 + text.as_bytes().len()
-}
-
-/// The bytes behind the number of the type.
-#[tactic(auto, unfolding(crate::specs::Formats::combinators, crate::specs::Values::of_type, crate::specs::Values::decimal, crate::specs::Numbers::numbers))]
-pub(crate) fn content_len(s: &Scalar) -> usize
-    ensures value { result ≡ length ((values.of_type (type_of s.now)).image s.now) }
+/// The text inside, behind the number of its bytes.
+fn text_len(s: &Scalar) -> usize
+    ensures value { result ≡ 4 + length (bytes_of (text_of s.now)) }
     ensures small { result ≤ max_content_bytes }
 {
     match s {
-        Scalar::Empty | Scalar::Null => 0,
-        Scalar::I1(_) => 1,
-        Scalar::I2(_) => 2,
-        Scalar::I4(_) => 4,
-        Scalar::I8(_) => 8,
-        Scalar::Int(_) => 4,
-        Scalar::Ui1(_) => 1,
-        Scalar::Ui2(_) => 2,
-        Scalar::Ui4(_) => 4,
-        Scalar::Ui8(_) => 8,
-        Scalar::Uint(_) => 4,
-        Scalar::Cy(_) => 8,
-        Scalar::Bool(_) => 1,
-        Scalar::Error(_) => 4,
-        Scalar::Bstr(text) => text_len(text),
-        Scalar::Decimal(_) => 14,
+        Scalar::Bstr(text) => 4 + text.as_bytes().len(),
+        _ => 4,
+    }
+}
+
+/// What a scalar of a type has behind the number of its type.
+#[inline(always)]
+#[tactic(auto, unfolding(crate::specs::Lengths::content_size))]
+pub(crate) fn content_len(elem: VarType, s: &Scalar) -> usize
+    ensures value { result ≡ content_size elem s.now }
+    ensures small { result ≤ max_content_bytes }
+{
+    match elem {
+        VarType::Empty | VarType::Null | VarType::Variant => 0,
+        VarType::I1 | VarType::Ui1 | VarType::Bool => 1,
+        VarType::I2 | VarType::Ui2 => 2,
+        VarType::I4 | VarType::Int | VarType::Ui4 | VarType::Uint | VarType::Error => 4,
+        VarType::I8 | VarType::Ui8 | VarType::Cy => 8,
+        VarType::Decimal => 14,
+        VarType::Bstr => text_len(s),
     }
 }
 
 /// How many bytes the image of a scalar has: at most six more than a text.
-#[tactic(auto, unfolding(crate::specs::Formats::combinators, crate::specs::Numbers::u16, crate::specs::Values::scalar_parts))]
+#[inline(always)]
+#[tactic(auto, unfolding(crate::specs::Lengths::scalar_size), using(crate::proofs::Lengths::scalar_sized))]
 pub fn scalar_image_len(s: &Scalar) -> usize
     ensures value { result ≡ length (values.scalar.image s.now) }
+    ensures counted { result ≡ scalar_size s.now }
     ensures small { result ≤ max_scalar_bytes }
 {
-    2 + content_len(s)
+    2 + content_len(s.var_type(), s)
 }

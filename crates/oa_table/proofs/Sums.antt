@@ -24,6 +24,7 @@ use Rattle.oa_array.proofs.Fills.{kept_is}
 use Rattle.oa_model.specs.Limits.{greatest_object_number, max_cell_locks, max_cells}
 use Rattle.std.proofs.lemmas.Bool.{eq-eqb, false_from_ne_true, le-leb, le-ltb}
 use Rattle.oa_model.specs.declared.var_type.VarType.{VarType}
+use Rattle.oa_layout.specs.Lengths.{element_size, value_size}
 use Rattle.oa_variant.specs.Scalars.{fits_type, zero_of}
 use Rattle.oa_variant.specs.declared.scalar.Scalar.{Scalar}
 use Rattle.oa_variant.specs.declared.variant.Variant.{Variant}
@@ -39,8 +40,7 @@ use Rattle.oa_table.specs.Locks.{locked_in, locks_at, with_lock, without_lock}
 use Rattle.oa_table.specs.Objects.{locks_of_cell, with_change, with_put, with_value}
 use Rattle.oa_table.specs.Outcomes.{CountsLocks, mapped}
 use Rattle.oa_table.specs.Places.{PlaceValue, place_cmp, places_total}
-use Rattle.oa_table.specs.Sizes.{HasKeptSize, array_size, cell_size, element_size, largest_image, object_size, place_size, size_due, size_in}
-use Rattle.oa_table.specs.Sizes.{table_size, value_size}
+use Rattle.oa_table.specs.Sizes.{HasKeptSize, cell_size, largest_image, object_size, place_size, size_due, size_in, table_size}
 use Rattle.oa_table.specs.Tables.{ObjectValue, TableValue, cell_at, object_at}
 use Rattle.oa_table.proofs.Entries.{put_new, put_there, put_within, set_weight}
 
@@ -48,8 +48,8 @@ use Rattle.oa_table.proofs.Entries.{put_new, put_there, put_within, set_weight}
 
 -- another element
 pub element_sum : (a : ArrayValue Scalar) (index : List ℤ) (old new : Scalar) → array_element a index ≡ Some old
-    → array_size (with_cell a index new) + element_size a.elem old ≡ array_size a + element_size a.elem new
-unfolding array_size
+    → value_size (AnArray (with_cell a index new)) + element_size a.elem old ≡ value_size (AnArray a) + element_size a.elem new
+unfolding value_size
 element_sum a index old new there =
     let at = position_of a.bounds index in
     let is = get_or_from_slice_get a.cells at old new there in
@@ -92,8 +92,8 @@ length-first (b ∷ bounds) bound h = refl
 -- another first bound
 pub redim_sum : (a : ArrayValue Scalar) (bound : Bound) (n gone come : ℕ) → 0 < length a.bounds → n ≡ box_size (with_first bound a.bounds)
     → sum_by (element_size a.elem) (kept_by_position (zero_of a.elem) n a.cells) + gone ≡ sum_by (element_size a.elem) a.cells + come
-    → array_size (redimensioned (zero_of a.elem) bound a) + gone ≡ array_size a + come
-unfolding array_size
+    → value_size (AnArray (redimensioned (zero_of a.elem) bound a)) + gone ≡ value_size (AnArray a) + come
+unfolding value_size
 redim_sum a bound n gone come some is h =
     let count = length-first a.bounds bound some in
     omega (arith, rw is at h, count)
@@ -102,7 +102,6 @@ redim_sum a bound n gone come some is h =
 
 pub element_due : (a : ArrayValue Scalar) (index : List ℤ) (old new : Scalar) → InBounds a.bounds index → array_element a index ≡ Some old → fits_type new a.elem ≡ true
     → size_due value_size (with_element_put index new (AnArray a)) (AnArray a) + element_size a.elem old ≡ value_size (AnArray a) + element_size a.elem new
-unfolding value_size
 element_due a index old new within there fits = rw ((in_bounds_tells a.bounds index).1 within, fits) (element_sum a index old new there)
 
 pub outside_due : (a : ArrayValue Scalar) (index : List ℤ) (new : Scalar) → (InBounds a.bounds index → ⊥)
@@ -112,7 +111,6 @@ outside_due a index new outside = rw (false_from_ne_true (in_bounds a.bounds ind
 pub redim_due : (a : ArrayValue Scalar) (bound : Bound) (n gone come : ℕ) → 0 < length a.bounds → a.locks ≡ 0 → n ≡ box_size (with_first bound a.bounds) → n ≤ max_cells
     → sum_by (element_size a.elem) (kept_by_position (zero_of a.elem) n a.cells) + gone ≡ sum_by (element_size a.elem) a.cells + come
     → size_due value_size (redimensioned_value bound (AnArray a)) (AnArray a) + gone ≡ value_size (AnArray a) + come
-unfolding value_size
 redim_due a bound n gone come some free is few h =
     let none : ltb 0 a.locks ≡ false = le-ltb 0 a.locks (omega (arith, free)) in
     let fits : ltb max_cells (box_size (with_first bound a.bounds)) ≡ false = le-ltb max_cells (box_size (with_first bound a.bounds)) (omega (arith, is, few)) in
@@ -253,7 +251,7 @@ abbrev KeepsSize : {T : Type 0} → (T → ℕ) → Result T TableFault → T �
 KeepsSize size due old = size_due size due old ≡ size old
 
 lock_keeps : (value : Variant) → KeepsSize value_size (locked_value value) value
-unfolding value_size array_size
+unfolding value_size
 lock_keeps (One s) = refl
 lock_keeps (AnArray a) = by (eqb a.locks max_cell_locks)
   where
@@ -262,7 +260,7 @@ lock_keeps (AnArray a) = by (eqb a.locks max_cell_locks)
     by false = refl
 
 unlock_keeps : (value : Variant) → KeepsSize value_size (released_value value) value
-unfolding value_size array_size
+unfolding value_size
 unlock_keeps (One s) = refl
 unlock_keeps (AnArray a) = by (eqb a.locks 0)
   where

@@ -1,16 +1,9 @@
 -- How many bytes the parts of an image have: what oa_image writes, counted. (This project's choice.)
-use Rattle.std.specs.Prelude.{◌≡◌, ◌≤◌, ◌+◌, ◌*◌, ◌^◌, ℕ, length, Option, Some, None, Result, Ok, Err}
+use Rattle.std.specs.Prelude.{◌≡◌, ◌≤◌, ◌+◌, ◌*◌, ◌^◌, ℕ, Option, Some, None, Result, Ok, Err}
 use Rattle.std.specs.List.{sum_by}
 use Rattle.std.specs.Map.{values_of}
-use Rattle.oa_model.specs.Limits.{max_cells, max_dimensions, max_text_bytes}
-use Rattle.oa_model.specs.declared.var_type.VarType.{VarType}
-use Rattle.oa_model.specs.declared.var_type.VarType.TheVariants as types
-use Rattle.oa_array.specs.Arrays.{ArrayValue}
-use Rattle.oa_bstr.specs.Text.{bytes_of}
-use Rattle.oa_variant.specs.Scalars.{type_of, text_of}
-use Rattle.oa_variant.specs.declared.scalar.Scalar.{Scalar}
+use Rattle.oa_layout.specs.Lengths.{max_value_image, scalar_size, value_size}
 use Rattle.oa_variant.specs.declared.variant.Variant.{Variant}
-use Rattle.oa_variant.specs.declared.variant.Variant.TheVariants.{One, Array}
 use Rattle.oa_table.specs.declared.event.Event.{Event}
 use Rattle.oa_table.specs.declared.event.Event.TheVariants.{Create, Release, Put, PutElement, Redim}
 use Rattle.oa_table.specs.declared.fault.TableFault.{TableFault}
@@ -18,60 +11,13 @@ use Rattle.oa_table.specs.Events.{applied}
 use Rattle.oa_table.specs.Places.{PlaceValue}
 use Rattle.oa_table.specs.Tables.{ObjectValue, TableValue}
 
--- what a scalar of a type has behind the number of its type; a text the number of its bytes and these; there is no
--- scalar of VARIANT
-unfoldable pub content_size : VarType → Scalar → ℕ
-content_size types.Empty s = 0
-content_size types.Null s = 0
-content_size types.I1 s = 1
-content_size types.I2 s = 2
-content_size types.I4 s = 4
-content_size types.I8 s = 8
-content_size types.Int s = 4
-content_size types.Cy s = 8
-content_size types.Ui1 s = 1
-content_size types.Ui2 s = 2
-content_size types.Ui4 s = 4
-content_size types.Ui8 s = 8
-content_size types.Uint s = 4
-content_size types.Error s = 4
-content_size types.Bool s = 1
-content_size types.Bstr s = 4 + length (bytes_of (text_of s))
-content_size types.Decimal s = 14
-content_size types.Variant s = 0
-
--- the number of the type, and the content
-unfoldable pub scalar_size : Scalar → ℕ
-scalar_size s = 2 + content_size (type_of s) s
-
--- an element of an array: without the number of its type, but in an array of VARIANT
-unfoldable pub element_size : VarType → Scalar → ℕ
-element_size types.Variant s = scalar_size s
-element_size t s = content_size t s
-
--- the most that a scalar has: the number of the type, and the longest text
-abbrev pub largest_scalar : ℕ
-largest_scalar = 6 + max_text_bytes
-
--- the most that a value has, an array of the most bounds and elements; a place has no more
-abbrev pub largest_value : ℕ
-largest_value = 4 + 8 * max_dimensions + largest_scalar * max_cells
-
--- the most that a cell has
+-- the most that a cell has, whose place has no more than the largest value
 abbrev pub largest_cell : ℕ
-largest_cell = 2 * largest_value
+largest_cell = 2 * max_value_image
 
 -- the most that an object has, whose cells a number of 64 bits counts
 abbrev pub largest_object : ℕ
 largest_object = 24 + largest_cell * 2 ^ 64
-
--- the number of the type, how many bounds there are, each with a count and a lowest index, and the elements
-unfoldable pub array_size : ArrayValue Scalar → ℕ
-array_size a = 4 + 8 * length a.bounds + sum_by (element_size a.elem) a.cells
-
-unfoldable pub value_size : Variant → ℕ
-value_size (One s) = scalar_size s
-value_size (Array a) = array_size a
 
 -- the interface's GUID, the DISPID, how many scalars the key has, and these
 unfoldable pub place_size : PlaceValue → ℕ

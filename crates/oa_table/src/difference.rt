@@ -4,12 +4,13 @@ ghost use Rattle.std.specs.List.{sum_by};
 ghost use Rattle.oa_array.specs.Arrays.{kept_by_position};
 ghost use Rattle.oa_model.specs.Limits.{max_cells};
 ghost use Rattle.oa_table.specs.Elements.{with_element_put, redimensioned_value};
-ghost use Rattle.oa_table.specs.Sizes.{element_size, largest_value, size_due, value_size};
+ghost use Rattle.oa_layout.specs.Lengths.{element_size, max_value_image, value_size};
+ghost use Rattle.oa_table.specs.Sizes.{size_due};
 ghost use Rattle.oa_variant.specs.Scalars.{zero_of};
 ghost use Rattle.oa_variant.specs.declared.variant.Variant.TheVariants as variants;
 
-use crate::size::{element_size, elements_size};
 use oa_array::{Cell, SafeArray};
+use oa_layout::{element_len, elements_len};
 use oa_model::Bound;
 use oa_variant::{Scalar, Variant};
 
@@ -29,11 +30,11 @@ pub(crate) fn no_difference() -> Difference
 }
 
 /// An element of the array in a value is set.
-#[tactic(auto, unfolding(crate::specs::Sizes::value_size))]
+#[tactic(auto, unfolding(oa_layout::specs::Lengths::value_size))]
 pub(crate) fn element_difference(value: &Variant, index: &[i32], element: &Scalar) -> Difference
     ensures size { size_due value_size (with_element_put index.now element.now value.now) value.now + result.gone
         ≡ value_size value.now + result.come }
-    ensures small { result.come ≤ largest_value }
+    ensures small { result.come ≤ max_value_image }
 {
     match value {
         Variant::One(_) => no_difference(),
@@ -41,11 +42,11 @@ pub(crate) fn element_difference(value: &Variant, index: &[i32], element: &Scala
     }
 }
 
-#[tactic(auto, unfolding(crate::specs::Sizes::value_size))]
+#[tactic(auto, unfolding(oa_layout::specs::Lengths::value_size))]
 fn element_set(array: &SafeArray<Scalar>, index: &[i32], element: &Scalar) -> Difference
     ensures size { let value = variants.Array array.now in
         size_due value_size (with_element_put index.now element.now value) value + result.gone ≡ value_size value + result.come }
-    ensures small { result.come ≤ largest_value }
+    ensures small { result.come ≤ max_value_image }
 {
     let elem = array.elem();
     let fits = element.fits(elem);
@@ -55,8 +56,8 @@ fn element_set(array: &SafeArray<Scalar>, index: &[i32], element: &Scalar) -> Di
                 return no_difference();
             }
             Difference {
-                gone: element_size(elem, old),
-                come: element_size(elem, element),
+                gone: element_len(elem, old) as u64,
+                come: element_len(elem, element) as u64,
             }
         }
         Err(_) => no_difference(),
@@ -64,10 +65,10 @@ fn element_set(array: &SafeArray<Scalar>, index: &[i32], element: &Scalar) -> Di
 }
 
 /// The array in a value gets another first bound.
-#[tactic(auto, unfolding(crate::specs::Sizes::value_size))]
+#[tactic(auto, unfolding(oa_layout::specs::Lengths::value_size))]
 pub(crate) fn redim_difference(value: &Variant, bound: Bound) -> Difference
     ensures size { size_due value_size (redimensioned_value bound value.now) value.now + result.gone ≡ value_size value.now + result.come }
-    ensures small { result.come ≤ largest_value }
+    ensures small { result.come ≤ max_value_image }
 {
     match value {
         Variant::One(_) => no_difference(),
@@ -75,11 +76,11 @@ pub(crate) fn redim_difference(value: &Variant, bound: Bound) -> Difference
     }
 }
 
-#[tactic(auto, unfolding(crate::specs::Sizes::value_size))]
+#[tactic(auto, unfolding(oa_layout::specs::Lengths::value_size))]
 fn array_resized(array: &SafeArray<Scalar>, bound: Bound) -> Difference
     ensures size { let value = variants.Array array.now in
         size_due value_size (redimensioned_value bound value) value + result.gone ≡ value_size value + result.come }
-    ensures small { result.come ≤ largest_value }
+    ensures small { result.come ≤ max_value_image }
 {
     // For the prover: an array has a bound, which is what the other one replaces.
     let _cells = array.cells();
@@ -97,15 +98,15 @@ fn elements_kept(array: &SafeArray<Scalar>, count: usize) -> Difference
     requires { count ≤ max_cells }
     ensures size { sum_by (element_size array.now.elem) (kept_by_position (zero_of array.now.elem) count array.now.cells) + result.gone
         ≡ sum_by (element_size array.now.elem) array.now.cells + result.come }
-    ensures small { result.come ≤ largest_value }
+    ensures small { result.come ≤ max_value_image }
 {
     let elem = array.elem();
     let cells = array.cells();
     if count < cells.len() {
-        let gone = elements_size(elem, &cells[count..]);
+        let gone = elements_len(elem, &cells[count..]) as u64;
         return Difference { gone, come: 0 };
     }
-    let more = (count - cells.len()) as u64;
-    let come = more * element_size(elem, &Scalar::zero(elem));
+    let more = count - cells.len();
+    let come = (more * element_len(elem, &Scalar::zero(elem))) as u64;
     Difference { gone: 0, come }
 }

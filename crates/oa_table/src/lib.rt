@@ -28,4 +28,5 @@ pub use live::LiveObject;
 pub use name::CellName;
 pub use object::Object;
 pub use place::Place;
+pub use size::place_size;
 pub use table::{LARGEST_IMAGE, Table};

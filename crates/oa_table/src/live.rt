@@ -3,11 +3,12 @@ ghost use Rattle.std.specs.Prelude.{◌≡◌, ◌≤◌, ◌+◌, [], None, Ok,
 ghost use Rattle.std.specs.List.Sorted.{IsStrictlySortedBy};
 ghost use Rattle.std.specs.Map.{keys_of};
 ghost use Rattle.std.specs.Option.{option_map};
+ghost use Rattle.oa_layout.specs.Lengths.{value_size};
 ghost use Rattle.oa_table.specs.Elements.{with_element_put, locked_value, redimensioned_value, released_value};
 ghost use Rattle.oa_table.specs.Objects.{any_locked, locks_of_cell, with_change, with_put};
 ghost use Rattle.oa_table.specs.Outcomes.{CountsLocks, Does};
 ghost use Rattle.oa_table.specs.Places.{place_cmp};
-ghost use Rattle.oa_table.specs.Sizes.{largest_cell, largest_object, object_size, size_due, value_size};
+ghost use Rattle.oa_table.specs.Sizes.{largest_cell, largest_object, object_size, size_due};
 ghost use Rattle.oa_table.specs.Tables.{cell_at};
 
 use crate::difference::{Difference, element_difference, no_difference, redim_difference};

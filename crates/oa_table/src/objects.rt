@@ -4,12 +4,13 @@ ghost use Rattle.std.specs.List.Sorted.{IsStrictlySortedBy};
 ghost use Rattle.std.specs.Map.{keys_of};
 ghost use Rattle.std.specs.Option.{option_map};
 ghost use Rattle.std.specs.Ordering.{nat_cmp};
+ghost use Rattle.oa_layout.specs.Lengths.{value_size};
 ghost use Rattle.oa_table.specs.Events.{BringsNoLocks, applied};
 ghost use Rattle.oa_table.specs.Locks.{locked_in, locks_at, with_lock, without_lock};
 ghost use Rattle.oa_table.specs.Memory.{MayWantMemory};
 ghost use Rattle.oa_table.specs.Outcomes.{CountsLocks, Does};
 ghost use Rattle.oa_table.specs.Parts.{table_of};
-ghost use Rattle.oa_table.specs.Sizes.{largest_cell, table_size, value_size};
+ghost use Rattle.oa_table.specs.Sizes.{largest_cell, table_size};
 ghost use Rattle.oa_table.specs.Tables.{first_table, object_at};
 
 use crate::difference::Difference;

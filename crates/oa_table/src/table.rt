@@ -4,6 +4,7 @@ ghost use Rattle.std.specs.List.Sorted.{IsStrictlySortedBy};
 ghost use Rattle.std.specs.Map.{keys_of};
 ghost use Rattle.std.specs.Option.{option_map};
 ghost use Rattle.std.specs.Ordering.{nat_cmp};
+ghost use Rattle.oa_layout.specs.Lengths.{value_size};
 ghost use Rattle.oa_table.specs.Elements.{locks_of};
 ghost use Rattle.oa_table.specs.Events.{BringsNoLocks, applied};
 ghost use Rattle.oa_table.specs.Locks.{locked_in, locks_at, with_lock, without_lock};
@@ -11,7 +12,7 @@ ghost use Rattle.oa_table.specs.Memory.{MayWantMemory};
 ghost use Rattle.oa_table.specs.Outcomes.{CountsLocks, Does};
 ghost use Rattle.oa_table.specs.Parts.{AreParts, table_of};
 ghost use Rattle.oa_table.specs.Sizes as sizes;
-ghost use Rattle.oa_table.specs.Sizes.{largest_image, size_in, table_size, value_size};
+ghost use Rattle.oa_table.specs.Sizes.{largest_image, size_in, table_size};
 ghost use Rattle.oa_table.specs.Tables.{cell_in, class_in, first_table, object_at};
 
 use crate::difference::Difference;

@@ -1,10 +1,10 @@
 //! Changes of the value in a cell.
 ghost use Rattle.std.specs.Prelude.{◌≡◌, ◌≤◌, ◌+◌, Ok, IfOk, IfErr, OnOk};
 ghost use Rattle.oa_variant.specs.declared.variant.Variant.TheVariants as variants;
+ghost use Rattle.oa_layout.specs.Lengths.{max_value_image, value_size};
 ghost use Rattle.oa_table.specs.Elements.{with_element_put, locked_value, locks_of, of_array, redimensioned_value, released_value};
 ghost use Rattle.oa_table.specs.Elements.{replaced_value};
 ghost use Rattle.oa_table.specs.Outcomes.{CountsLocks, Does};
-ghost use Rattle.oa_table.specs.Sizes.{largest_value, value_size};
 
 use crate::TableFault;
 use crate::difference::Difference;
@@ -32,7 +32,7 @@ pub(crate) fn replace(
     ensures does { Does value (replaced_value value old.old) old.old old.new result }
     ensures gone { IfOk result (λ change. change.gone ≡ value_size old.old) }
     ensures come { IfOk result (λ change. change.come ≡ value_size old.new) }
-    ensures small { IfOk result (λ change. change.come ≤ largest_value) }
+    ensures small { IfOk result (λ change. change.come ≤ max_value_image) }
     ensures starved { IfErr result (λ e. e.1 ≡ TableFault.Memory → ⊥) }
 {
     if locks_of(old) != 0 {
@@ -61,7 +61,7 @@ pub(crate) fn replace_within(
     ensures set { OnOk result (old.new ≡ value) }
     ensures gone { IfOk result (λ change. change.gone ≡ value_size old.old) }
     ensures come { IfOk result (λ change. change.come ≡ value_size value) }
-    ensures small { IfOk result (λ change. change.come ≤ largest_value) }
+    ensures small { IfOk result (λ change. change.come ≤ max_value_image) }
     ensures longest { IfOk result (λ change. change.come ≤ room.longest) }
     ensures within { IfOk result (λ change. change.come ≤ change.gone + room.growth) }
     ensures back { IfErr result (λ back. (back ≡ value) × (old.new ≡ old.old)) }

@@ -1,8 +1,8 @@
 -- What is allowed applies, and leaves a sound table.
 use Rattle.std.proofs.Common.{◌≡◌, ℕ, ◌+◌, ◌-◌, ◌≤◌, ◌⊎◌, inl, inr, Bool, true, false, true≢false, length, Result, Ok, Err, IsOk, refl, sym, ap, subst}
-use Rattle.std.proofs.Common.{◌∙◌, arith}
+use Rattle.std.proofs.Common.{◌∙◌, [], arith}
 use Rattle.std.specs.Prelude.{nat_lt, if◌then◌else◌}
-use Rattle.std.proofs.lemmas.Bool.{ltb-false}
+use Rattle.std.proofs.lemmas.Bool.{le-ltb, ltb-false}
 use Rattle.std.specs.Result.{IsErrAnd, MatchResult}
 use Rattle.oa_image.specs.Tables.{reserved_bytes}
 use Rattle.oa_model.specs.Limits.{max_event_bytes}
@@ -13,17 +13,21 @@ use Rattle.oa_image.proofs.Numbered.{numbers_stay, unlocked_numbers}
 use Rattle.oa_image.proofs.Sized.{event_sized, table_sized}
 use Rattle.oa_image.proofs.TablesWithImages.{same_table}
 use Rattle.oa_layout.specs.Formats.{only, made_where, counted, coded, next_by, times, raw}
+use Rattle.oa_layout.specs.Lengths.{value_size}
 use Rattle.oa_layout.specs.Numbers.{u32}
+use Rattle.oa_variant.specs.declared.variant.Variant.{Variant}
 use Rattle.oa_turn.proofs.Relocked.{lock_stays, unlock_stays}
 use Rattle.oa_model.specs.declared.hresult.HResult.{HResult}
 use Rattle.oa_model.specs.Codes.{e_invalidarg, e_outofmemory, stg_e_mediumfull}
 use Rattle.oa_table.specs.declared.event.Event.{Event}
+use Rattle.oa_table.specs.declared.event.Event.TheVariants.{Put}
+use Rattle.oa_table.specs.declared.name.CellName.{CellName}
 use Rattle.oa_table.specs.declared.fault.TableFault.{TableFault}
 use Rattle.oa_table.specs.declared.fault.TableFault.TheVariants.{Memory, NoObject, WrongNumber, NotArray, Array}
 use Rattle.oa_table.specs.Events.{applied}
 use Rattle.oa_table.specs.Faults.{table_code}
 use Rattle.oa_table.specs.Outcomes.{Because}
-use Rattle.oa_table.specs.Sizes.{table_size}
+use Rattle.oa_table.specs.Sizes.{place_size, table_size}
 use Rattle.oa_table.specs.Tables.{TableValue, first_table, unlocked_table}
 use Rattle.oa_decision.specs.declared.decision.LockChange.{LockChange}
 use Rattle.oa_decision.specs.declared.decision.LockChange.TheVariants.{Lock, Unlock}

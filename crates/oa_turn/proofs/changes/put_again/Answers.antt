@@ -2,7 +2,8 @@ use Rattle.std.proofs.Common.{rules, ◌≡◌, ◌-◌, ◌≤◌, ℕ, [], Res
 use Rattle.oa_decision.specs.Limits.{allowed}
 use Rattle.oa_image.specs.Tables.{reserved_bytes}
 use Rattle.oa_table.specs.Events.{applied}
-use Rattle.oa_table.specs.Sizes.{table_size, value_size}
+use Rattle.oa_layout.specs.Lengths.{value_size}
+use Rattle.oa_table.specs.Sizes.{table_size}
 use Rattle.oa_table.specs.Tables.{TableValue}
 use Rattle.oa_table.specs.declared.event.Event.TheVariants.{Put}
 use Rattle.oa_table.specs.declared.name.CellName.{CellName}

@@ -2,7 +2,7 @@ use Rattle.std.proofs.Common.{◌≡◌, ◌+◌, ◌≤◌, ℕ, Result, Ok, Er
 use Rattle.oa_variant.specs.declared.variant.Variant.{Variant}
 use Rattle.oa_table.specs.declared.difference.Difference.{Difference}
 use Rattle.oa_table.specs.Elements.{replaced_value}
-use Rattle.oa_table.specs.Sizes.{value_size}
+use Rattle.oa_layout.specs.Lengths.{value_size}
 use Rattle.oa_table.proofs.Sums.{put_is_change, set_sum}
 use Rattle.oa_table.proofs.Through.{back_in_cell, done_in_cell}
 use Rattle.oa_table.proofs.live.LiveObject.put_again.Goals as goal

@@ -1,6 +1,7 @@
 use Rattle.std.proofs.Common.{◌+◌, arith}
+use Rattle.oa_layout.specs.Lengths.{value_size}
 use Rattle.oa_table.specs.Objects.{with_put}
-use Rattle.oa_table.specs.Sizes.{place_size, value_size}
+use Rattle.oa_table.specs.Sizes.{place_size}
 use Rattle.oa_table.proofs.Sums.{object_most, put_most}
 use Rattle.oa_table.proofs.table.Table.most_with_put.Goals as goal
 

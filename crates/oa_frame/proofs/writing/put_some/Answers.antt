@@ -1,0 +1,9 @@
+use Rattle.std.proofs.Common.{◌≡◌, [], rules}
+use Rattle.oa_stream.specs.Sink.{Writes}
+use Rattle.oa_stream.proofs.Stretches.{writes_nothing}
+use Rattle.oa_frame.proofs.writing.put_some.Goals as goal
+
+pub returns-then-bytes : goal.returns-then-bytes
+returns-then-bytes g c =
+    let none : c.args.bytes.now ≡ [] = search rules in
+    rw none (writes_nothing _ c.requires.unbroken)

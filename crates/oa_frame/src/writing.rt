@@ -38,17 +38,18 @@ fn put_line<W: Sink>(writer: &mut W, head: &[u8; 16], fields: &[u8]) -> Result<(
     requires unbroken { (W.out writer.old).broken ≡ false }
     ensures { Puts result (W.out writer.old) (W.out writer.new) (encode_lower (head.now ++ fields.now) ++ 10 ∷ []) }
 {
-    writer.put(&head_digits(head))?;
+    put_head(writer, head)?;
     put_rest(writer, fields)
 }
 
-/// The digits of a reply's head.
-fn head_digits(head: &[u8; 16]) -> [u8; 32]
-    ensures { result ≡ encode_lower head.now }
+/// Writes the digits of a reply's head.
+fn put_head<W: Sink>(writer: &mut W, head: &[u8; 16]) -> Result<(), Unwritten>
+    requires unbroken { (W.out writer.old).broken ≡ false }
+    ensures { Puts result (W.out writer.old) (W.out writer.new) (encode_lower head.now) }
 {
     let mut digits = [0u8; 32];
     encode(head, &mut digits);
-    digits
+    writer.put(&digits[..2 * head.len()])
 }
 
 /// Writes the digits of bytes, and a line feed.
@@ -94,7 +95,7 @@ fn put_record<W: Sink>(writer: &mut W, head: &[u8; 16], fields: &[u8]) -> Result
     ensures { Puts result (W.out writer.old) (W.out writer.new)
         (to_le_bytes w32 (length (head.now ++ fields.now)) ++ (head.now ++ fields.now)) }
 {
-    writer.put(&record_front(head, fields))?;
+    put_front(writer, head, fields)?;
     put_some(writer, fields)
 }
 
@@ -110,15 +111,24 @@ pub fn put_some<W: Sink>(writer: &mut W, bytes: &[u8]) -> Result<(), Unwritten>
     writer.put(bytes)
 }
 
-/// The length of two stretches, and the first of them.
-fn record_front(head: &[u8; 16], fields: &[u8]) -> [u8; 20]
-    requires { length head.now + length fields.now ≤ 4294967295 }
-    ensures { result ≡ to_le_bytes w32 (length (head.now ++ fields.now)) ++ head.now }
+/// Writes the length of two stretches, and the first of them.
+fn put_front<W: Sink>(writer: &mut W, head: &[u8; 16], fields: &[u8]) -> Result<(), Unwritten>
+    requires short { length head.now + length fields.now ≤ 4294967295 }
+    requires unbroken { (W.out writer.old).broken ≡ false }
+    ensures { Puts result (W.out writer.old) (W.out writer.new) (to_le_bytes w32 (length (head.now ++ fields.now)) ++ head.now) }
 {
     let mut bytes = [0u8; 20];
+    lay_out(head, fields, &mut bytes);
+    writer.put(&bytes[..20])
+}
+
+/// The same, in a buffer.
+fn lay_out(head: &[u8; 16], fields: &[u8], bytes: &mut [u8; 20])
+    requires { length head.now + length fields.now ≤ 4294967295 }
+    ensures { take 20 bytes.new ≡ to_le_bytes w32 (length (head.now ++ fields.now)) ++ head.now }
+{
     bytes[..4].copy_from_slice(&length_bytes(head, fields));
     bytes[4..20].copy_from_slice(head);
-    bytes
 }
 
 /// How many bytes two stretches have.

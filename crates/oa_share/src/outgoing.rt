@@ -1,5 +1,5 @@
 //! Frames of replies on a writer.
-ghost use Rattle.std.specs.Prelude.{◌≡◌, ◌≤◌, ◌+◌, ◌++◌, [], false, length};
+ghost use Rattle.std.specs.Prelude.{◌≡◌, ◌≤◌, ◌+◌, ◌++◌, [], false, length, take};
 ghost use Rattle.std.specs.Int.{to_le_bytes, w32};
 ghost use Rattle.oa_share.specs.Frames as frames;
 ghost use Rattle.oa_share.specs.Outgoing.{spelled_frame};
@@ -20,20 +20,36 @@ pub fn put_reply_of<W: Sink>(
     requires unbroken { (W.out writer.old).broken ≡ false }
     ensures { Puts result (W.out writer.old) (W.out writer.new) (spelled_frame (client, head.now ++ fields.now)) }
 {
-    writer.put(&reply_front(client, head, fields))?;
+    put_front(writer, client, head, fields)?;
     put_some(writer, fields)
 }
 
-/// What stands before the second stretch: the head of the frame, the reply's length, and the first.
-fn reply_front(client: u32, head: &[u8; 16], fields: &[u8]) -> [u8; 28]
-    requires { length head.now + length fields.now ≤ 4294967291 }
-    ensures { result ≡ (frames.frame_head client (4 + (length head.now + length fields.now))
-        ++ to_le_bytes w32 (length head.now + length fields.now)) ++ head.now }
+/// Writes what stands before the second stretch: the head of the frame, the reply's length, and the first.
+fn put_front<W: Sink>(
+    writer: &mut W,
+    client: u32,
+    head: &[u8; 16],
+    fields: &[u8],
+) -> Result<(), Unwritten>
+    requires short { length head.now + length fields.now ≤ 4294967291 }
+    requires unbroken { (W.out writer.old).broken ≡ false }
+    ensures { Puts result (W.out writer.old) (W.out writer.new)
+        ((frames.frame_head client (4 + (length head.now + length fields.now)) ++ to_le_bytes w32 (length head.now + length fields.now))
+        ++ head.now) }
 {
     let mut bytes = [0u8; 28];
+    lay_out(client, head, fields, &mut bytes);
+    writer.put(&bytes[..28])
+}
+
+/// The same, in a buffer.
+fn lay_out(client: u32, head: &[u8; 16], fields: &[u8], bytes: &mut [u8; 28])
+    requires { length head.now + length fields.now ≤ 4294967291 }
+    ensures { take 28 bytes.new ≡ (frames.frame_head client (4 + (length head.now + length fields.now))
+        ++ to_le_bytes w32 (length head.now + length fields.now)) ++ head.now }
+{
     bytes[..12].copy_from_slice(&lengths(client, head.len() + fields.len()));
     bytes[12..28].copy_from_slice(head);
-    bytes
 }
 
 /// What stands before a reply of so many bytes: the head of its frame, and its length.

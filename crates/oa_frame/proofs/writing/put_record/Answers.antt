@@ -5,14 +5,14 @@ use Rattle.oa_stream.specs.Sink.{Breaks, Puts}
 use Rattle.oa_stream.proofs.Stretches.{breaks_before, puts_then}
 use Rattle.oa_frame.proofs.writing.put_record.Goals as goal
 
-pub returns-in_err-put : goal.returns-in_err-put
-returns-in_err-put g c =
+pub returns-in_err-put_front : goal.returns-in_err-put_front
+returns-in_err-put_front g c =
     let p = err_from_is_err_and c.from_residual.result c.from_residual.ensures.1 in
     let size = to_le_bytes w32 (length (c.args.head.now ++ c.args.fields.now)) in
-    rw p.1 (subst (Breaks _ _) (append_assoc size c.args.head.now c.args.fields.now) (breaks_before _ _ (size ++ c.args.head.now) c.args.fields.now (rw c.record_front.ensures at c.in_err-put.ensures)))
+    rw p.1 (subst (Breaks _ _) (append_assoc size c.args.head.now c.args.fields.now) (breaks_before _ _ (size ++ c.args.head.now) c.args.fields.now c.in_err-put_front.ensures))
 
 pub returns : goal.returns
 returns g c =
     let size = to_le_bytes w32 (length (c.args.head.now ++ c.args.fields.now)) in
     subst (Puts c.put_some.result _ _) (append_assoc size c.args.head.now c.args.fields.now)
-    (puts_then c.put_some.result _ _ _ (size ++ c.args.head.now) c.args.fields.now (rw c.record_front.ensures at c.in_ok-put.ensures) c.put_some.ensures)
+    (puts_then c.put_some.result _ _ _ (size ++ c.args.head.now) c.args.fields.now c.in_ok-put_front.ensures c.put_some.ensures)

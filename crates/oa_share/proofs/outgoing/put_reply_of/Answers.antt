@@ -7,15 +7,15 @@ use Rattle.oa_share.specs.Frames.{frame_head}
 use Rattle.oa_share.proofs.Putting.{laid_out}
 use Rattle.oa_share.proofs.outgoing.put_reply_of.Goals as goal
 
-pub returns-in_err-put : goal.returns-in_err-put
-returns-in_err-put g c =
+pub returns-in_err-put_front : goal.returns-in_err-put_front
+returns-in_err-put_front g c =
     let p = err_from_is_err_and c.from_residual.result c.from_residual.ensures.1 in
     let head = c.args.head.now in
     let fields = c.args.fields.now in
     let n = length head + length fields in
     let told = c.told-head in
     rw p.1 (subst (Breaks _ _) (laid_out c.args.client (4 + n) head fields (omega (arith, told)) (omega arith) n refl)
-    (breaks_before _ _ ((frame_head c.args.client (4 + n) ++ to_le_bytes w32 n) ++ head) fields (rw c.reply_front.ensures at c.in_err-put.ensures)))
+    (breaks_before _ _ ((frame_head c.args.client (4 + n) ++ to_le_bytes w32 n) ++ head) fields c.in_err-put_front.ensures))
 
 pub returns : goal.returns
 returns g c =
@@ -24,4 +24,4 @@ returns g c =
     let n = length head + length fields in
     let told = c.told-head in
     subst (Puts c.put_some.result _ _) (laid_out c.args.client (4 + n) head fields (omega (arith, told)) (omega arith) n refl)
-    (puts_then c.put_some.result _ _ _ ((frame_head c.args.client (4 + n) ++ to_le_bytes w32 n) ++ head) fields (rw c.reply_front.ensures at c.in_ok-put.ensures) c.put_some.ensures)
+    (puts_then c.put_some.result _ _ _ ((frame_head c.args.client (4 + n) ++ to_le_bytes w32 n) ++ head) fields c.in_ok-put_front.ensures c.put_some.ensures)

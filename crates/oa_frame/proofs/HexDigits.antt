@@ -9,10 +9,8 @@ use Rattle.std.proofs.lemmas.List.{get_or_append_left, length-map, set-get_or}
 use Rattle.std.proofs.lemmas.List.FromFn.{get_or-map-range_with_len}
 use Rattle.std.specs.List.{range_with_len}
 use Rattle.std.proofs.lemmas.Bool.{and_parts, cases_lt, eqb-false, eqb-true, false≢true, leb-false, leb-true}
-use Rattle.std.proofs.lemmas.List.{append-nil, drop_all, get_or-set_other, get_or-set_same, length-drop, length-take-le}
-use Rattle.std.proofs.lemmas.List.{take-append-drop, take_all, take_more_set}
-use Rattle.std.proofs.lemmas.Slice.{take-put_mid}
-use borrow.Rule.Slice.PartMut.{mid_of, put_mid}
+use Rattle.std.proofs.lemmas.List.{append-nil, drop_all, get_or-set_other, get_or-set_same}
+use Rattle.std.proofs.lemmas.List.{take-append-drop, take_more_set}
 use lib.Seq.{take-add}
 use Rattle.hex.specs.Hex.{◌>>=◌, decode_of, decode_pairs, encode_lower, encode_with, hex_digit_value, lower_digits, pair_value, value_at}
 use Rattle.hex.specs.declared.error.FromHexError.{FromHexError}
@@ -52,19 +50,9 @@ hex_breaks a b c bytes at n p q =
 pub hex_two : (head fields rest : List ℕ) → encode_lower (head ++ fields) ++ rest ≡ encode_lower head ++ (encode_lower fields ++ rest)
 hex_two head fields rest = ap (λ l. l ++ rest) (encode_append lower_digits head fields) ∙ append_assoc (encode_lower head) (encode_lower fields) rest
 
--- the digits of two stretches in a buffer, one behind the other, and a line feed behind them
-pub hex_line : (head fields line rest : List ℕ) (m e : ℕ) → m ≡ 2 * length head → e ≡ m + 2 * length fields → e < length line → length rest ≡ length (mid_of m (e - m) line)
-    → take m line ≡ encode_lower head → take (2 * length fields) rest ≡ encode_lower fields
-    → take (e + 1) (slice_set (put_mid m (e - m) line rest) e 10) ≡ encode_lower (head ++ fields) ++ 10 ∷ []
-hex_line head fields line rest m e middle end room same front back =
-    let behind = drop (e - m) (drop m line) in
-    let left : length (drop m line) ≡ length line - m = length-drop m line in
-    let size : length rest ≡ 2 * length fields = same ∙ length-take-le (e - m) (drop m line) (omega (arith, left, end, room)) ∙ omega (arith, end) in
-    let digits : rest ≡ encode_lower fields = sym (take_all (2 * length fields) rest (omega (arith, size))) ∙ back in
-    let all = take-put_mid m (e - m) line rest e (omega (arith, end, size)) (omega (arith, end, room)) in
-    let first : length (take m line) ≡ m = length-take-le m line (omega (arith, end, room)) in
-    let fits : e < length (put_mid m (e - m) line rest) = omega (arith, length-append (take m line) (rest ++ behind), length-append rest behind, length-drop (e - m) (drop m line), first, left, size, end, room) in
-    take_more_set (put_mid m (e - m) line rest) e 10 fits ∙ rw (all, front, digits) (append_assoc (encode_lower head) (encode_lower fields) (10 ∷ [])) ∙ sym (hex_two head fields (10 ∷ []))
+-- digits in a buffer, and a line feed behind them
+pub hex_end : (fields line : List ℕ) (e : ℕ) → e < length line → take e line ≡ encode_lower fields → take (e + 1) (slice_set line e 10) ≡ encode_lower fields ++ 10 ∷ []
+hex_end fields line e fits front = take_more_set line e 10 fits ∙ ap (λ l. l ++ 10 ∷ []) front
 
 -- the bytes of the pairs so far, and the pairs behind them
 abbrev IsDecoded : List ℕ → List ℕ → ℕ → Type 0

@@ -1,5 +1,6 @@
 -- what the crates above cite
 pub mod Spelled
+pub mod Pieces
 -- what this crate alone does
 mod HexDigits
 mod Left
@@ -9,7 +10,6 @@ mod Seeks
 mod Judged
 mod Raws
 mod OneSplit
-mod Pieces
 mod OneReading
 mod OneLines
 mod OneRecords

@@ -35,6 +35,7 @@ pub enum Read {
 /// Where all of it was read ahead, neither reader nor writer is called. Else what the writer keeps back is handed on before the first of
 /// its bytes is taken, and the reader is called at most `MAX_READ_CALLS` times. Takes no memory: `line` has room for the longest line, which the
 /// records' framing leaves alone, and `body` for the longest body. `body` gets no longer than a body that comes, where it was shorter.
+#[inline(always)]
 pub fn read_body<R: Source + Drop, W: Sink>(
     framing: Framing,
     reader: &mut Ahead<R>,

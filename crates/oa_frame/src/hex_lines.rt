@@ -21,6 +21,7 @@ use std::simd::prelude::*;
 const BLOCK: usize = 16;
 
 /// Reads the body of the line with this number. A line that was read ahead whole is decoded from where it stands.
+#[inline(never)]
 pub(crate) fn read_hex<R: Source + Drop, W: Sink>(
     reader: &mut Ahead<R>,
     writer: &mut W,
@@ -146,6 +147,7 @@ fn decode_few(line: &[u8], count: usize, buffer: &mut [u8]) -> bool
 }
 
 /// Decodes the 16 pairs from one on. False where some of them is none.
+#[inline(always)]
 fn decode_block(line: &[u8], at: usize, buffer: &mut [u8]) -> bool
     requires digits { 2 * (at + 16) ≤ length line.now }
     requires room { at + 16 ≤ length buffer.old }

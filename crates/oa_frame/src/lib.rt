@@ -19,4 +19,4 @@ mod writing;
 pub use ends::End;
 pub use framing::{Framing, Read, read_body};
 pub use session::{Responder, Served, serve};
-pub use writing::{put_hex, put_reply};
+pub use writing::{put_hex, put_reply, put_some};

@@ -30,6 +30,7 @@ pub(crate) enum Got {
 }
 
 /// Reads the body of one record. One that was read ahead whole is copied from where it stands.
+#[inline(always)]
 pub(crate) fn read_record<R: Source + Drop, W: Sink>(
     reader: &mut Ahead<R>,
     writer: &mut W,
@@ -94,6 +95,7 @@ fn whole_record(front: &[u8]) -> Option<usize>
 }
 
 /// Reads one record. All that was put was handed on, so that whoever sends the record has all replies.
+#[inline(never)]
 fn read_waiting<R: Source + Drop, W: Sink>(
     reader: &mut Ahead<R>,
     writer: &W,

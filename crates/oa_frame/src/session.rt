@@ -80,13 +80,12 @@ pub struct Served {
 pub fn serve<S: Responder, R: Source + Drop, W: Sink>(
     server: &mut S,
     framing: Framing,
-    last: &[u8],
+    last: &[u8; 16],
     reader: &mut Ahead<R>,
     writer: &mut W,
     line: &mut Vec<u8>,
     body: &mut Vec<u8>,
 ) -> Served
-    requires last { length last.now ≤ 4294967295 }
     requires buffers { HoldLongest (vec_capacity line.now) (vec_capacity body.now) }
     requires ready { S.ready server.old }
     requires unbroken { AreUnbroken (ahead R.input reader.old) (W.out writer.old) }
@@ -166,16 +165,15 @@ fn part_before<S: Responder, W: Sink>(
 /// Writes the reply to what is no body.
 fn put_last<W: Sink>(
     framing: Framing,
-    last: &[u8],
+    last: &[u8; 16],
     writer: &mut W,
     why: End,
 ) -> Result<(), Unwritten>
-    requires short { length last.now ≤ 4294967295 }
     requires unbroken { (W.out writer.old).broken ≡ false }
     ensures { Puts result (W.out writer.old) (W.out writer.new) (spelled_all (frames framing).spelled (last_reply last.now why)) }
 {
     if has_reply(why) {
-        return put_reply(framing, writer, &[], last);
+        return put_reply(framing, writer, last, &[]);
     }
     Ok(())
 }
@@ -191,8 +189,7 @@ fn has_reply(why: End) -> bool
 }
 
 /// Writes the reply to what is no body, hands all on, and says why the session ended.
-fn hand_on<W: Sink>(framing: Framing, last: &[u8], writer: &mut W, why: End) -> End
-    requires short { length last.now ≤ 4294967295 }
+fn hand_on<W: Sink>(framing: Framing, last: &[u8; 16], writer: &mut W, why: End) -> End
     requires unbroken { (W.out writer.old).broken ≡ false }
     ensures { HandsOn (frames framing).spelled result why (last_reply last.now why) (W.out writer.old) (W.out writer.new) }
 {
@@ -209,11 +206,10 @@ fn hand_on<W: Sink>(framing: Framing, last: &[u8], writer: &mut W, why: End) -> 
 fn close<S: Responder, W: Sink>(
     server: &mut S,
     framing: Framing,
-    last: &[u8],
+    last: &[u8; 16],
     writer: &mut W,
     why: End,
 ) -> End
-    requires short { length last.now ≤ 4294967295 }
     requires ready { S.ready server.old }
     requires unbroken { (W.out writer.old).broken ≡ false }
     ensures { Closes (frames framing) S.ends last.now result why (W.out writer.old) (W.out writer.new) server.old server.new }

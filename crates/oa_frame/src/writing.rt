@@ -11,14 +11,15 @@ use oa_stream::{Sink, Unwritten};
 /// How many bytes are turned into digits at a time, so that writing takes no memory.
 const PIECE: usize = 128;
 
-/// The most bytes of a reply that is put at once.
+/// The most bytes whose digits are put at once with the end of their line.
 const SHORT: usize = 63;
 
 /// Writes a reply that stands in two stretches: as a line of lower-case digits, or with its length before it.
+#[inline(always)]
 pub fn put_reply<W: Sink>(
     framing: Framing,
     writer: &mut W,
-    head: &[u8],
+    head: &[u8; 16],
     fields: &[u8],
 ) -> Result<(), Unwritten>
     requires short { length head.now + length fields.now ≤ 4294967295 }
@@ -32,86 +33,106 @@ pub fn put_reply<W: Sink>(
 }
 
 /// Writes two stretches as one line of digits.
-fn put_line<W: Sink>(writer: &mut W, head: &[u8], fields: &[u8]) -> Result<(), Unwritten>
+#[inline(never)]
+fn put_line<W: Sink>(writer: &mut W, head: &[u8; 16], fields: &[u8]) -> Result<(), Unwritten>
     requires unbroken { (W.out writer.old).broken ≡ false }
     ensures { Puts result (W.out writer.old) (W.out writer.new) (encode_lower (head.now ++ fields.now) ++ 10 ∷ []) }
 {
-    if head.len() <= SHORT && fields.len() <= SHORT - head.len() {
-        return put_short_line(writer, head, fields);
+    put_head(writer, head)?;
+    put_rest(writer, fields)
+}
+
+/// Writes the digits of a reply's head.
+fn put_head<W: Sink>(writer: &mut W, head: &[u8; 16]) -> Result<(), Unwritten>
+    requires unbroken { (W.out writer.old).broken ≡ false }
+    ensures { Puts result (W.out writer.old) (W.out writer.new) (encode_lower head.now) }
+{
+    let mut digits = [0u8; 32];
+    encode(head, &mut digits);
+    writer.put(&digits[..2 * head.len()])
+}
+
+/// Writes the digits of bytes, and a line feed.
+fn put_rest<W: Sink>(writer: &mut W, fields: &[u8]) -> Result<(), Unwritten>
+    requires unbroken { (W.out writer.old).broken ≡ false }
+    ensures { Puts result (W.out writer.old) (W.out writer.new) (encode_lower fields.now ++ 10 ∷ []) }
+{
+    if 0 < fields.len() && fields.len() <= SHORT {
+        return put_short(writer, fields);
     }
-    put_hex(writer, head)?;
     put_hex(writer, fields)?;
     writer.put(b"\n")
 }
 
-/// Writes two stretches of at most 63 bytes as one line of digits, at once.
-fn put_short_line<W: Sink>(writer: &mut W, head: &[u8], fields: &[u8]) -> Result<(), Unwritten>
-    requires short { length head.now + length fields.now ≤ 63 }
+/// The same of at most 63 bytes, at once.
+fn put_short<W: Sink>(writer: &mut W, fields: &[u8]) -> Result<(), Unwritten>
+    requires short { length fields.now ≤ 63 }
     requires unbroken { (W.out writer.old).broken ≡ false }
-    ensures { Puts result (W.out writer.old) (W.out writer.new) (encode_lower (head.now ++ fields.now) ++ 10 ∷ []) }
+    ensures { Puts result (W.out writer.old) (W.out writer.new) (encode_lower fields.now ++ 10 ∷ []) }
 {
     let mut line = [0u8; 128];
-    let end = spell(head, fields, &mut line);
+    let end = spell(fields, &mut line);
     writer.put(&line[..end])
 }
 
-/// The digits of two stretches and a line feed, at the start of a buffer; answers how many characters they are.
-fn spell(head: &[u8], fields: &[u8], line: &mut [u8; 128]) -> usize
-    requires { length head.now + length fields.now ≤ 63 }
+/// The digits of bytes and a line feed, at the start of a buffer; answers how many characters they are.
+fn spell(fields: &[u8], line: &mut [u8; 128]) -> usize
+    requires { length fields.now ≤ 63 }
     ensures within { result ≤ 128 }
-    ensures line { take result line.new ≡ encode_lower (head.now ++ fields.now) ++ 10 ∷ [] }
+    ensures line { take result line.new ≡ encode_lower fields.now ++ 10 ∷ [] }
 {
-    let middle = 2 * head.len();
-    let end = middle + 2 * fields.len();
-    encode(head, line);
-    encode(fields, &mut line[middle..end]);
+    let end = 2 * fields.len();
+    encode(fields, line);
     line[end] = b'\n';
     end + 1
 }
 
 /// Writes the length of two stretches, and them.
-fn put_record<W: Sink>(writer: &mut W, head: &[u8], fields: &[u8]) -> Result<(), Unwritten>
+#[inline(always)]
+fn put_record<W: Sink>(writer: &mut W, head: &[u8; 16], fields: &[u8]) -> Result<(), Unwritten>
     requires short { length head.now + length fields.now ≤ 4294967295 }
     requires unbroken { (W.out writer.old).broken ≡ false }
     ensures { Puts result (W.out writer.old) (W.out writer.new)
         (to_le_bytes w32 (length (head.now ++ fields.now)) ++ (head.now ++ fields.now)) }
 {
-    if head.len() <= SHORT && fields.len() <= SHORT - head.len() {
-        return put_short_record(writer, head, fields);
-    }
-    writer.put(&length_bytes(head, fields))?;
-    writer.put(head)?;
-    writer.put(fields)
+    put_front(writer, head, fields)?;
+    put_some(writer, fields)
 }
 
-/// Writes the length of two stretches of at most 63 bytes, and them, at once.
-fn put_short_record<W: Sink>(writer: &mut W, head: &[u8], fields: &[u8]) -> Result<(), Unwritten>
-    requires short { length head.now + length fields.now ≤ 63 }
+/// Writes bytes, and calls nothing where there are none.
+#[inline(always)]
+pub fn put_some<W: Sink>(writer: &mut W, bytes: &[u8]) -> Result<(), Unwritten>
     requires unbroken { (W.out writer.old).broken ≡ false }
-    ensures { Puts result (W.out writer.old) (W.out writer.new)
-        (to_le_bytes w32 (length (head.now ++ fields.now)) ++ (head.now ++ fields.now)) }
+    ensures { Puts result (W.out writer.old) (W.out writer.new) bytes.now }
 {
-    let mut bytes = [0u8; 67];
-    let end = lay_out(head, fields, &mut bytes);
-    writer.put(&bytes[..end])
+    if bytes.is_empty() {
+        return Ok(());
+    }
+    writer.put(bytes)
 }
 
-/// The length of two stretches, and them, at the start of a buffer; answers how many bytes they are.
-fn lay_out(head: &[u8], fields: &[u8], bytes: &mut [u8; 67]) -> usize
-    requires { length head.now + length fields.now ≤ 63 }
-    ensures within { result ≤ 67 }
-    ensures bytes { take result bytes.new ≡ to_le_bytes w32 (length (head.now ++ fields.now)) ++ (head.now ++ fields.now) }
+/// Writes the length of two stretches, and the first of them.
+fn put_front<W: Sink>(writer: &mut W, head: &[u8; 16], fields: &[u8]) -> Result<(), Unwritten>
+    requires short { length head.now + length fields.now ≤ 4294967295 }
+    requires unbroken { (W.out writer.old).broken ≡ false }
+    ensures { Puts result (W.out writer.old) (W.out writer.new) (to_le_bytes w32 (length (head.now ++ fields.now)) ++ head.now) }
 {
-    let middle = 4 + head.len();
-    let end = middle + fields.len();
+    let mut bytes = [0u8; 20];
+    lay_out(head, fields, &mut bytes);
+    writer.put(&bytes[..20])
+}
+
+/// The same, in a buffer.
+fn lay_out(head: &[u8; 16], fields: &[u8], bytes: &mut [u8; 20])
+    requires { length head.now + length fields.now ≤ 4294967295 }
+    ensures { take 20 bytes.new ≡ to_le_bytes w32 (length (head.now ++ fields.now)) ++ head.now }
+{
     bytes[..4].copy_from_slice(&length_bytes(head, fields));
-    bytes[4..middle].copy_from_slice(head);
-    bytes[middle..end].copy_from_slice(fields);
-    end
+    bytes[4..20].copy_from_slice(head);
 }
 
 /// How many bytes two stretches have.
-fn length_bytes(head: &[u8], fields: &[u8]) -> [u8; 4]
+fn length_bytes(head: &[u8; 16], fields: &[u8]) -> [u8; 4]
     requires { length head.now + length fields.now ≤ 4294967295 }
     ensures { result ≡ to_le_bytes w32 (length (head.now ++ fields.now)) }
 {

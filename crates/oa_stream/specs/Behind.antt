@@ -1,6 +1,6 @@
 -- A buffer between a caller and a writer. (This project's choice.)
-use Rattle.std.specs.Prelude.{ℕ, ◌+◌, ◌-◌, ◌≤◌, List, ◌++◌, length}
-use Rattle.std.proofs.Common.{arith, length-append}
+use Rattle.std.specs.Prelude.{ℕ, ◌+◌, ◌-◌, ◌≤◌, List, ◌++◌, length, take}
+use Rattle.std.proofs.Common.{arith, length-append, length-take}
 use Rattle.oa_stream.specs.declared.behind.Behind.{Behind}
 use Rattle.oa_stream.specs.Sink.{Output}
 
@@ -15,8 +15,12 @@ with_back o back = record {
   broken = o.broken;
 }
 
+-- what is kept back before the writer
+abbrev pub kept_back : {W : Type 0} → Behind W → List ℕ
+kept_back b = take b.back.len b.back.bytes.items
+
 abbrev pub behind : {W : Type 0} → (W → Output) → Behind W → Output
-behind out b = with_back (out b.writer) b.back.bytes.items
+behind out b = with_back (out b.writer) (kept_back b)
 
 -- what is kept back, by the writer and before it
 pub back_keeps : {W : Type 0} (out : W → Output) → ((w : W) → length (out w).kept ≤ (out w).back) → (b : Behind W)
@@ -24,4 +28,6 @@ pub back_keeps : {W : Type 0} (out : W → Output) → ((w : W) → length (out 
 back_keeps out keeps b =
     let inner = keeps b.writer in
     let within = b.back.within in
-    rw (length-append (out b.writer).kept b.back.bytes.items) (omega (arith, inner, within))
+    let places = b.back.places in
+    let few = length-take b.back.len b.back.bytes.items in
+    rw (length-append (out b.writer).kept (kept_back b)) (omega (arith, inner, within, places, few))

@@ -1,6 +1,6 @@
 //! A buffer between a caller and a writer.
 ghost use Rattle.std.specs.Prelude.{◌≡◌, [], false, IfOk};
-ghost use Rattle.oa_stream.specs.Behind.{back_keeps, behind};
+ghost use Rattle.oa_stream.specs.Behind.{back_keeps, behind, kept_back};
 ghost use Rattle.oa_stream.specs.Sink.{Puts};
 
 use crate::stretch::{Back, SIZE};
@@ -19,7 +19,7 @@ pub struct Behind<W> {
 impl<W: Sink + Drop> Behind<W> {
     /// A writer before which nothing is kept back. Err where the 8,192 bytes are refused.
     pub fn new(alloc: Global, writer: W) -> Result<Behind<W>, AllocError>
-        ensures { IfOk result (λ b. (b.writer ≡ writer) × (b.back.bytes.items ≡ [])) }
+        ensures { IfOk result (λ b. (b.writer ≡ writer) × (kept_back b ≡ [])) }
     {
         let back = Back::new(alloc)?;
         Ok(Behind { writer, back })
@@ -28,12 +28,26 @@ impl<W: Sink + Drop> Behind<W> {
     /// Passes on what is kept back.
     fn pass(&mut self) -> Result<(), Unwritten>
         requires unbroken { (W.out self.old.writer).broken ≡ false }
-        ensures empty { IfOk result (λ _. self.new.back.bytes.items ≡ []) }
-        ensures puts { Puts result (W.out self.old.writer) (W.out self.new.writer) self.old.back.bytes.items }
+        ensures empty { IfOk result (λ _. kept_back self.new ≡ []) }
+        ensures puts { Puts result (W.out self.old.writer) (W.out self.new.writer) (kept_back self.old) }
     {
         self.writer.put(self.back.bytes())?;
         self.back.clear();
         Ok(())
+    }
+
+    /// Takes bytes for which there is no room behind what is kept back.
+    #[inline(never)]
+    fn put_past(&mut self, bytes: &[u8]) -> Result<(), Unwritten>
+        requires unbroken { (W.out self.old.writer).broken ≡ false }
+        ensures { Puts result (behind W.out self.old) (behind W.out self.new) bytes.now }
+    {
+        self.pass()?;
+        if bytes.len() <= SIZE {
+            self.back.push(bytes);
+            return Ok(());
+        }
+        self.writer.put(bytes)
     }
 }
 
@@ -42,17 +56,13 @@ impl<W: Sink + Drop> Sink for Behind<W> {
 
     ghost keeps = { back_keeps W.out W.keeps };
 
+    #[inline(always)]
     fn put(&mut self, bytes: &[u8]) -> Result<(), Unwritten> {
         if bytes.len() <= self.back.room() {
             self.back.push(bytes);
             return Ok(());
         }
-        self.pass()?;
-        if bytes.len() <= SIZE {
-            self.back.push(bytes);
-            return Ok(());
-        }
-        self.writer.put(bytes)
+        self.put_past(bytes)
     }
 
     fn deliver(&mut self) -> Result<(), Unwritten> {

@@ -1,5 +1,5 @@
 //! The memory of the buffers: a stretch that was read ahead, and one that waits to be written.
-ghost use Rattle.std.specs.Prelude.{◌≡◌, ◌≤◌, ◌<◌, ◌+◌, ◌++◌, [], length, drop, slice_range, vec_len, vec_capacity, false, IfOk};
+ghost use Rattle.std.specs.Prelude.{◌≡◌, ◌≤◌, ◌<◌, ◌+◌, ◌++◌, [], length, drop, take, slice_range, vec_len, false, IfOk};
 ghost use Rattle.oa_stream.specs.Source.{Loads};
 
 use crate::{Next, Source};
@@ -66,49 +66,54 @@ impl Front {
     }
 }
 
-/// Bytes that were put and are kept back, at most `SIZE`, with the memory for as many.
+/// Bytes that were put and are kept back: the first `len`, at most `SIZE`.
 #[derive(Drop)]
 pub struct Back {
     bytes: Vec<u8>,
-    ghost within: { vec_len bytes ≤ 8192 },
-    ghost places: { 8192 ≤ vec_capacity bytes },
+    len: usize,
+    ghost within: { len ≤ vec_len bytes },
+    ghost places: { vec_len bytes ≡ 8192 },
 }
 
 impl Back {
-    /// No bytes.
+    /// No bytes, with the memory for `SIZE`.
     pub(crate) fn new(alloc: Global) -> Result<Back, AllocError>
-        ensures { IfOk result (λ b. b.bytes.items ≡ []) }
+        ensures { IfOk result (λ b. take b.len b.bytes.items ≡ []) }
     {
-        let bytes = Vec::with_capacity(alloc, SIZE)?;
-        Ok(Back { bytes })
+        let mut bytes = Vec::with_capacity(alloc, SIZE)?;
+        bytes.resize(SIZE, 0)?;
+        Ok(Back { bytes, len: 0 })
     }
 
     /// How many more there is room for.
     pub(crate) fn room(&self) -> usize
-        ensures { result + length self.now.bytes.items ≡ 8192 }
+        ensures { result + self.now.len ≡ 8192 }
     {
-        SIZE - self.bytes.len()
+        SIZE - self.len
     }
 
     /// The bytes.
     pub(crate) fn bytes(&self) -> &[u8]
-        ensures { result.now ≡ self.now.bytes.items }
+        ensures { result.now ≡ take self.now.len self.now.bytes.items }
     {
-        &self.bytes
+        &self.bytes[..self.len]
     }
 
     /// Adds bytes at the end, for which there is room.
+    #[inline(always)]
     pub(crate) fn push(&mut self, bytes: &[u8])
-        requires { length bytes.now + length self.old.bytes.items ≤ 8192 }
-        ensures { self.new.bytes.items ≡ self.old.bytes.items ++ bytes.now }
+        requires { length bytes.now + self.old.len ≤ 8192 }
+        ensures { take self.new.len self.new.bytes.items ≡ take self.old.len self.old.bytes.items ++ bytes.now }
     {
-        self.bytes.extend_from_slice(bytes).unwrap();
+        let end = self.len + bytes.len();
+        self.bytes[self.len..end].copy_from_slice(bytes);
+        self.len = end;
     }
 
     /// Forgets them all.
     pub(crate) fn clear(&mut self)
-        ensures { self.new.bytes.items ≡ [] }
+        ensures { take self.new.len self.new.bytes.items ≡ [] }
     {
-        self.bytes.clear();
+        self.len = 0;
     }
 }

@@ -1,9 +1,27 @@
-use Rattle.std.proofs.Common.{rules}
-use Rattle.oa_share.proofs.Putting.{put_both, put_head}
+use Rattle.std.proofs.Common.{◌+◌, ◌++◌, arith, length, refl, subst}
+use Rattle.std.specs.Int.{to_le_bytes, w32}
+use Rattle.std.proofs.lemmas.Result.{err_from_is_err_and}
+use Rattle.oa_stream.specs.Sink.{Breaks, Puts}
+use Rattle.oa_stream.proofs.Stretches.{breaks_before, puts_then}
+use Rattle.oa_share.specs.Frames.{frame_head}
+use Rattle.oa_share.proofs.Putting.{laid_out}
 use Rattle.oa_share.proofs.outgoing.put_reply_of.Goals as goal
 
-pub returns-in_err-put : goal.returns-in_err-put
-returns-in_err-put g c = put_head c.args.client _ c.args.head.now c.args.fields.now c.requires.some (search rules) c.from_residual.result _ _ c.frame_head.result c.from_residual.ensures.0 c.frame_head.ensures c.in_err-put.ensures
+pub returns-in_err-put_front : goal.returns-in_err-put_front
+returns-in_err-put_front g c =
+    let p = err_from_is_err_and c.from_residual.result c.from_residual.ensures.1 in
+    let head = c.args.head.now in
+    let fields = c.args.fields.now in
+    let n = length head + length fields in
+    let told = c.told-head in
+    rw p.1 (subst (Breaks _ _) (laid_out c.args.client (4 + n) head fields (omega (arith, told)) (omega arith) n refl)
+    (breaks_before _ _ ((frame_head c.args.client (4 + n) ++ to_le_bytes w32 n) ++ head) fields c.in_err-put_front.ensures))
 
 pub returns : goal.returns
-returns g c = put_both c.args.client _ c.args.head.now c.args.fields.now c.requires.some (search rules) c.put_reply.result _ _ _ c.frame_head.result c.frame_head.ensures c.in_ok-put.ensures c.put_reply.ensures
+returns g c =
+    let head = c.args.head.now in
+    let fields = c.args.fields.now in
+    let n = length head + length fields in
+    let told = c.told-head in
+    subst (Puts c.put_some.result _ _) (laid_out c.args.client (4 + n) head fields (omega (arith, told)) (omega arith) n refl)
+    (puts_then c.put_some.result _ _ _ ((frame_head c.args.client (4 + n) ++ to_le_bytes w32 n) ++ head) fields c.in_ok-put_front.ensures c.put_some.ensures)

@@ -1,5 +1,6 @@
 -- What is planned of a call that brings no more than a new value. (This project's choice.)
-use Rattle.std.specs.Prelude.{◌≡◌, ◌⊎◌, List, [], ℕ, None, Ok}
+use Rattle.std.specs.Prelude.{◌≡◌, ◌⊎◌, List, [], ℕ, None, Result, Ok}
+use Rattle.oa_coerce.specs.declared.fault.CoerceFault.{CoerceFault}
 use Rattle.oa_model.specs.Codes.{e_outofmemory, s_ok}
 use Rattle.oa_model.specs.declared.var_type.ValueType.{ValueType}
 use Rattle.oa_record.specs.declared.request.Request.{Request}
@@ -8,6 +9,8 @@ use Rattle.oa_table.specs.declared.event.Event.{Event}
 use Rattle.oa_table.specs.declared.event.Event.TheVariants as events
 use Rattle.oa_table.specs.declared.name.CellName.{CellName}
 use Rattle.oa_table.specs.Events.{BringsNoLocks}
+use Rattle.oa_variant.specs.declared.variant.Variant.{Variant}
+use Rattle.oa_variant.specs.Variants.{unlocked}
 use Rattle.oa_decision.specs.declared.decision.Decision.TheVariants as decisions
 use Rattle.oa_decision.specs.declared.plan.ValuePlan.{ValuePlan}
 use Rattle.oa_decision.specs.declared.plan.ValuePlan.TheVariants.{Answered, Put}
@@ -39,3 +42,7 @@ PlansValue state tag request (Put put) =
 abbrev pub TellsValue : State → ℕ → CellName → ValueType → ReplyValue → Type 0
 TellsValue state tag name declared reply =
     (reply ≡ reply_told tag (reply_value state name declared)) ⊎ (reply ≡ refusal tag e_outofmemory None)
+
+-- an argument becomes this value, which has no locks
+abbrev pub BecomesUnlocked : Result Variant CoerceFault → Variant → Type 0
+BecomesUnlocked due value = (made : Variant) × (due ≡ Ok made) × (value ≡ unlocked made)

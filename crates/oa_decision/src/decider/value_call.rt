@@ -1,11 +1,12 @@
 //! An INVOKE that brings no more than a put's new value, of a property without parameters.
 ghost use Rattle.std.specs.Prelude.{◌≡◌, IfSome, Some};
 ghost use Rattle.oa_checks.specs.Declarations.{kind_of_property};
+ghost use Rattle.oa_coerce.specs.Answers.{coerced};
 ghost use Rattle.oa_record.specs.ValueCalls.{bringing};
 ghost use Rattle.oa_record.specs.declared.request.Request.TheVariants.{Invoke};
 ghost use Rattle.oa_table.specs.Tables.{object_at};
 ghost use Rattle.oa_decision.specs.Cells.{IsKeyless};
-ghost use Rattle.oa_decision.specs.ValuePlans.{PlansValue, TellsValue};
+ghost use Rattle.oa_decision.specs.ValuePlans.{BecomesUnlocked, PlansValue, TellsValue};
 ghost use Rattle.oa_typelib.specs.Members.{lets};
 ghost use Rattle.oa_variant.specs.Variants.{HasZero};
 
@@ -44,7 +45,8 @@ impl Decider<'_> {
                 Some(_) => None,
             },
             Kind::Put => {
-                let value = coerce(self.alloc, value?, declared).ok()?.into_unlocked();
+                let argument = value?;
+                let value = self.put_value(argument, declared)?;
                 Some(ValuePlan::Put(ValuePut {
                     object: head.object,
                     interface: guid,
@@ -53,6 +55,18 @@ impl Decider<'_> {
                 }))
             }
         }
+    }
+
+    /// What the argument of a put becomes as a value of the declared type, without locks. None where it becomes none.
+    #[inline(always)]
+    fn put_value(&self, argument: Variant, declared: ValueType) -> Option<Variant>
+        requires { HasZero declared }
+        ensures { IfSome result (BecomesUnlocked (coerced argument declared)) }
+    {
+        let Ok(value) = coerce(self.alloc, argument, declared) else {
+            return None;
+        };
+        Some(value.into_unlocked())
     }
 
     /// A get tells the value of its cell, or that memory was wanted.

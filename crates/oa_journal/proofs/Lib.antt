@@ -8,6 +8,7 @@ mod LaidOut
 mod Laying
 pub mod Lockless
 mod Opened
+mod ReadOn
 mod Sealing
 mod Shapes
 mod Slices

@@ -1,7 +1,7 @@
 -- What the calls of a bank that stands on a disk answer. (This project's choice.)
-use Rattle.std.specs.Prelude.{◌≡◌, ◌↔◌, ℕ, ◌+◌, ◌≤◌, ◌<◌, IsTrue, true, false, List, length, Result, OnOk, OnErr, IfErr}
-use Rattle.std.specs.Prelude.{IsErrOf}
-use Rattle.oa_disk.specs.Disk.{LeavesStep}
+use Rattle.std.specs.Prelude.{◌≡◌, ◌↔◌, ℕ, ◌+◌, ◌^◌, ◌≤◌, ◌<◌, IsTrue, true, false, List, length, Result, OnOk, OnErr}
+use Rattle.std.specs.Prelude.{IfErr, IsErrOf}
+use Rattle.oa_disk.specs.Disk.{HasBytesAt, LeavesStep}
 use Rattle.oa_disk.specs.declared.disk.DeviceFault.{DeviceFault}
 use Rattle.oa_disk.specs.declared.disk.DeviceFault.TheVariants.{Read}
 use Rattle.oa_disk.specs.declared.disk.Disk.{Ghosts}
@@ -25,6 +25,16 @@ pub record LiesWithin (size : ℕ) (bank : Bank) : Type 0 where
   pub head : bank.head + 32 ≤ size
   pub body : bank.body + body_bytes bank.shape ≤ size
 
+-- a body of so many bytes lies at that place of a disk of this size
+pub record BodyWithin (size place bytes : ℕ) : Type 0 where
+  pub inside : place + bytes ≤ size
+  pub on_a_disk : place + bytes < 2 ^ 63
+
+-- a head lies there too
+pub record PartsWithin (size head place bytes : ℕ) : Type 0 where
+  pub head_inside : head + 32 ≤ size
+  pub body : BodyWithin size place bytes
+
 -- The bank is written with a library and a table, and without groups.
 pub record WritesBank {D T E : Type 0} (g : Ghosts D) (bank : Bank) (library : List ℕ) (table : TableValue)
     (old new : D)
@@ -37,6 +47,15 @@ pub record WritesBank {D T E : Type 0} (g : Ghosts D) (bank : Bank) (library : L
       library (unlocked_table table) (first_gate library table))
   pub others : IsTrue (g.is_honest old)
       → TornBank bank.head bank.body (body_bytes bank.shape) (g.contents old) (g.contents new)
+
+-- A head, and behind the place of a body these bytes, are written.
+pub record LaysOut {D T E : Type 0} (g : Ghosts D) (head body size : ℕ) (header bytes : List ℕ) (old new : D)
+    (result : Result T E) : Type 0 where
+  pub any_moment : IsTrue (g.is_honest old)
+      → LeavesStep g.moment g.image_since g.image old new (TornBank head body size)
+  pub written : OnOk result (IsTrue (g.is_honest old)
+      → HasBytesAt (g.contents new) head header × HasBytesAt (g.contents new) body bytes)
+  pub others : IsTrue (g.is_honest old) → TornBank head body size (g.contents old) (g.contents new)
 
 -- The bank knows its closed gate there, or has stopped.
 pub record MovesGate {T E : Type 0} (gate : ℕ) (old new : Bank) (result : Result T E) : Type 0 where

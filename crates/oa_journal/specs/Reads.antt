@@ -1,7 +1,15 @@
 -- Calls that write nothing. (This project's choice.)
-use Rattle.std.proofs.Common.{◌≡◌, ℕ, List, ◌∙◌}
+use Rattle.std.proofs.Common.{◌≡◌, ℕ, ◌+◌, ◌≤◌, IsTrue, List, Result, IfErr, ◌∙◌}
+use Rattle.std.specs.Prelude.{IsErrOf}
+use Rattle.oa_disk.specs.After.{AfterCalls}
 use Rattle.oa_disk.specs.Disk.{LeavesOnly}
 use Rattle.oa_disk.specs.Moments.{chained}
+use Rattle.oa_disk.specs.declared.disk.DeviceFault.{DeviceFault}
+use Rattle.oa_disk.specs.declared.disk.DeviceFault.TheVariants.{Read}
+use Rattle.oa_disk.specs.declared.disk.Disk.{Ghosts}
+use Rattle.oa_journal.specs.declared.bank.BankFault.{BankFault}
+use Rattle.oa_journal.specs.declared.bank.BankFault.TheVariants.{Device}
+use Rattle.oa_journal.specs.Replies.{IsCaused}
 
 -- At every moment of the calls each image is one of those at their start.
 pub record WritesNothing {D : Type 0} (image : D → List ℕ → Type 0) (moment : D → ℕ)
@@ -15,6 +23,15 @@ pub record OnlyReads {D : Type 0} (contents : D → List ℕ) (image : D → Lis
     (image_since : D → ℕ → List ℕ → Type 0) (old new : D) : Type 0 where
   pub contents_stay : contents new ≡ contents old
   pub writes_nothing : WritesNothing image moment image_since old new
+
+-- Reads, which take so many moments at most and end with the first that fails.
+pub record AfterReads {D T : Type 0} (g : Ghosts D) (moments : ℕ) (old new : D)
+    (result : Result T BankFault) : Type 0 where
+  pub reads : IsTrue (g.is_honest new) → OnlyReads g.contents g.image g.moment g.image_since old new
+  pub calls : AfterCalls g old new result
+  pub device : (fault : DeviceFault) → IsErrOf result (Device fault) → fault ≡ Read
+  pub cause : IfErr result (IsCaused (g.failures_of old) (g.failures_of new))
+  pub most : IsTrue (g.is_honest new) → g.moment new ≤ g.moment old + moments
 
 module _ {D : Type 0} (image : D → List ℕ → Type 0) (moment : D → ℕ) (image_since : D → ℕ → List ℕ → Type 0) where
   -- one run behind the other

@@ -1,11 +1,8 @@
 //! Bytes of a disk that were read ahead: a reader in pieces.
-ghost use Rattle.std.specs.Prelude.{◌≡◌, ◌↔◌, ◌+◌, ◌-◌, ◌<◌, ◌≤◌, ℕ, List, IsTrue, length, take, OnOk, IfErr, IsErrOf};
-ghost use Rattle.oa_disk.specs.After.{AfterCalls};
+ghost use Rattle.std.specs.Prelude.{◌≡◌, ◌↔◌, ◌+◌, ◌≤◌, ℕ, List, IsTrue, length, take, OnOk, IsErrOf};
 ghost use Rattle.oa_disk.specs.Disk.{HasBytesAt};
-ghost use Rattle.oa_disk.specs.declared.disk.DeviceFault.{DeviceFault};
 ghost use Rattle.oa_journal.specs.declared.bank.BankFault.{BankFault};
-ghost use Rattle.oa_journal.specs.Reads.{OnlyReads};
-ghost use Rattle.oa_journal.specs.Replies.{IsCaused};
+ghost use Rattle.oa_journal.specs.Reads.{AfterReads};
 
 use crate::BankFault;
 use oa_disk::Disk;
@@ -22,13 +19,9 @@ fn read_front<D: Disk>(
 
     ensures front { OnOk result (IsTrue (D.is_honest disk.new) → HasBytesAt (D.contents disk.old) at (take count buffer.new)) }
     ensures long { length buffer.new ≡ length buffer.old }
-    ensures damaged { (place : ℕ) → IsErrOf result (BankFault.Damaged place) → ⊥ }
-    ensures device { (fault : DeviceFault) → IsErrOf result (BankFault.Device fault) → fault ≡ DeviceFault.Read }
+    ensures undamaged { (place : ℕ) → IsErrOf result (BankFault.Damaged place) → ⊥ }
 
-    ensures reads { IsTrue (D.is_honest disk.new) → OnlyReads D.contents D.image D.moment D.image_since disk.old disk.new }
-    ensures after { AfterCalls D.Disk disk.old disk.new result }
-    ensures cause { IfErr result (IsCaused (D.failures_of disk.old) (D.failures_of disk.new)) }
-    ensures calls { IsTrue (D.is_honest disk.new) → D.moment disk.new ≤ D.moment disk.old + 2 }
+    ensures after { AfterReads D.Disk 2 disk.old disk.new result }
 {
     disk.read_at(at, &mut buffer[..count])?;
     Ok(())
@@ -45,6 +38,8 @@ pub(crate) struct DiskAhead {
 }
 
 impl DiskAhead {
+    ghost use Rattle.oa_journal.specs.ReadCalls.{IsAhead, StaysAhead};
+
     /// No bytes.
     pub(crate) fn over(buffer: Vec<u8>) -> DiskAhead
         requires { 5 ≤ length buffer.items }
@@ -84,18 +79,13 @@ impl DiskAhead {
         requires inside { at + count ≤ end }
         requires on_the_disk { end ≤ D.size_of disk.old }
         requires fits { count ≤ length self.old.buffer.items }
-        requires shown { IsTrue (D.is_honest disk.old) → HasBytesAt (D.contents disk.old) self.old.from (take self.old.len self.old.buffer.items) }
+        requires ahead { IsAhead D.Disk disk.old self.old }
 
         ensures covers { OnOk result ((self.new.from ≤ at) × (at + count ≤ self.new.from + self.new.len)) }
-        ensures shown { IsTrue (D.is_honest disk.new) → HasBytesAt (D.contents disk.old) self.new.from (take self.new.len self.new.buffer.items) }
-        ensures damaged { (place : ℕ) → IsErrOf result (BankFault.Damaged place) → ⊥ }
-        ensures device { (fault : DeviceFault) → IsErrOf result (BankFault.Device fault) → fault ≡ DeviceFault.Read }
+        ensures undamaged { (place : ℕ) → IsErrOf result (BankFault.Damaged place) → ⊥ }
 
-        ensures reads { IsTrue (D.is_honest disk.new) → OnlyReads D.contents D.image D.moment D.image_since disk.old disk.new }
-        ensures after { AfterCalls D.Disk disk.old disk.new result }
-        ensures cause { IfErr result (IsCaused (D.failures_of disk.old) (D.failures_of disk.new)) }
-        ensures kept { length self.new.buffer.items ≡ length self.old.buffer.items }
-        ensures calls { IsTrue (D.is_honest disk.new) → D.moment disk.new ≤ D.moment disk.old + 2 }
+        ensures ahead { StaysAhead D.Disk disk.old disk.new self.old self.new }
+        ensures after { AfterReads D.Disk 2 disk.old disk.new result }
     {
         if self.from <= at {
             let before = at - self.from;

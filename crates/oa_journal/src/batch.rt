@@ -1,12 +1,12 @@
 //! A group behind a closed gate, which is opened once the group is on the device.
-ghost use Rattle.std.specs.Prelude.{◌≡◌, ◌+◌, ◌*◌, ◌^◌, ◌<◌, ◌≤◌, IsTrue, length, OnOk, IfOk, IfErr};
+ghost use Rattle.std.specs.Prelude.{◌≡◌, ◌+◌, ◌^◌, ◌<◌, ◌≤◌, IsTrue, length, OnOk, IfOk};
 ghost use Rattle.std.specs.Int.{div_ceil};
 ghost use Rattle.oa_disk.specs.After.{AfterWrites};
-ghost use Rattle.oa_disk.specs.Disk.{HasBytesAt, LeavesStep, Follows, CountsFailures};
+ghost use Rattle.oa_disk.specs.Disk.{LeavesStep, Follows};
 ghost use Rattle.oa_disk.specs.Switch.{MaySwitch, HasSwitched};
-ghost use Rattle.oa_disk.specs.declared.disk.DeviceFault.{DeviceFault};
-ghost use Rattle.oa_journal.specs.Append.{group_of, sealed, TornBank};
+ghost use Rattle.oa_journal.specs.Append.{group_of, sealed};
 ghost use Rattle.oa_journal.specs.Bank.{Apart};
+ghost use Rattle.oa_journal.specs.BankCalls.{LaysOut, PartsWithin};
 
 use crate::layout::BodyBytes;
 use oa_disk::{DeviceFault, Disk, write_then_flip};
@@ -60,26 +60,14 @@ pub(crate) fn lay_out<D: Disk>(
 ) -> Result<u64, DeviceFault>
     requires some { 0 < length buffer.old }
     requires few { length bytes.old ≤ size }
-    requires head_inside { head + 32 ≤ D.size_of disk.old }
-    requires body_inside { body + size ≤ D.size_of disk.old }
-    requires on_a_disk { body + size < 2 ^ 63 }
+    requires lies { PartsWithin (D.size_of disk.old) head body size }
     requires apart { Apart head body size }
 
-    ensures any_moment { IsTrue (D.is_honest disk.old)
-        → LeavesStep D.moment D.image_since D.image disk.old disk.new (TornBank head body size) }
-    ensures written { OnOk result (IsTrue (D.is_honest disk.old)
-        → HasBytesAt (D.contents disk.new) head header.now × HasBytesAt (D.contents disk.new) body bytes.old) }
-    ensures others { IsTrue (D.is_honest disk.old) → TornBank head body size (D.contents disk.old) (D.contents disk.new) }
+    ensures lays { LaysOut D.Disk head body size header.now bytes.old disk.old disk.new result }
     ensures long { IfOk result (λ count. count ≡ length bytes.old) }
     ensures buffer { length buffer.new ≡ length buffer.old }
-
-    ensures size { D.size_of disk.new ≡ D.size_of disk.old }
-    ensures honest { D.is_honest disk.new ≡ D.is_honest disk.old }
-    ensures counts { CountsFailures (D.failures_of disk.old) (D.failures_of disk.new) result }
-    ensures fault { IfErr result (λ e. e ≡ DeviceFault.Write) }
     // a call for the head, and one for each piece
-    ensures calls { IsTrue (D.is_honest disk.old)
-        → D.moment disk.new ≤ D.moment disk.old + 2 * (1 + div_ceil (length bytes.old) (length buffer.old)) }
+    ensures after { AfterWrites D.Disk (1 + div_ceil (length bytes.old) (length buffer.old)) disk.old disk.new result }
 {
     disk.write_at(head, header)?;
     let mut at = 0;

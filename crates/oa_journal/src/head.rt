@@ -1,14 +1,12 @@
 //! The head of a bank.
-ghost use Rattle.std.specs.Prelude.{◌≡◌, ◌↔◌, ◌+◌, ◌<◌, ◌≤◌, ℕ, IsTrue, None, slice_index, IfOk, IfSome, IfErr, IsErrOf};
+ghost use Rattle.std.specs.Prelude.{◌≡◌, ◌↔◌, ◌+◌, ◌<◌, ◌≤◌, ℕ, IsTrue, None, slice_index, IfOk, IfSome, IsErrOf};
 ghost use Rattle.oa_disk.specs.After.{AfterCalls};
-ghost use Rattle.oa_disk.specs.declared.disk.DeviceFault.{DeviceFault};
 ghost use Rattle.oa_journal.specs.BankCalls.{FindsHead, RefusesHead};
 ghost use Rattle.oa_journal.specs.declared.bank.BankFault.{BankFault};
 ghost use Rattle.oa_journal.specs.declared.shape.Shape.{Shape as AShape};
 ghost use Rattle.oa_journal.specs.Bank.{from_place, HasHeader};
 ghost use Rattle.oa_journal.specs.Damages.{HasNoHeader};
-ghost use Rattle.oa_journal.specs.Reads.{OnlyReads};
-ghost use Rattle.oa_journal.specs.Replies.{IsCaused};
+ghost use Rattle.oa_journal.specs.Reads.{AfterReads, OnlyReads};
 ghost use Rattle.oa_journal.specs.Shapes.{body_bytes, format_of, told_size, IsShape};
 
 use crate::layout::head_bytes;
@@ -82,12 +80,8 @@ pub(crate) fn head_at<D: Disk>(disk: &mut D, place: u64) -> Result<Head, BankFau
     ensures damaged { (at : ℕ) → IsErrOf result (BankFault.Damaged at)
         → (at ≡ place) × (IsTrue (D.is_honest disk.new) → (shape : AShape) → HasNoHeader shape (from_place place (D.contents disk.old))) }
     ensures memory { IsErrOf result BankFault.Memory → ⊥ }
-    ensures device { (fault : DeviceFault) → IsErrOf result (BankFault.Device fault) → fault ≡ DeviceFault.Read }
 
-    ensures reads { IsTrue (D.is_honest disk.new) → OnlyReads D.contents D.image D.moment D.image_since disk.old disk.new }
-    ensures after { AfterCalls D.Disk disk.old disk.new result }
-    ensures cause { IfErr result (IsCaused (D.failures_of disk.old) (D.failures_of disk.new)) }
-    ensures calls { IsTrue (D.is_honest disk.new) → D.moment disk.new ≤ D.moment disk.old + 2 }
+    ensures after { AfterReads D.Disk 2 disk.old disk.new result }
 {
     let mut bytes = [0; 32];
     disk.read_at(place, &mut bytes)?;

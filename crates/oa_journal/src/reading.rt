@@ -1,17 +1,14 @@
 //! Reading a bank from a disk: its head, and of its body what is used. A part of the body is read when it is looked at.
-ghost use Rattle.std.specs.Prelude.{◌≡◌, ◌↔◌, ◌+◌, ◌-◌, ◌^◌, ◌<◌, ◌≤◌, ℕ, List, IsTrue, length, take, slice_index, OnOk, IfOk, IfErr, IsErrOf, true};
+ghost use Rattle.std.specs.Prelude.{◌≡◌, ◌↔◌, ◌+◌, ◌-◌, ◌<◌, ◌≤◌, ℕ, List, IsTrue, length, slice_index, OnOk, IfOk, IsErrOf};
 ghost use Rattle.std.specs.Int.{to_le_bytes, w32};
-ghost use Rattle.oa_disk.specs.After.{AfterCalls};
 ghost use Rattle.oa_disk.specs.Disk.{HasBytesAt};
-ghost use Rattle.oa_disk.specs.declared.disk.DeviceFault.{DeviceFault};
-ghost use Rattle.oa_image.specs.Tables.{is_numbered};
-ghost use Rattle.oa_table.specs.Tables.{unlocked_table};
 ghost use Rattle.oa_journal.specs.declared.bank.BankFault.{BankFault};
-ghost use Rattle.oa_journal.specs.Bank.{from_place, AreGroups, IsGroupAt, IsBank, HasHeader, HasLibrary};
+ghost use Rattle.oa_journal.specs.Bank.{from_place, IsGroupAt, HasHeader, HasLibrary};
 ghost use Rattle.oa_journal.specs.Damages.{HasNoHeader, HasSnapshot, IsDamagedBank, IsNoGroup, StopsAt};
-ghost use Rattle.oa_journal.specs.Reads.{OnlyReads};
-ghost use Rattle.oa_journal.specs.Replays.{Replays, ReplaysAll};
-ghost use Rattle.oa_journal.specs.Replies.{IsCaused};
+ghost use Rattle.oa_journal.specs.BankCalls.{BodyWithin, PartsWithin};
+ghost use Rattle.oa_journal.specs.ReadCalls.{FindsBank, FindsGroup, FindsGroups, IsAhead, IsStored};
+ghost use Rattle.oa_journal.specs.ReadCalls.{PassesGroup, StaysAhead, StaysStored};
+ghost use Rattle.oa_journal.specs.Reads.{AfterReads};
 ghost use Rattle.oa_journal.specs.Shapes.{body_bytes, IsShape};
 
 use crate::ahead::DiskAhead;
@@ -41,14 +38,10 @@ pub(crate) fn read_part<D: Disk>(
 
     ensures bytes { IfOk result (λ bytes. IsTrue (D.is_honest disk.new) → HasBytesAt (D.contents disk.old) at bytes.items) }
     ensures len { IfOk result (λ bytes. length bytes.items ≡ count) }
-    ensures damaged { (place : ℕ) → IsErrOf result (BankFault.Damaged place) → ⊥ }
+    ensures undamaged { (place : ℕ) → IsErrOf result (BankFault.Damaged place) → ⊥ }
     ensures memory { IsErrOf result BankFault.Memory → disk.new ≡ disk.old }
-    ensures device { (fault : DeviceFault) → IsErrOf result (BankFault.Device fault) → fault ≡ DeviceFault.Read }
 
-    ensures reads { IsTrue (D.is_honest disk.new) → OnlyReads D.contents D.image D.moment D.image_since disk.old disk.new }
-    ensures after { AfterCalls D.Disk disk.old disk.new result }
-    ensures cause { IfErr result (IsCaused (D.failures_of disk.old) (D.failures_of disk.new)) }
-    ensures calls { IsTrue (D.is_honest disk.new) → D.moment disk.new ≤ D.moment disk.old + 2 }
+    ensures after { AfterReads D.Disk 2 disk.old disk.new result }
 {
     let mut bytes = zeros(alloc, count)?;
     disk.read_at(at, &mut bytes)?;
@@ -80,18 +73,13 @@ fn is_open<D: Disk>(
 ) -> Result<bool, BankFault>
     requires inside { at < end }
     requires on_the_disk { end ≤ D.size_of disk.old }
-    requires shown { IsTrue (D.is_honest disk.old) → HasBytesAt (D.contents disk.old) ahead.old.from (take ahead.old.len ahead.old.buffer.items) }
+    requires ahead { IsAhead D.Disk disk.old ahead.old }
 
     ensures opened { IfOk result (λ opened. IsTrue (D.is_honest disk.new) → IsTrue opened ↔ (slice_index (D.contents disk.old) at ≡ 1)) }
-    ensures shown { IsTrue (D.is_honest disk.new) → HasBytesAt (D.contents disk.old) ahead.new.from (take ahead.new.len ahead.new.buffer.items) }
-    ensures damaged { (place : ℕ) → IsErrOf result (BankFault.Damaged place) → ⊥ }
-    ensures device { (fault : DeviceFault) → IsErrOf result (BankFault.Device fault) → fault ≡ DeviceFault.Read }
+    ensures undamaged { (place : ℕ) → IsErrOf result (BankFault.Damaged place) → ⊥ }
 
-    ensures reads { IsTrue (D.is_honest disk.new) → OnlyReads D.contents D.image D.moment D.image_since disk.old disk.new }
-    ensures after { AfterCalls D.Disk disk.old disk.new result }
-    ensures cause { IfErr result (IsCaused (D.failures_of disk.old) (D.failures_of disk.new)) }
-    ensures kept { length ahead.new.buffer.items ≡ length ahead.old.buffer.items }
-    ensures calls { IsTrue (D.is_honest disk.new) → D.moment disk.new ≤ D.moment disk.old + 2 }
+    ensures ahead { StaysAhead D.Disk disk.old disk.new ahead.old ahead.new }
+    ensures after { AfterReads D.Disk 2 disk.old disk.new result }
 {
     ahead.cover(disk, end, at, 1)?;
     Ok(opens(ahead.seen(at, 1)[0]))
@@ -108,19 +96,14 @@ fn group_bytes<D: Disk>(
 ) -> Result<Vec<u8>, BankFault>
     requires inside { at + count ≤ end }
     requires on_the_disk { end ≤ D.size_of disk.old }
-    requires shown { IsTrue (D.is_honest disk.old) → HasBytesAt (D.contents disk.old) ahead.old.from (take ahead.old.len ahead.old.buffer.items) }
+    requires ahead { IsAhead D.Disk disk.old ahead.old }
 
     ensures bytes { IfOk result (λ bytes. IsTrue (D.is_honest disk.new) → HasBytesAt (D.contents disk.old) at bytes.items) }
     ensures len { IfOk result (λ bytes. length bytes.items ≡ count) }
-    ensures shown { IsTrue (D.is_honest disk.new) → HasBytesAt (D.contents disk.old) ahead.new.from (take ahead.new.len ahead.new.buffer.items) }
-    ensures damaged { (place : ℕ) → IsErrOf result (BankFault.Damaged place) → ⊥ }
-    ensures device { (fault : DeviceFault) → IsErrOf result (BankFault.Device fault) → fault ≡ DeviceFault.Read }
+    ensures undamaged { (place : ℕ) → IsErrOf result (BankFault.Damaged place) → ⊥ }
 
-    ensures reads { IsTrue (D.is_honest disk.new) → OnlyReads D.contents D.image D.moment D.image_since disk.old disk.new }
-    ensures after { AfterCalls D.Disk disk.old disk.new result }
-    ensures cause { IfErr result (IsCaused (D.failures_of disk.old) (D.failures_of disk.new)) }
-    ensures kept { length ahead.new.buffer.items ≡ length ahead.old.buffer.items }
-    ensures calls { IsTrue (D.is_honest disk.new) → D.moment disk.new ≤ D.moment disk.old + 2 }
+    ensures ahead { StaysAhead D.Disk disk.old disk.new ahead.old ahead.new }
+    ensures after { AfterReads D.Disk 2 disk.old disk.new result }
 {
     if !ahead.takes(count) {
         return read_part(alloc, disk, at, count);
@@ -152,12 +135,8 @@ fn head_of<D: Disk>(disk: &mut D, shape: Shape, place: u64) -> Result<Head, Bank
     ensures known { IfOk result (λ h. IsShape shape × (h.library + h.snapshot < body_bytes shape)) }
     ensures damaged { (at : ℕ) → IsErrOf result (BankFault.Damaged at)
         → (at ≡ place) × (IsTrue (D.is_honest disk.new) → HasNoHeader shape (from_place place (D.contents disk.old))) }
-    ensures device { (fault : DeviceFault) → IsErrOf result (BankFault.Device fault) → fault ≡ DeviceFault.Read }
 
-    ensures reads { IsTrue (D.is_honest disk.new) → OnlyReads D.contents D.image D.moment D.image_since disk.old disk.new }
-    ensures after { AfterCalls D.Disk disk.old disk.new result }
-    ensures cause { IfErr result (IsCaused (D.failures_of disk.old) (D.failures_of disk.new)) }
-    ensures calls { IsTrue (D.is_honest disk.new) → D.moment disk.new ≤ D.moment disk.old + 2 }
+    ensures after { AfterReads D.Disk 2 disk.old disk.new result }
 {
     let head = head_at(disk, place)?;
     if !is_same(head.shape, shape) {
@@ -174,20 +153,14 @@ pub(crate) fn library_at<D: Disk>(
     head: u64,
     body: u64,
 ) -> Result<Vec<u8>, BankFault>
-    requires head_inside { head + 32 ≤ D.size_of disk.old }
-    requires body_inside { body + body_bytes shape ≤ D.size_of disk.old }
-    requires on_a_disk { body + body_bytes shape < 2 ^ 63 }
+    requires lies { PartsWithin (D.size_of disk.old) head body (body_bytes shape) }
 
     ensures found { IfOk result (λ library. IsTrue (D.is_honest disk.new)
         → HasLibrary shape (from_place head (D.contents disk.old)) (from_place body (D.contents disk.old)) library.items) }
     ensures damaged { (at : ℕ) → IsErrOf result (BankFault.Damaged at)
         → (at ≡ head) × (IsTrue (D.is_honest disk.new) → HasNoHeader shape (from_place head (D.contents disk.old))) }
-    ensures device { (fault : DeviceFault) → IsErrOf result (BankFault.Device fault) → fault ≡ DeviceFault.Read }
 
-    ensures reads { IsTrue (D.is_honest disk.new) → OnlyReads D.contents D.image D.moment D.image_since disk.old disk.new }
-    ensures after { AfterCalls D.Disk disk.old disk.new result }
-    ensures cause { IfErr result (IsCaused (D.failures_of disk.old) (D.failures_of disk.new)) }
-    ensures calls { IsTrue (D.is_honest disk.new) → D.moment disk.new ≤ D.moment disk.old + 4 }
+    ensures after { AfterReads D.Disk 4 disk.old disk.new result }
 {
     let told = head_of(disk, shape, head)?;
     read_part(alloc, disk, body, told.library as usize)
@@ -201,23 +174,16 @@ fn first_at<D: Disk>(
     head: u64,
     body: u64,
 ) -> Result<(Head, Table), BankFault>
-    requires head_inside { head + 32 ≤ D.size_of disk.old }
-    requires body_inside { body + body_bytes shape ≤ D.size_of disk.old }
-    requires on_a_disk { body + body_bytes shape < 2 ^ 63 }
+    requires lies { PartsWithin (D.size_of disk.old) head body (body_bytes shape) }
 
     ensures found { IfOk result (λ r. IsTrue (D.is_honest disk.new)
         → HasSnapshot shape (from_place head (D.contents disk.old)) (from_place body (D.contents disk.old)) r.0.library r.0.snapshot r.1) }
     ensures known { IfOk result (λ r. IsShape shape × (r.0.library + r.0.snapshot < body_bytes shape)) }
-    ensures numbered { IfOk result (λ r. is_numbered r.1 ≡ true) }
-    ensures unlocked { IfOk result (λ r. unlocked_table r.1 ≡ r.1) }
+    ensures stored { IfOk result (λ r. IsStored r.1) }
     ensures damaged { (at : ℕ) → IsErrOf result (BankFault.Damaged at)
         → IsTrue (D.is_honest disk.new) → IsDamagedBank shape head body (D.contents disk.old) at }
-    ensures device { (fault : DeviceFault) → IsErrOf result (BankFault.Device fault) → fault ≡ DeviceFault.Read }
 
-    ensures reads { IsTrue (D.is_honest disk.new) → OnlyReads D.contents D.image D.moment D.image_since disk.old disk.new }
-    ensures after { AfterCalls D.Disk disk.old disk.new result }
-    ensures cause { IfErr result (IsCaused (D.failures_of disk.old) (D.failures_of disk.new)) }
-    ensures calls { IsTrue (D.is_honest disk.new) → D.moment disk.new ≤ D.moment disk.old + 4 }
+    ensures after { AfterReads D.Disk 4 disk.old disk.new result }
 {
     let told = head_of(disk, shape, head)?;
     let at = body + u64::from(told.library);
@@ -238,27 +204,18 @@ fn group_at<D: Disk>(
     size: u32,
     at: u32,
 ) -> Result<Vec<u8>, BankFault>
+    requires lies { BodyWithin (D.size_of disk.old) body size }
     requires inside { at < size }
-    requires body_inside { body + size ≤ D.size_of disk.old }
-    requires on_a_disk { body + size < 2 ^ 63 }
-    requires shown { IsTrue (D.is_honest disk.old) → HasBytesAt (D.contents disk.old) ahead.old.from (take ahead.old.len ahead.old.buffer.items) }
+    requires ahead { IsAhead D.Disk disk.old ahead.old }
 
-    ensures found { IfOk result (λ group. IsTrue (D.is_honest disk.new) → slice_index (D.contents disk.old) (body + at) ≡ 1
-        → IsGroupAt (from_place body (D.contents disk.old)) at group.items) }
-    ensures inside { IfOk result (λ group. at + (5 + length group.items) < size) }
-    ensures some { IfOk result (λ group. 0 < length group.items) }
-    ensures shown { IsTrue (D.is_honest disk.new) → HasBytesAt (D.contents disk.old) ahead.new.from (take ahead.new.len ahead.new.buffer.items) }
+    ensures found { IfOk result (λ group. FindsGroup D.Disk body size at disk.old disk.new group.items) }
     ensures damaged { (place : ℕ) → IsErrOf result (BankFault.Damaged place)
         → (place ≡ body + at) × (IsTrue (D.is_honest disk.new) → (group : List ℕ)
         → IsGroupAt (from_place body (D.contents disk.old)) at group
         → at + (5 + length group) < size → ⊥) }
-    ensures device { (fault : DeviceFault) → IsErrOf result (BankFault.Device fault) → fault ≡ DeviceFault.Read }
 
-    ensures reads { IsTrue (D.is_honest disk.new) → OnlyReads D.contents D.image D.moment D.image_since disk.old disk.new }
-    ensures after { AfterCalls D.Disk disk.old disk.new result }
-    ensures cause { IfErr result (IsCaused (D.failures_of disk.old) (D.failures_of disk.new)) }
-    ensures kept { length ahead.new.buffer.items ≡ length ahead.old.buffer.items }
-    ensures calls { IsTrue (D.is_honest disk.new) → D.moment disk.new ≤ D.moment disk.old + 4 }
+    ensures ahead { StaysAhead D.Disk disk.old disk.new ahead.old ahead.new }
+    ensures after { AfterReads D.Disk 4 disk.old disk.new result }
 {
     let room = size - at;
     let gate = body + u64::from(at);
@@ -287,30 +244,18 @@ fn read_group<D: Disk>(
     at: u32,
     table: &mut Table,
 ) -> Result<u32, BankFault>
+    requires lies { BodyWithin (D.size_of disk.old) body size }
     requires inside { at < size }
-    requires body_inside { body + size ≤ D.size_of disk.old }
-    requires on_a_disk { body + size < 2 ^ 63 }
-    requires small { size < 2 ^ 32 }
-    requires shown { IsTrue (D.is_honest disk.old) → HasBytesAt (D.contents disk.old) ahead.old.from (take ahead.old.len ahead.old.buffer.items) }
+    requires ahead { IsAhead D.Disk disk.old ahead.old }
 
-    ensures found { IfOk result (λ next. IsTrue (D.is_honest disk.new) → slice_index (D.contents disk.old) (body + at) ≡ 1
-        → (group : List ℕ) × IsGroupAt (from_place body (D.contents disk.old)) at group × Replays group table.old table.new
-        × (next ≡ at + (5 + length group))) }
-    ensures numbered { OnOk result (is_numbered table.old ≡ true → is_numbered table.new ≡ true) }
-    ensures unlocked { OnOk result (unlocked_table table.old ≡ table.old → unlocked_table table.new ≡ table.new) }
-    ensures inside { IfOk result (λ next. next < size) }
-    ensures nearer { IfOk result (λ next. at + 6 ≤ next) }
-    ensures shown { IsTrue (D.is_honest disk.new) → HasBytesAt (D.contents disk.old) ahead.new.from (take ahead.new.len ahead.new.buffer.items) }
+    ensures passes { IfOk result (λ next. PassesGroup D.Disk body size at table.old table.new disk.old disk.new next) }
+    ensures stored { OnOk result (StaysStored table.old table.new) }
     ensures damaged { (place : ℕ) → IsErrOf result (BankFault.Damaged place)
         → (place ≡ body + at) × (IsTrue (D.is_honest disk.new) → slice_index (D.contents disk.old) (body + at) ≡ 1
         → IsNoGroup size (from_place body (D.contents disk.old)) at table.old) }
-    ensures device { (fault : DeviceFault) → IsErrOf result (BankFault.Device fault) → fault ≡ DeviceFault.Read }
 
-    ensures reads { IsTrue (D.is_honest disk.new) → OnlyReads D.contents D.image D.moment D.image_since disk.old disk.new }
-    ensures after { AfterCalls D.Disk disk.old disk.new result }
-    ensures cause { IfErr result (IsCaused (D.failures_of disk.old) (D.failures_of disk.new)) }
-    ensures kept { length ahead.new.buffer.items ≡ length ahead.old.buffer.items }
-    ensures calls { IsTrue (D.is_honest disk.new) → D.moment disk.new ≤ D.moment disk.old + 4 }
+    ensures ahead { StaysAhead D.Disk disk.old disk.new ahead.old ahead.new }
+    ensures after { AfterReads D.Disk 4 disk.old disk.new result }
 {
     let group = group_at(alloc, disk, ahead, body, size, at)?;
     match replay(alloc, table, &group) {
@@ -330,30 +275,17 @@ fn read_groups<D: Disk>(
     first: Table,
     buffer: Vec<u8>,
 ) -> Result<(Table, u32, Vec<u8>), BankFault>
+    requires lies { BodyWithin (D.size_of disk.old) body size }
     requires inside { from < size }
-    requires body_inside { body + size ≤ D.size_of disk.old }
-    requires on_a_disk { body + size < 2 ^ 63 }
-    requires small { size < 2 ^ 32 }
-    requires numbered { is_numbered first ≡ true }
-    requires unlocked { unlocked_table first ≡ first }
+    requires stored { IsStored first }
     requires some { 5 ≤ length buffer.items }
 
-    ensures found { IfOk result (λ r. IsTrue (D.is_honest disk.new)
-        → (groups : List (List ℕ)) × AreGroups (from_place body (D.contents disk.old)) from groups r.1 × ReplaysAll groups first r.0) }
-    ensures numbered { IfOk result (λ r. is_numbered r.0 ≡ true) }
-    ensures unlocked { IfOk result (λ r. unlocked_table r.0 ≡ r.0) }
-    ensures inside { IfOk result (λ r. r.1 < size) }
+    ensures found { IfOk result (λ r. FindsGroups D.Disk body size from first disk.old disk.new r.0 r.1) }
     ensures buffer { IfOk result (λ r. length r.2.items ≡ length buffer.items) }
     ensures damaged { (place : ℕ) → IsErrOf result (BankFault.Damaged place) → IsTrue (D.is_honest disk.new)
         → (offset : ℕ) × (place ≡ body + offset) × StopsAt size (from_place body (D.contents disk.old)) from first offset }
-    ensures device { (fault : DeviceFault) → IsErrOf result (BankFault.Device fault) → fault ≡ DeviceFault.Read }
 
-    ensures reads { IsTrue (D.is_honest disk.new) → OnlyReads D.contents D.image D.moment D.image_since disk.old disk.new }
-    ensures after { AfterCalls D.Disk disk.old disk.new result }
-    ensures cause { IfErr result (IsCaused (D.failures_of disk.old) (D.failures_of disk.new)) }
-    // two calls a group, and one more for each gate: no group has fewer than six bytes with its gate
-    ensures most { IsTrue (D.is_honest disk.new) → D.moment disk.new + from ≤ D.moment disk.old + (6 + size) }
-    ensures calls { IfOk result (λ r. IsTrue (D.is_honest disk.new) → D.moment disk.new + from ≤ D.moment disk.old + (2 + r.1)) }
+    ensures after { AfterReads D.Disk (6 + (size - from)) disk.old disk.new result }
 {
     let end = body + u64::from(size);
     let mut ahead = DiskAhead::over(buffer);
@@ -377,26 +309,15 @@ pub(crate) fn bank_at<D: Disk>(
     body: u64,
     buffer: Vec<u8>,
 ) -> Result<(Vec<u8>, Table, u32, Vec<u8>), BankFault>
-    requires head_inside { head + 32 ≤ D.size_of disk.old }
-    requires body_inside { body + body_bytes shape ≤ D.size_of disk.old }
-    requires on_a_disk { body + body_bytes shape < 2 ^ 63 }
+    requires lies { PartsWithin (D.size_of disk.old) head body (body_bytes shape) }
     requires some { 5 ≤ length buffer.items }
 
-    ensures found { IfOk result (λ r. IsTrue (D.is_honest disk.new)
-        → IsBank shape (from_place head (D.contents disk.old)) (from_place body (D.contents disk.old)) r.0.items r.1 r.2) }
-    ensures numbered { IfOk result (λ r. is_numbered r.1 ≡ true) }
-    ensures unlocked { IfOk result (λ r. unlocked_table r.1 ≡ r.1) }
-    ensures gate { IfOk result (λ r. r.2 < body_bytes shape) }
+    ensures found { IfOk result (λ r. FindsBank D.Disk shape head body disk.old disk.new r.0.items r.1 r.2) }
     ensures buffer { IfOk result (λ r. length r.3.items ≡ length buffer.items) }
     ensures damaged { (at : ℕ) → IsErrOf result (BankFault.Damaged at)
         → IsTrue (D.is_honest disk.new) → IsDamagedBank shape head body (D.contents disk.old) at }
-    ensures device { (fault : DeviceFault) → IsErrOf result (BankFault.Device fault) → fault ≡ DeviceFault.Read }
 
-    ensures reads { IsTrue (D.is_honest disk.new) → OnlyReads D.contents D.image D.moment D.image_since disk.old disk.new }
-    ensures after { AfterCalls D.Disk disk.old disk.new result }
-    ensures cause { IfErr result (IsCaused (D.failures_of disk.old) (D.failures_of disk.new)) }
-    ensures calls { IfOk result (λ r. IsTrue (D.is_honest disk.new) → D.moment disk.new + length r.0.items ≤ D.moment disk.old + (8 + r.2)) }
-    ensures most { IsTrue (D.is_honest disk.new) → D.moment disk.new ≤ D.moment disk.old + (12 + body_bytes shape) }
+    ensures after { AfterReads D.Disk (12 + body_bytes shape) disk.old disk.new result }
 {
     let (told, first) = first_at(alloc, disk, shape, head, body)?;
     let library = read_part(alloc, disk, body, told.library as usize)?;

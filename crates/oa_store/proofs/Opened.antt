@@ -14,6 +14,7 @@ use Rattle.oa_journal.specs.declared.bank.Bank.{Bank}
 use Rattle.oa_journal.specs.declared.bank.BankFault.{BankFault}
 use Rattle.oa_journal.specs.declared.bank.BankFault.TheVariants as banks
 use Rattle.oa_journal.specs.Append.{IsAt}
+use Rattle.oa_journal.specs.Shapes.{body_bytes, disk_bytes}
 use Rattle.oa_journal.specs.Damages.{IsDamagedBank, IsDamagedHead}
 use Rattle.oa_journal.proofs.Damages.{bank_library, not_damaged, one_library}
 use Rattle.oa_journal.specs.Replies.{IsCaused as IsBankCaused}
@@ -143,6 +144,11 @@ spoilt Begins contents chosen shape l s at head has begins (inr body) = inr (rec
   damaged = body.2;
   begins = begins;
 })
+
+-- a disk that has room for two banks of a format has it for a body
+pub within_disk : (shape : Shape) → body_bytes shape ≤ disk_bytes shape
+within_disk One = omega arith
+within_disk (Two size) = omega arith
 
 -- a library of a bank lies on the disk
 within : (chosen l s size n : ℕ) → chosen < 2 → 33562624 + 2 * size ≤ n → l + s < size → 33562624 + chosen * size + l ≤ n

@@ -31,6 +31,18 @@ says_early bank size contents (finds.Damaged place) none says = inr (inl says)
 says_early bank size contents (finds.Device fault) none says = tt
 says_early bank size contents finds.Memory none says = absurd (none refl)
 
+-- that the disk has no room for format 2 is no reason of a reading
+pub any_size_early : (e : FindFault) → upgrade_of_finding e ≡ upgrades.TooSmall → ⊥
+any_size_early finds.NotAStore is = absurd cc
+any_size_early (finds.Damaged place) is = absurd cc
+any_size_early (finds.Device fault) is = absurd cc
+any_size_early finds.Memory is = absurd cc
+
+pub any_size_late : (e : BankFault) → upgrade_of_bank e ≡ upgrades.TooSmall → ⊥
+any_size_late (banks.Damaged place) is = absurd cc
+any_size_late (banks.Device fault) is = absurd cc
+any_size_late banks.Memory is = absurd cc
+
 pub caused_early : (before now : ℕ) (e : FindFault) → IsCaused before now (of_finding e) → IsCausedUpgrade before now (upgrade_of_finding e)
 caused_early before now finds.NotAStore is = is
 caused_early before now (finds.Damaged place) is = is

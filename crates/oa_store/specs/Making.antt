@@ -1,12 +1,14 @@
 -- What refusals of a format and of an upgrade say. (This project's choice.)
-use Rattle.std.specs.Prelude.{◌≡◌, ◌↔◌, ◌⊎◌, ℕ, ◌+◌, ◌*◌, ◌<◌, ◌≤◌, IsTrue, List, length, Result, IsErrOf}
+use Rattle.std.specs.Prelude.{◌≡◌, ◌↔◌, ◌⊎◌, ℕ, ◌+◌, ◌*◌, ◌<◌, ◌≤◌, IsTrue, true, List, length, Result, IsErrOf}
+use Rattle.oa_disk.specs.Disk.{Only}
 use Rattle.oa_disk.specs.declared.disk.Disk.{Ghosts}
+use Rattle.oa_image.specs.Tables.{is_numbered}
 use Rattle.oa_journal.specs.Reads.{WritesNothing}
 use Rattle.oa_journal.specs.declared.shape.Shape.TheVariants.{One, Two}
 use Rattle.oa_journal.specs.Shapes.{disk_bytes}
 use Rattle.oa_store.specs.declared.fault.UpgradeFault.{UpgradeFault}
 use Rattle.oa_store.specs.declared.fault.UpgradeFault.TheVariants as upgrades
-use Rattle.oa_store.specs.Calls.{checkpoint_calls}
+use Rattle.oa_store.specs.Calls.{checkpoint_calls, piece_bytes}
 use Rattle.oa_store.specs.Faults.{IsCausedUpgrade, IsRefusedUpgrade, ReadingTells, UpgradeSays, UpgradeDeviceTells}
 use Rattle.oa_store.specs.Stores.{IsStoreAt}
 use Rattle.oa_table.specs.Tables.{TableValue}
@@ -30,6 +32,17 @@ pub record RefusesReading {D : Type 0} (g : Ghosts D) (size : ℕ) (old new : D)
   pub tells : IsTrue (g.is_honest new) → ReadingTells (g.contents old) (g.image old) (g.image new) fault
   -- at most ten calls, and one for two bytes of the disk
   pub calls : IsTrue (g.is_honest new) → g.moment new ≤ g.moment old + (20 + g.size_of old)
+
+-- The store of format 1 that a disk has was found, by at most the calls of a reading, as `inspect` makes them, and
+-- there is a buffer to write the next bank from. Nothing is pending.
+pub record FindsOld {D : Type 0} (g : Ghosts D) (chosen : ℕ) (library : List ℕ) (table : TableValue)
+    (buffer : List ℕ) (old new : D) : Type 0 where
+  pub store : IsTrue (g.is_honest new) → (gate : ℕ) × IsStoreAt One chosen gate library table (g.contents old)
+      × (g.moment new + length library ≤ g.moment old + (16 + gate))
+  pub two : chosen < 2
+  pub numbered : is_numbered table ≡ true
+  pub whole : length buffer ≡ piece_bytes
+  pub synced : IsTrue (g.is_honest new) → Only (g.contents old) (g.image new)
 
 -- An upgrade of a store of format 1 makes at most the calls of a reading, as `inspect` makes them, and those of a
 -- checkpoint.

@@ -21,6 +21,23 @@ use Rattle.oa_store.specs.Stores.{body_place, head_place, store_bytes, IsFormatt
 use Rattle.oa_store.specs.Stores.{IsStoreAt}
 use Rattle.oa_table.specs.Tables.{TableValue, unlocked_table}
 
+-- The disk is formatted, and its selector names this bank. Nothing is pending.
+pub record FindsFormatted {D : Type 0} (g : Ghosts D) (chosen : ℕ) (old new : D) : Type 0 where
+  pub found : IsTrue (g.is_honest new) → IsFormatted chosen (g.contents old)
+  pub two : chosen < 2
+  pub big : store_bytes ≤ g.size_of old
+  pub synced : IsTrue (g.is_honest new) → Only (g.contents old) (g.image new)
+  pub contents : IsTrue (g.is_honest new) → g.contents new ≡ g.contents old
+
+-- It is not formatted, or the device has failed a call.
+pub record RefusesFormatted {D : Type 0} (g : Ghosts D) (old new : D) (fault : FindFault) : Type 0 where
+  pub says : IsTrue (g.is_honest new) → HeadSays (g.size_of old) (g.contents old) fault
+  pub early : ComesOfForeign (of_finding fault)
+  pub cause : IsCaused (g.failures_of old) (g.failures_of new) (of_finding fault)
+  pub tells : IsTrue (g.is_honest new) → DeviceTells (g.contents old) (g.image old) (g.image new) (of_finding fault)
+  -- at most two calls of what is not formatted: the selector of such a disk is not read
+  pub until : IsTrue (g.is_honest new) → g.moment new ≤ g.moment old + moments_until 6 (of_finding fault)
+
 -- The bank that the selector of a disk names was found, with its head. Nothing is pending.
 pub record FindsChosen {D : Type 0} (g : Ghosts D) (chosen : ℕ) (head : Head) (old new : D) : Type 0 where
   pub found : IsTrue (g.is_honest new) → IsFormatted chosen (g.contents old)

@@ -1,16 +1,16 @@
 //! The bytes before the banks: the first one, and the selector.
-ghost use Rattle.std.specs.Prelude.{◌≡◌, ◌+◌, ◌-◌, ◌<◌, ◌≤◌, IsTrue, length, vec_capacity, slice_index, OnOk, IfOk, IfErr, IsErrOf};
+ghost use Rattle.std.specs.Prelude.{◌≡◌, ◌+◌, ◌<◌, ◌≤◌, IsTrue, length, vec_capacity, slice_index, IfOk, IfErr, IsErrOf};
 ghost use Rattle.oa_disk.specs.After.{AfterCalls};
-ghost use Rattle.oa_disk.specs.Disk.{CountsFailures, Only};
+ghost use Rattle.oa_disk.specs.Disk.{CountsFailures};
 ghost use Rattle.oa_disk.specs.declared.disk.DeviceFault.{DeviceFault};
 ghost use Rattle.oa_model.specs.Limits.{max_library_bytes};
 ghost use Rattle.oa_store.specs.declared.fault.FindFault.{FindFault};
 ghost use Rattle.oa_store.specs.Calls.{piece_bytes};
-ghost use Rattle.oa_store.specs.Faults.{of_finding, moments_until, ComesOfForeign, DeviceTells, IsCaused};
-ghost use Rattle.oa_store.specs.Openings.{FindsChosen, RefusesChosen};
+ghost use Rattle.oa_store.specs.Faults.{of_finding, moments_until};
+ghost use Rattle.oa_store.specs.Openings.{FindsChosen, FindsFormatted, RefusesChosen, RefusesFormatted};
 ghost use Rattle.oa_journal.specs.Reads.{WritesNothing};
 ghost use Rattle.oa_journal.specs.Shapes.{body_bytes, disk_bytes, IsShape};
-ghost use Rattle.oa_store.specs.Stores.{store_bytes, body_place, head_place, IsFormatted, IsForeign};
+ghost use Rattle.oa_store.specs.Stores.{store_bytes, body_place, head_place};
 
 use crate::fault::FindFault;
 use oa_disk::{DeviceFault, Disk};
@@ -89,22 +89,12 @@ fn read_byte<D: Disk>(disk: &mut D, at: u64) -> Result<u8, DeviceFault>
 /// The number of the bank that the selector names, on a disk that is formatted. It begins with a sync, so that what it finds is what a
 /// crash leaves.
 pub(crate) fn find_bank<D: Disk>(disk: &mut D) -> Result<u8, FindFault>
-    ensures found { IfOk result (λ chosen. IsTrue (D.is_honest disk.new) → IsFormatted chosen (D.contents disk.old)) }
-    ensures two { IfOk result (λ chosen. chosen < 2) }
-    ensures big { OnOk result (store_bytes ≤ D.size_of disk.old) }
-    ensures synced { OnOk result (IsTrue (D.is_honest disk.new) → Only (D.contents disk.old) (D.image disk.new)) }
-    ensures early { IfErr result (λ e. ComesOfForeign (of_finding e)) }
-    ensures foreign { IsErrOf result FindFault.NotAStore → IsTrue (D.is_honest disk.new)
-        → IsForeign (D.size_of disk.old) (D.contents disk.old) }
-    ensures contents { OnOk result (IsTrue (D.is_honest disk.new) → D.contents disk.new ≡ D.contents disk.old) }
+    ensures found { IfOk result (λ chosen. FindsFormatted D.Disk chosen disk.old disk.new) }
+    ensures refused { IfErr result (λ e. RefusesFormatted D.Disk disk.old disk.new e) }
     ensures reads { IsTrue (D.is_honest disk.new) → WritesNothing D.image D.moment D.image_since disk.old disk.new }
     ensures after { AfterCalls D.Disk disk.old disk.new result }
-    ensures cause { IfErr result (λ e. IsCaused (D.failures_of disk.old) (D.failures_of disk.new) (of_finding e)) }
-    ensures tells { IfErr result (λ e. IsTrue (D.is_honest disk.new)
-        → DeviceTells (D.contents disk.old) (D.image disk.old) (D.image disk.new) (of_finding e)) }
-    // at most three calls, and two of what is not formatted: the selector of such a disk is not read
+    // at most three calls
     ensures calls { IsTrue (D.is_honest disk.new) → D.moment disk.new ≤ D.moment disk.old + 6 }
-    ensures until { IfErr result (λ e. IsTrue (D.is_honest disk.new) → D.moment disk.new ≤ D.moment disk.old + moments_until 6 (of_finding e)) }
 {
     if disk.size() < STORE_BYTES {
         return Err(FindFault::NotAStore);

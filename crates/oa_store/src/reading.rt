@@ -1,20 +1,16 @@
 //! Reading a store.
-ghost use Rattle.std.specs.Prelude.{◌≡◌, ◌↔◌, ◌+◌, ◌-◌, ◌<◌, ◌≤◌, ℕ, true, false, Some, IsTrue, OnOk, IfOk, IfErr, IsErrOf};
+ghost use Rattle.std.specs.Prelude.{◌≡◌, ◌↔◌, ◌+◌, ◌-◌, ◌<◌, ◌≤◌, ℕ, false, Some, IsTrue, IfOk, IfErr, IsErrOf};
 ghost use Rattle.std.specs.Prelude.{length, vec_capacity};
 ghost use Rattle.oa_model.specs.Limits.{max_library_bytes};
 ghost use Rattle.oa_disk.specs.After.{AfterCalls};
-ghost use Rattle.oa_disk.specs.declared.disk.DeviceFault.{DeviceFault};
-ghost use Rattle.oa_image.specs.Tables.{is_numbered};
-ghost use Rattle.oa_table.specs.Tables.{unlocked_table};
 ghost use Rattle.oa_journal.specs.Append.{IsAt};
-ghost use Rattle.oa_journal.specs.Bank.{from_place, IsBank, HasLibrary};
-ghost use Rattle.oa_journal.specs.Damages.{HasNoHeader, IsDamagedBank};
-ghost use Rattle.oa_journal.specs.Reads.{WritesNothing};
-ghost use Rattle.oa_journal.specs.Shapes.{body_bytes, disk_bytes, IsShape};
-ghost use Rattle.oa_journal.specs.Replies.{IsCaused};
+ghost use Rattle.oa_journal.specs.Damages.{IsDamagedBank};
+ghost use Rattle.oa_journal.specs.ReadCalls.{FindsBank};
+ghost use Rattle.oa_journal.specs.Reads.{AfterReads, WritesNothing};
+ghost use Rattle.oa_journal.specs.Shapes.{body_bytes, IsShape};
 ghost use Rattle.oa_journal.specs.declared.bank.BankFault.{BankFault};
 ghost use Rattle.oa_store.specs.Openings.{Finds, FindsAny, Refuses, RefusesAny};
-ghost use Rattle.oa_store.specs.Stores.{body_place, head_place};
+ghost use Rattle.oa_store.specs.Stores.{body_place, head_place, BankWithin};
 
 use crate::OpenFault;
 use crate::head::{Room, body_place, buffer, find_head, find_room, head_place};
@@ -37,57 +33,6 @@ fn same(one: &[u8], other: &[u8]) -> bool
     ensures { IsTrue result ↔ (one.now ≡ other.now) }
 {
     one == other
-}
-
-/// The library of a bank, from its head and its text alone.
-fn read_library<D: Disk>(alloc: Global, disk: &mut D, bank: &mut Bank) -> Result<Vec<u8>, BankFault>
-    requires inside { bank.old.head + 32 ≤ D.size_of disk.old }
-    requires body_inside { bank.old.body + body_bytes bank.old.shape ≤ D.size_of disk.old }
-    ensures found { IfOk result (λ text. IsTrue (D.is_honest disk.new)
-        → HasLibrary bank.old.shape (from_place bank.old.head (D.contents disk.old)) (from_place bank.old.body (D.contents disk.old))
-        text.items) }
-    ensures bank { OnOk result (bank.new ≡ bank.old) }
-    ensures damaged { (at : ℕ) → IsErrOf result (BankFault.Damaged at) → IsTrue (D.is_honest disk.new)
-        → HasNoHeader bank.old.shape (from_place bank.old.head (D.contents disk.old)) }
-    ensures device { (fault : DeviceFault) → IsErrOf result (BankFault.Device fault) → fault ≡ DeviceFault.Read }
-    ensures cause { IfErr result (IsCaused (D.failures_of disk.old) (D.failures_of disk.new)) }
-    ensures contents { IsTrue (D.is_honest disk.new) → D.contents disk.new ≡ D.contents disk.old }
-    ensures reads { IsTrue (D.is_honest disk.new) → WritesNothing D.image D.moment D.image_since disk.old disk.new }
-    ensures after { AfterCalls D.Disk disk.old disk.new result }
-    ensures calls { IsTrue (D.is_honest disk.new) → D.moment disk.new ≤ D.moment disk.old + 4 }
-{
-    bank.read_library(alloc, disk)
-}
-
-/// The library of a bank, and its table after its groups.
-fn read_all<D: Disk>(
-    alloc: Global,
-    disk: &mut D,
-    bank: &mut Bank,
-    buffer: Vec<u8>,
-) -> Result<(Vec<u8>, Table, Vec<u8>), BankFault>
-    requires some { 5 ≤ length buffer.items }
-    requires inside { bank.old.head + 32 ≤ D.size_of disk.old }
-    requires body_inside { bank.old.body + body_bytes bank.old.shape ≤ D.size_of disk.old }
-    ensures found { IfOk result (λ r. IsTrue (D.is_honest disk.new)
-        → IsBank bank.old.shape (from_place bank.old.head (D.contents disk.old)) (from_place bank.old.body (D.contents disk.old))
-        r.0.items r.1 bank.new.gate) }
-    ensures numbered { IfOk result (λ r. is_numbered r.1 ≡ true) }
-    ensures unlocked { IfOk result (λ r. unlocked_table r.1 ≡ r.1) }
-    ensures buffer { IfOk result (λ r. length r.2.items ≡ length buffer.items) }
-    ensures bank { IfOk result (λ r. IsAt bank.old.shape bank.old.head bank.old.body bank.new.gate bank.old.stopped bank.new) }
-    ensures damaged { (at : ℕ) → IsErrOf result (BankFault.Damaged at) → IsTrue (D.is_honest disk.new)
-        → IsDamagedBank bank.old.shape bank.old.head bank.old.body (D.contents disk.old) at }
-    ensures device { (fault : DeviceFault) → IsErrOf result (BankFault.Device fault) → fault ≡ DeviceFault.Read }
-    ensures cause { IfErr result (IsCaused (D.failures_of disk.old) (D.failures_of disk.new)) }
-    ensures contents { IsTrue (D.is_honest disk.new) → D.contents disk.new ≡ D.contents disk.old }
-    ensures reads { IsTrue (D.is_honest disk.new) → WritesNothing D.image D.moment D.image_since disk.old disk.new }
-    ensures after { AfterCalls D.Disk disk.old disk.new result }
-    ensures calls { IfOk result (λ r. IsTrue (D.is_honest disk.new)
-        → D.moment disk.new + length r.0.items ≤ D.moment disk.old + (8 + bank.new.gate)) }
-    ensures most { IsTrue (D.is_honest disk.new) → D.moment disk.new ≤ D.moment disk.old + (12 + D.size_of disk.old) }
-{
-    bank.read_all(alloc, disk, buffer)
 }
 
 /// The bank of that number in that format.
@@ -130,12 +75,12 @@ pub(crate) fn find_store<D: Disk>(
         library: mut kept,
     } = found;
     let mut bank = bank_of(head.shape, chosen);
-    let text = read_library(alloc, disk, &mut bank)?;
+    let text = bank.read_library(alloc, disk)?;
     if !same(&text, library) {
         return Err(OpenFault::LibraryDiffers);
     }
     kept.extend_from_slice(library).unwrap();
-    let (_, table, buffer) = read_all(alloc, disk, &mut bank, buffer)?;
+    let (_, table, buffer) = bank.read_all(alloc, disk, buffer)?;
     Ok(Found {
         library: kept,
         table,
@@ -154,28 +99,16 @@ pub(crate) fn look<D: Disk>(
     buffer: Vec<u8>,
 ) -> Result<(Vec<u8>, Table, Bank, Vec<u8>), BankFault>
     requires some { 5 ≤ length buffer.items }
-    requires two { chosen < 2 }
-    requires known { IsShape shape }
-    requires room { disk_bytes shape ≤ D.size_of disk.old }
-    ensures found { IfOk result (λ r. IsTrue (D.is_honest disk.new)
-        → IsBank shape (from_place (head_place chosen) (D.contents disk.old)) (from_place (body_place shape chosen) (D.contents disk.old))
-        r.0.items r.1 r.2.gate) }
-    ensures numbered { IfOk result (λ r. is_numbered r.1 ≡ true) }
-    ensures unlocked { IfOk result (λ r. unlocked_table r.1 ≡ r.1) }
+    requires lies { BankWithin (D.size_of disk.old) shape chosen }
+    ensures found { IfOk result (λ r. FindsBank D.Disk shape (head_place chosen) (body_place shape chosen) disk.old disk.new r.0.items r.1
+        r.2.gate) }
     ensures buffer { IfOk result (λ r. length r.3.items ≡ length buffer.items) }
     ensures damaged { (at : ℕ) → IsErrOf result (BankFault.Damaged at) → IsTrue (D.is_honest disk.new)
         → IsDamagedBank shape (head_place chosen) (body_place shape chosen) (D.contents disk.old) at }
-    ensures device { (fault : DeviceFault) → IsErrOf result (BankFault.Device fault) → fault ≡ DeviceFault.Read }
-    ensures cause { IfErr result (IsCaused (D.failures_of disk.old) (D.failures_of disk.new)) }
-    ensures contents { IsTrue (D.is_honest disk.new) → D.contents disk.new ≡ D.contents disk.old }
-    ensures reads { IsTrue (D.is_honest disk.new) → WritesNothing D.image D.moment D.image_since disk.old disk.new }
-    ensures after { AfterCalls D.Disk disk.old disk.new result }
-    ensures calls { IfOk result (λ r. IsTrue (D.is_honest disk.new)
-        → D.moment disk.new + length r.0.items ≤ D.moment disk.old + (8 + r.2.gate)) }
-    ensures most { IsTrue (D.is_honest disk.new) → D.moment disk.new ≤ D.moment disk.old + (12 + D.size_of disk.old) }
+    ensures after { AfterReads D.Disk (12 + D.size_of disk.old) disk.old disk.new result }
 {
     let mut bank = bank_of(shape, chosen);
-    let (library, table, buffer) = read_all(alloc, disk, &mut bank, buffer)?;
+    let (library, table, buffer) = bank.read_all(alloc, disk, buffer)?;
     Ok((library, table, bank, buffer))
 }
 

@@ -1,16 +1,14 @@
 //! Going on in the other bank.
-ghost use Rattle.std.specs.Prelude.{◌≡◌, ◌+◌, ◌-◌, ◌<◌, ◌≤◌, IsTrue, length, OnOk, IfOk, true, false};
+ghost use Rattle.std.specs.Prelude.{◌≡◌, ◌+◌, ◌-◌, ◌<◌, length, IfOk, true, false};
 ghost use Rattle.std.specs.Int.{div_ceil};
-ghost use Rattle.oa_disk.specs.After.{AfterWrites};
-ghost use Rattle.oa_disk.specs.Disk.{LeavesStep, Follows};
+ghost use Rattle.oa_disk.specs.After.{AfterWrites, Leaves};
 ghost use Rattle.oa_image.specs.Tables.{is_numbered};
 ghost use Rattle.oa_table.specs.Tables.{unlocked_table};
 ghost use Rattle.oa_journal.specs.Append.{IsAt};
 ghost use Rattle.oa_journal.specs.Banks.{first_gate};
 ghost use Rattle.oa_journal.specs.declared.shape.Shape.TheVariants.{Two};
-ghost use Rattle.oa_journal.specs.Shapes.{disk_bytes, least_bank_bytes, most_bank_bytes};
 ghost use Rattle.oa_store.specs.Changes.{IsMove, IsMoved};
-ghost use Rattle.oa_store.specs.Stores.{body_place, head_place};
+ghost use Rattle.oa_store.specs.Stores.{body_place, head_place, BankWithin};
 
 use crate::head::SELECTOR;
 use crate::reading::bank_of;
@@ -29,19 +27,13 @@ pub(crate) fn switch_to<D: Disk>(
     table: &Table,
 ) -> Result<Bank, DeviceFault>
     requires some { 0 < length buffer.old }
-    requires two { chosen < 2 }
-    requires least { least_bank_bytes ≤ size }
-    requires most { size ≤ most_bank_bytes }
+    requires lies { BankWithin (D.size_of disk.old) (Two size) chosen }
     requires fits { first_gate library.now table.now < size }
     requires numbered { is_numbered table.now ≡ true }
-    requires room { disk_bytes (Two size) ≤ D.size_of disk.old }
 
-    ensures any_moment { IsTrue (D.is_honest disk.old)
-        → LeavesStep D.moment D.image_since D.image disk.old disk.new
-        (IsMove chosen size (first_gate library.now table.now) library.now (unlocked_table table.now)) }
-    ensures done { OnOk result (IsTrue (D.is_honest disk.old)
-        → Follows (IsMoved chosen size (first_gate library.now table.now) library.now (unlocked_table table.now)) (D.image disk.old)
-        (D.image disk.new)) }
+    ensures leaves { Leaves D.Disk
+        (IsMove chosen size (first_gate library.now table.now) library.now (unlocked_table table.now))
+        (IsMoved chosen size (first_gate library.now table.now) library.now (unlocked_table table.now)) disk.old disk.new result }
     ensures bank { IfOk result (IsAt (Two size) (head_place (1 - chosen)) (body_place (Two size) (1 - chosen))
         (first_gate library.now table.now) false) }
     ensures buffer { length buffer.new ≡ length buffer.old }

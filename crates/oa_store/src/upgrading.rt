@@ -1,20 +1,18 @@
 //! Bringing a store of format 1 to format 2.
-ghost use Rattle.std.specs.Prelude.{◌≡◌, ◌+◌, ◌-◌, ◌<◌, ◌≤◌, List, ℕ, IsTrue, length, OnOk, IfOk, IfErr};
-ghost use Rattle.std.specs.Prelude.{IsErrOf, true};
+ghost use Rattle.std.specs.Prelude.{◌+◌, ◌-◌, ◌<◌, ◌≤◌, List, ℕ, IsTrue, length, OnOk, IfOk, IfErr};
 ghost use Rattle.oa_disk.specs.After.{AfterCalls};
 ghost use Rattle.oa_disk.specs.Disk.{LeavesStep, Only};
-ghost use Rattle.oa_image.specs.Tables.{FitsBank, is_numbered};
+ghost use Rattle.oa_image.specs.Tables.{FitsBank};
 ghost use Rattle.oa_model.specs.Limits.{max_library_bytes};
 ghost use Rattle.oa_table.specs.Tables.{TableValue};
 ghost use Rattle.oa_journal.specs.Reads.{WritesNothing};
 ghost use Rattle.oa_journal.specs.Shapes.{least_bank_bytes, most_bank_bytes};
 ghost use Rattle.oa_journal.specs.declared.shape.Shape.TheVariants.{One, Two};
 ghost use Rattle.oa_store.specs.declared.fault.UpgradeFault.{UpgradeFault};
-ghost use Rattle.oa_store.specs.Calls.{piece_bytes};
 ghost use Rattle.oa_store.specs.Changes.{IsUpgrade};
-ghost use Rattle.oa_store.specs.Faults.{CanBeBrought, IsBrought, IsCausedUpgrade, ReadingTells, UpgradeSays};
-ghost use Rattle.oa_store.specs.Making.{CallsForUpgrade, RefusesReading, RefusesSmall, RefusesUpgrade};
-ghost use Rattle.oa_store.specs.Stores.{IsStoreAt, IsStoreIn};
+ghost use Rattle.oa_store.specs.Faults.{CanBeBrought, IsBrought};
+ghost use Rattle.oa_store.specs.Making.{CallsForUpgrade, FindsOld, RefusesReading, RefusesSmall, RefusesUpgrade};
+ghost use Rattle.oa_store.specs.Stores.{IsStoreAt};
 
 use crate::UpgradeFault;
 use crate::head::{buffer, find_head};
@@ -39,18 +37,9 @@ struct Old {
 
 /// The store of format 1 that is on the disk. It writes nothing, and begins with a sync.
 fn find_old<D: Disk>(alloc: Global, disk: &mut D) -> Result<Old, UpgradeFault>
-    ensures found { IfOk result (λ o. IsTrue (D.is_honest disk.new)
-        → (gate : ℕ) × IsStoreAt One o.chosen gate o.library.items o.table (D.contents disk.old)
-        × (D.moment disk.new + length o.library.items ≤ D.moment disk.old + (16 + gate))) }
-    ensures two { IfOk result (λ o. o.chosen < 2) }
-    ensures numbered { IfOk result (λ o. is_numbered o.table ≡ true) }
-    ensures buffer { IfOk result (λ o. length o.buffer.items ≡ piece_bytes) }
-    ensures synced { OnOk result (IsTrue (D.is_honest disk.new) → Only (D.contents disk.old) (D.image disk.new)) }
-    ensures says { IfErr result (λ e. IsTrue (D.is_honest disk.new) → (bank : ℕ) → UpgradeSays bank (D.size_of disk.old) (D.contents disk.old) e) }
-    ensures cause { IfErr result (IsCausedUpgrade (D.failures_of disk.old) (D.failures_of disk.new)) }
-    ensures tells { IfErr result (λ e. IsTrue (D.is_honest disk.new)
-        → ReadingTells (D.contents disk.old) (D.image disk.old) (D.image disk.new) e) }
-    ensures small { IsErrOf result UpgradeFault.TooSmall → ⊥ }
+    ensures found { IfOk result (λ o. FindsOld D.Disk o.chosen o.library.items o.table o.buffer.items disk.old disk.new) }
+    // of bodies of whichever size
+    ensures refused { IfErr result (λ e. (size : ℕ) → RefusesReading D.Disk size disk.old disk.new e) }
     ensures reads { IsTrue (D.is_honest disk.new) → WritesNothing D.image D.moment D.image_since disk.old disk.new }
     ensures after { AfterCalls D.Disk disk.old disk.new result }
     ensures most { IsTrue (D.is_honest disk.new) → D.moment disk.new ≤ D.moment disk.old + (20 + D.size_of disk.old) }
@@ -74,15 +63,9 @@ fn find_old<D: Disk>(alloc: Global, disk: &mut D) -> Result<Old, UpgradeFault>
 /// The same, where a server takes its library, and a body of that size its table.
 fn find_fitting<D: Disk>(alloc: Global, disk: &mut D, size: u32) -> Result<Old, UpgradeFault>
     requires { least_bank_bytes ≤ size }
-    ensures found { IfOk result (λ o. IsTrue (D.is_honest disk.new)
-        → (gate : ℕ) × IsStoreAt One o.chosen gate o.library.items o.table (D.contents disk.old)
-        × (D.moment disk.new + length o.library.items ≤ D.moment disk.old + (16 + gate))) }
-    ensures two { IfOk result (λ o. o.chosen < 2) }
-    ensures numbered { IfOk result (λ o. is_numbered o.table ≡ true) }
+    ensures found { IfOk result (λ o. FindsOld D.Disk o.chosen o.library.items o.table o.buffer.items disk.old disk.new) }
     ensures short { IfOk result (λ o. length o.library.items ≤ max_library_bytes) }
     ensures fits { IfOk result (λ o. FitsBank size o.table) }
-    ensures buffer { IfOk result (λ o. length o.buffer.items ≡ piece_bytes) }
-    ensures synced { OnOk result (IsTrue (D.is_honest disk.new) → Only (D.contents disk.old) (D.image disk.new)) }
     ensures refused { IfErr result (λ e. RefusesReading D.Disk size disk.old disk.new e) }
     ensures reads { IsTrue (D.is_honest disk.new) → WritesNothing D.image D.moment D.image_since disk.old disk.new }
     ensures after { AfterCalls D.Disk disk.old disk.new result }

@@ -1,4 +1,4 @@
-use Rattle.std.proofs.Common.{◌≡◌, ◌+◌, ◌-◌, ◌≤◌, ◌<◌, min, refl, length, take, drop, arith, ap, subst, ◌∙◌, rules, List, ℕ, length-drop}
+use Rattle.std.proofs.Common.{◌≡◌, ◌+◌, ◌-◌, ◌≤◌, ◌<◌, min, refl, length, take, drop, arith, ap, subst, ◌∙◌, rules, List, ℕ, IsTrue, length-drop}
 use Rattle.std.proofs.lemmas.List.{drop-drop}
 use Rattle.std.proofs.Math.Seq.{take_all}
 use Rattle.oa_disk.specs.Disk.{HasBytesAt}
@@ -38,8 +38,8 @@ pieces-preserved g c =
       failures = (search rules) ∙ so_far.failures;
     }
 
-pub returns-in_err-write_at-2-clause-any_moment : goal.returns-in_err-write_at-2-clause-any_moment
-returns-in_err-write_at-2-clause-any_moment g c h =
+pub returns-in_err-write_at-2-clause-lays : goal.returns-in_err-write_at-2-clause-lays
+returns-in_err-write_at-2-clause-lays g c =
     let d = g.D.Disk in
     let all = c.args.bytes.now in
     let at = c.pieces.at in
@@ -50,52 +50,54 @@ returns-in_err-write_at-2-clause-any_moment g c h =
     let left : length c.pieces.bytes ≡ length all - at = ap length so_far.left ∙ length-drop at all in
     let enough : at + n ≤ length all = omega (arith, c.fill-count.ensures.many, left, so_far.enough) in
     let fits : c.args.body + at + length piece ≤ c.args.body + c.args.size = omega (arith, given.1, enough, c.requires.few) in
-    let h1 = so_far.honest ∙ h in
-    (tears_more d.contents d.image d.moment d.image_since c.args.head c.args.body c.args.size c.args.disk.now c.pieces.disk c.write_at-in-pieces.new.self (c.args.body + at) (length piece) (so_far.tears h) (omega arith) fits (c.write_at-in-pieces.ensures.writes h1) (c.write_at-in-pieces.ensures.time h1)).run
+    let tears = λ (h : IsTrue (d.is_honest c.args.disk.now)). let h1 = so_far.honest ∙ h in
+    tears_more d.contents d.image d.moment d.image_since c.args.head c.args.body c.args.size c.args.disk.now c.pieces.disk c.write_at-in-pieces.new.self (c.args.body + at) (length piece) (so_far.tears h) (omega arith) fits (c.write_at-in-pieces.ensures.writes h1) (c.write_at-in-pieces.ensures.time h1) in
+    record { any_moment = λ h. (tears h).run; written = search rules; others = λ h. (tears h).others }
 
-pub returns-in_err-write_at-2-clause-others : goal.returns-in_err-write_at-2-clause-others
-returns-in_err-write_at-2-clause-others g c h =
+pub returns-in_err-write_at-clause-lays : goal.returns-in_err-write_at-clause-lays
+returns-in_err-write_at-clause-lays g c =
     let d = g.D.Disk in
-    let all = c.args.bytes.now in
-    let at = c.pieces.at in
-    let n = c.fill-count.result in
-    let piece = take n c.fill-count.new.out in
-    let so_far = c.pieces.invariant in
-    let given = given_front c.pieces.bytes c.fill-count.new.self c.pieces.buffer c.fill-count.new.out n c.fill-count.ensures in
-    let left : length c.pieces.bytes ≡ length all - at = ap length so_far.left ∙ length-drop at all in
-    let enough : at + n ≤ length all = omega (arith, c.fill-count.ensures.many, left, so_far.enough) in
-    let fits : c.args.body + at + length piece ≤ c.args.body + c.args.size = omega (arith, given.1, enough, c.requires.few) in
-    let h1 = so_far.honest ∙ h in
-    (tears_more d.contents d.image d.moment d.image_since c.args.head c.args.body c.args.size c.args.disk.now c.pieces.disk c.write_at-in-pieces.new.self (c.args.body + at) (length piece) (so_far.tears h) (omega arith) fits (c.write_at-in-pieces.ensures.writes h1) (c.write_at-in-pieces.ensures.time h1)).others
+    let tears = λ (h : IsTrue (d.is_honest c.args.disk.now)). tears_head d.contents d.image d.moment d.image_since c.args.head c.args.body c.args.size c.args.disk.now c.write_at.new.self (length c.args.header.now) (λ f left. g.met.D.Disk.only_now c.args.disk.now f h left) c.told-header (c.write_at.ensures.writes h) (c.write_at.ensures.time h) in
+    record { any_moment = λ h. (tears h).run; written = search rules; others = λ h. (tears h).others }
 
-pub returns-in_err-write_at-clause-any_moment : goal.returns-in_err-write_at-clause-any_moment
-returns-in_err-write_at-clause-any_moment g c h =
-    let d = g.D.Disk in
-    (tears_head d.contents d.image d.moment d.image_since c.args.head c.args.body c.args.size c.args.disk.now c.write_at.new.self (length c.args.header.now) (λ f left. g.met.D.Disk.only_now c.args.disk.now f h left) c.told-header (c.write_at.ensures.writes h) (c.write_at.ensures.time h)).run
-
-pub returns-then-count-eq0-clause-written : goal.returns-then-count-eq0-clause-written
-returns-then-count-eq0-clause-written g c h =
-    let d = g.D.Disk in
+pub returns-then-count-eq0-clause-lays : goal.returns-then-count-eq0-clause-lays
+returns-then-count-eq0-clause-lays g c =
     let all = c.args.bytes.now in
     let so_far = c.pieces.invariant in
     let left : length c.pieces.bytes ≡ length all - c.pieces.at = ap length so_far.left ∙ length-drop c.pieces.at all in
     let done : length all ≤ c.pieces.at = omega (arith, c.fill-count.ensures.many, left, so_far.enough, so_far.buffer, c.requires.some, c.if-count-eq0.true) in
-    (so_far.titled h, subst (λ (x : List ℕ). HasBytesAt (d.contents c.pieces.disk) c.args.body x) (take_all c.pieces.at all done) (so_far.held h))
+    record {
+      any_moment = λ h. (so_far.tears h).run;
+      written = λ h. (so_far.titled h, subst (λ (x : List ℕ). HasBytesAt (g.D.Disk.contents c.pieces.disk) c.args.body x) (take_all c.pieces.at all done) (so_far.held h));
+      others = λ h. (so_far.tears h).others;
+    }
 
-pub returns-then-count-eq0-clause-calls : goal.returns-then-count-eq0-clause-calls
-returns-then-count-eq0-clause-calls g c h =
-    let so_far = c.pieces.invariant in
-    counted _ _ (length c.args.buffer.now) c.pieces.at (length c.args.bytes.now) (so_far.calls h) so_far.enough c.requires.some
+pub returns-then-count-eq0-clause-after : goal.returns-then-count-eq0-clause-after
+returns-then-count-eq0-clause-after g c = record {
+  size = search rules;
+  honest = search rules;
+  counts = search rules;
+  fault = search rules;
+  calls = λ h.
+      let so_far = c.pieces.invariant in
+      counted _ _ (length c.args.buffer.now) c.pieces.at (length c.args.bytes.now) (so_far.calls h) so_far.enough c.requires.some;
+}
 
-pub returns-in_err-write_at-2-clause-calls : goal.returns-in_err-write_at-2-clause-calls
-returns-in_err-write_at-2-clause-calls g c h =
-    let all = c.args.bytes.now in
-    let at = c.pieces.at in
-    let n = c.fill-count.result in
-    let so_far = c.pieces.invariant in
-    let left : length c.pieces.bytes ≡ length all - at = ap length so_far.left ∙ length-drop at all in
-    let some : 0 < n = omega (arith, c.if-count-eq0.false) in
-    let most : n ≡ min (length c.args.buffer.now) (length all - at) = omega (arith, c.fill-count.ensures.many, left, so_far.buffer) in
-    let enough : at + n ≤ length all = omega (arith, most, so_far.enough) in
-    let more = one_more _ _ _ (length c.args.buffer.now) at (length all) n (so_far.calls h) (c.write_at-in-pieces.ensures.time (so_far.honest ∙ h)).soon some most in
-    counted _ _ (length c.args.buffer.now) (at + n) (length all) more enough c.requires.some
+pub returns-in_err-write_at-2-clause-after : goal.returns-in_err-write_at-2-clause-after
+returns-in_err-write_at-2-clause-after g c = record {
+  size = search rules;
+  honest = search rules;
+  counts = search rules;
+  fault = search rules;
+  calls = λ h.
+      let all = c.args.bytes.now in
+      let at = c.pieces.at in
+      let n = c.fill-count.result in
+      let so_far = c.pieces.invariant in
+      let left : length c.pieces.bytes ≡ length all - at = ap length so_far.left ∙ length-drop at all in
+      let some : 0 < n = omega (arith, c.if-count-eq0.false) in
+      let most : n ≡ min (length c.args.buffer.now) (length all - at) = omega (arith, c.fill-count.ensures.many, left, so_far.buffer) in
+      let enough : at + n ≤ length all = omega (arith, most, so_far.enough) in
+      let more = one_more _ _ _ (length c.args.buffer.now) at (length all) n (so_far.calls h) (c.write_at-in-pieces.ensures.time (so_far.honest ∙ h)).soon some most in
+      counted _ _ (length c.args.buffer.now) (at + n) (length all) more enough c.requires.some;
+}

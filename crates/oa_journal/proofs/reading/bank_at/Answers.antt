@@ -11,9 +11,9 @@ pub returns-in_err-table-clause-damaged : goal.returns-in_err-table-clause-damag
 returns-in_err-table-clause-damaged g c at e h =
     let p = err_from_is_err_and c.from_residual-in_err-table.result c.from_residual-in_err-table.ensures.1 in
     let is : c.in_err-table.field-0.0 ≡ banks.Damaged at = cc (rw (p.1, p.2) at e) in
-    let h2 = c.read_groups.ensures.after.honest h in
-    let h1 = c.read_part.ensures.after.honest h2 in
-    let stay = (c.read_part.ensures.reads h2).contents_stay ∙ (c.first_at.ensures.reads h1).contents_stay in
+    let h2 = c.read_groups.ensures.after.calls.honest h in
+    let h1 = c.read_part.ensures.after.calls.honest h2 in
+    let stay = (c.read_part.ensures.after.reads h2).contents_stay ∙ (c.first_at.ensures.after.reads h1).contents_stay in
     let found = c.in_ok-told.ensures.found h1 in
     let l = c.in_ok-told.told.library in
     let s = c.in_ok-told.told.snapshot in

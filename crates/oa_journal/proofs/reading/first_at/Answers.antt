@@ -15,9 +15,6 @@ returns-in_err-told-clause-damaged g c at e h =
     let is : c.in_err-told.field-0.0 ≡ banks.Damaged at = cc (rw (p.1, p.2) at e) in
     let damaged = c.in_err-told.ensures.damaged at (ap (λ (x : BankFault). Err x) is) in inl (damaged.0, damaged.1 h)
 
-pub returns-in-Ok-clause-numbered : goal.returns-in-Ok-clause-numbered
-returns-in-Ok-clause-numbered g c = table_numbered c.in-Ok.first c.in-Ok.ensures.exact.0
-
 pub returns-in-Err-Damaged-clause-damaged : goal.returns-in-Err-Damaged-clause-damaged
 returns-in-Err-Damaged-clause-damaged g c at e h =
     let is : at ≡ c.args.body + c.from.result = cc in
@@ -26,8 +23,8 @@ returns-in-Err-Damaged-clause-damaged g c at e h =
     let bytes = c.deref.result.now in
     let l = c.in_ok-told.told.library in
     let s = c.in_ok-told.told.snapshot in
-    let before = c.read_part.ensures.after.honest h in
-    let stay : mid ≡ disk = (c.head_of.ensures.reads before).contents_stay in
+    let before = c.read_part.ensures.after.calls.honest h in
+    let stay : mid ≡ disk = (c.head_of.ensures.after.reads before).contents_stay in
     let there = subst (λ (x : List ℕ). HasBytesAt mid (c.args.body + c.from.result) x) (sym c.deref.ensures.value) (c.in_ok-bytes.ensures.bytes h) in
     let from = subst (λ (k : ℕ). HasBytesAt mid (c.args.body + k) bytes) c.from.ensures there in
     let holds = subst (λ (d : List ℕ). HasBytesAt d (c.args.body + l) bytes) stay from in
@@ -44,5 +41,8 @@ returns-in-Err-Damaged-clause-damaged g c at e h =
       ),
     )
 
-pub returns-in-Ok-clause-unlocked : goal.returns-in-Ok-clause-unlocked
-returns-in-Ok-clause-unlocked g c = image_unlocked c.in-Ok.first c.in-Ok.ensures.exact.0
+pub returns-in-Ok-clause-stored : goal.returns-in-Ok-clause-stored
+returns-in-Ok-clause-stored g c = record {
+  numbered = table_numbered c.in-Ok.first c.in-Ok.ensures.exact.0;
+  unlocked = image_unlocked c.in-Ok.first c.in-Ok.ensures.exact.0;
+}

@@ -11,7 +11,7 @@ use Rattle.oa_journal.proofs.Damages.{bank_library, one_library}
 use Rattle.oa_journal.specs.Shapes.{body_bytes}
 use Rattle.oa_store.specs.Faults.{of_bank, HasWanted, IsCaused}
 use Rattle.oa_store.specs.Stores.{body_place, head_place, IsStoreAt}
-use Rattle.oa_store.proofs.Opened.{bank_caused, carried, of_library, other_long, says_first, says_late, spoilt, tells_late, until_body, until_late, wanted_in}
+use Rattle.oa_store.proofs.Opened.{bank_caused, carried, of_library, other_long, says_first, says_late, spoilt, tells_late, until_body, until_late, wanted_in, within_disk}
 use Rattle.oa_store.proofs.reading.find_store.Goals as goal
 
 pub returns-in_err-found-clause-refused : goal.returns-in_err-found-clause-refused
@@ -50,12 +50,12 @@ returns-in_err-text-clause-refused g c =
     rw (p.1, p.2) (record {
       early = search rules;
       calls = λ h. until_late (24 + g.D.Disk.size_of c.args.disk.now) _ _ fault (omega (arith, c.find_room.ensures.calls (c.read_library.ensures.after.honest h), c.read_library.ensures.calls h));
-      cause = subst (λ (n : ℕ). IsCaused n (g.D.Disk.failures_of c.read_library.new.disk) (of_bank fault)) c.in_ok-found.ensures.after.unfailed (bank_caused _ _ fault c.in_err-text.ensures.cause);
+      cause = subst (λ (n : ℕ). IsCaused n (g.D.Disk.failures_of c.read_library.new.disk) (of_bank fault)) c.in_ok-found.ensures.after.unfailed (bank_caused _ _ fault c.in_err-text.ensures.refused.cause);
       tells = λ h.
           let h1 = c.read_library.ensures.after.honest h in
           tells_late (g.D.Disk.contents c.args.disk.now) (g.D.Disk.image c.args.disk.now) (g.D.Disk.image c.read_library.new.disk) fault
-          (λ why is. c.in_err-text.ensures.device why (ap (λ (x : BankFault). Err x) is))
-          (λ image is. c.in_ok-found.ensures.found.synced h1 image ((c.read_library.ensures.reads h).images image is));
+          (λ why is. (c.in_err-text.ensures.refused.device why (ap (λ (x : BankFault). Err x) is)).1)
+          (λ image is. c.in_ok-found.ensures.found.synced h1 image ((c.read_library.ensures.reads h).writes_nothing.images image is));
       says = λ h.
           let h1 = c.read_library.ensures.after.honest h in
           let contents = g.D.Disk.contents c.args.disk.now in
@@ -63,7 +63,7 @@ returns-in_err-text-clause-refused g c =
           let chosen = c.in_ok-found.found.chosen in
           let shape = c.in_ok-found.found.head.shape in
           says_late (Some c.args.library.now) _ contents fault (λ at is.
-          let none = carried (λ s x y. HasNoHeader s x) c.bank_of-bank.result shape (head_place chosen) (body_place shape chosen) (body_bytes shape - 1) false (g.D.Disk.contents c.find_room.new.disk) contents c.bank_of-bank.ensures (c.in_ok-found.ensures.found.contents h1) (c.in_err-text.ensures.damaged at (ap (λ (x : BankFault). Err x) is) h) in
+          let none = carried (λ s x y. HasNoHeader s x) c.bank_of-bank.result shape (head_place chosen) (body_place shape chosen) (body_bytes shape - 1) false (g.D.Disk.contents c.find_room.new.disk) contents c.bank_of-bank.ensures (c.in_ok-found.ensures.found.contents h1) ((c.in_err-text.ensures.refused.damaged at (ap (λ (x : BankFault). Err x) is)).1 h) in
           absurd (none c.in_ok-found.found.head.library c.in_ok-found.found.head.snapshot found.1.has));
     })
 
@@ -76,14 +76,16 @@ returns-in_err-table-clause-refused g c =
       calls = λ h.
           let h2 = c.read_all.ensures.after.honest h in
           let sizes : g.D.Disk.size_of c.read_library.new.disk ≡ g.D.Disk.size_of c.args.disk.now = c.read_library.ensures.after.size ∙ c.find_room.ensures.after.size in
-          until_late (24 + g.D.Disk.size_of c.args.disk.now) _ _ fault (omega (arith, sizes, c.find_room.ensures.calls (c.read_library.ensures.after.honest h2), c.read_library.ensures.calls h2, c.read_all.ensures.most h));
-      cause = subst (λ (n : ℕ). IsCaused n (g.D.Disk.failures_of c.read_all.new.disk) (of_bank fault)) (c.in_ok-text.ensures.after.unfailed ∙ c.in_ok-found.ensures.after.unfailed) (bank_caused _ _ fault c.in_err-table.ensures.cause);
+          let shape = ap body_bytes (ap (λ (b : Bank). b.shape) c.in_ok-text.ensures.bank ∙ c.bank_of-bank.ensures.shape_is) in
+          let long = within_disk c.in_ok-found.found.head.shape in
+          until_late (24 + g.D.Disk.size_of c.args.disk.now) _ _ fault (omega (arith, sizes, shape, long, c.in_ok-found.ensures.found.room, c.find_room.ensures.calls (c.read_library.ensures.after.honest h2), c.read_library.ensures.calls h2, c.read_all.ensures.most h));
+      cause = subst (λ (n : ℕ). IsCaused n (g.D.Disk.failures_of c.read_all.new.disk) (of_bank fault)) (c.in_ok-text.ensures.after.unfailed ∙ c.in_ok-found.ensures.after.unfailed) (bank_caused _ _ fault c.in_err-table.ensures.refused.cause);
       tells = λ h.
           let h2 = c.read_all.ensures.after.honest h in
           let h1 = c.read_library.ensures.after.honest h2 in
           tells_late (g.D.Disk.contents c.args.disk.now) (g.D.Disk.image c.args.disk.now) (g.D.Disk.image c.read_all.new.disk) fault
-          (λ why is. c.in_err-table.ensures.device why (ap (λ (x : BankFault). Err x) is))
-          (λ image is. c.in_ok-found.ensures.found.synced h1 image ((c.read_library.ensures.reads h2).images image ((c.read_all.ensures.reads h).images image is)));
+          (λ why is. (c.in_err-table.ensures.refused.device why (ap (λ (x : BankFault). Err x) is)).1)
+          (λ image is. c.in_ok-found.ensures.found.synced h1 image ((c.read_library.ensures.reads h2).writes_nothing.images image ((c.read_all.ensures.reads h).writes_nothing.images image is)));
       says = λ h.
           let h2 = c.read_all.ensures.after.honest h in
           let h1 = c.read_library.ensures.after.honest h2 in
@@ -94,7 +96,7 @@ returns-in_err-table-clause-refused g c =
           let head = head_place chosen in
           let body = body_place shape chosen in
           let first = c.in_ok-found.ensures.found.contents h1 in
-          let stay = c.read_library.ensures.contents h2 ∙ first in
+          let stay = (c.read_library.ensures.reads h2).contents_stay ∙ first in
           let at0 = c.bank_of-bank.ensures in
           let at1 = subst (λ (b : Bank). IsAt shape head body (body_bytes shape - 1) false b) (sym c.in_ok-text.ensures.bank) at0 in
           let text = sym c.deref.ensures.value ∙ c.if-not-same.ensures.0 refl in
@@ -102,9 +104,9 @@ returns-in_err-table-clause-refused g c =
           let two : (size : ℕ) × (shape ≡ Two size) = search rules in
           let wanted = wanted_in shape two.0 two.1 (from_place head contents) (from_place body contents) c.args.library.now (subst (λ (l : List ℕ). HasLibrary shape (from_place head contents) (from_place body contents) l) text has) in
           says_late (Some c.args.library.now) _ contents fault (λ at e.
-          let is = c.in_err-table.ensures.damaged at (ap (λ (x : BankFault). Err x) e) h in
-          let sized = subst (λ (s : Shape). IsDamagedBank s c.read_library.new.bank.head c.read_library.new.bank.body (g.D.Disk.contents c.read_library.new.disk) at) at1.shape_is is in
-          let headed = subst (λ (k : ℕ). IsDamagedBank shape k c.read_library.new.bank.body (g.D.Disk.contents c.read_library.new.disk) at) at1.head_is sized in
+          let is = (c.in_err-table.ensures.refused.damaged at (ap (λ (x : BankFault). Err x) e)).1 h in
+          let sized = subst (λ (s : Shape). IsDamagedBank s c.read_library.new.self.head c.read_library.new.self.body (g.D.Disk.contents c.read_library.new.disk) at) at1.shape_is is in
+          let headed = subst (λ (k : ℕ). IsDamagedBank shape k c.read_library.new.self.body (g.D.Disk.contents c.read_library.new.disk) at) at1.head_is sized in
           let placed = subst (λ (k : ℕ). IsDamagedBank shape head k (g.D.Disk.contents c.read_library.new.disk) at) at1.body_is headed in
           spoilt (HasWanted (Some c.args.library.now)) contents chosen shape c.in_ok-found.found.head.library c.in_ok-found.found.head.snapshot at found.0 found.1 wanted
           (subst (λ (d : List ℕ). IsDamagedBank shape head body d at) stay placed));
@@ -122,19 +124,19 @@ returns-clause-found g c = record {
       let head = head_place chosen in
       let body = body_place shape chosen in
       let first = c.in_ok-found.ensures.found.contents h1 in
-      let stay = c.read_library.ensures.contents h2 ∙ first in
+      let stay = (c.read_library.ensures.reads h2).contents_stay ∙ first in
       let at0 = c.bank_of-bank.ensures in
       let at1 = subst (λ (b : Bank). IsAt shape head body (body_bytes shape - 1) false b) (sym c.in_ok-text.ensures.bank) at0 in
       let text = sym c.deref.ensures.value ∙ c.if-not-same.ensures.0 refl in
       let has = carried (λ s x y. HasLibrary s x y c.in_ok-text.text.items) c.bank_of-bank.result shape head body (body_bytes shape - 1) false (g.D.Disk.contents c.find_room.new.disk) contents at0 first (c.in_ok-text.ensures.found h2) in
-      let bank = carried (λ s x y. IsBank s x y c.in_ok-table.field-0-0.items c.in_ok-table.table c.read_all.new.bank.gate) c.read_library.new.bank shape head body (body_bytes shape - 1) false (g.D.Disk.contents c.read_library.new.disk) contents at1 stay (c.in_ok-table.ensures.found h) in
-      let store : IsStoreAt shape chosen c.read_all.new.bank.gate c.args.library.now c.in_ok-table.table contents = record {
+      let bank = carried (λ s x y. IsBank s x y c.in_ok-table.field-0-0.items c.in_ok-table.table c.read_all.new.self.gate) c.read_library.new.self shape head body (body_bytes shape - 1) false (g.D.Disk.contents c.read_library.new.disk) contents at1 stay (c.in_ok-table.ensures.found.found h) in
+      let store : IsStoreAt shape chosen c.read_all.new.self.gate c.args.library.now c.in_ok-table.table contents = record {
         head = found.0;
         room = found.1.room;
-        bank = of_library shape (from_place head contents) (from_place body contents) c.args.library.now c.in_ok-text.text.items c.in_ok-table.field-0-0.items c.in_ok-table.table c.read_all.new.bank.gate text has bank;
+        bank = of_library shape (from_place head contents) (from_place body contents) c.args.library.now c.in_ok-text.text.items c.in_ok-table.field-0-0.items c.in_ok-table.table c.read_all.new.self.gate text has bank;
       } in
-      let is = c.in_ok-table.ensures.bank.shape_is ∙ at1.shape_is in
-      subst (λ (s : Shape). IsStoreAt s chosen c.read_all.new.bank.gate c.args.library.now c.in_ok-table.table contents) (sym is) store;
+      let is = c.in_ok-table.ensures.found.bank.shape_is ∙ at1.shape_is in
+      subst (λ (s : Shape). IsStoreAt s chosen c.read_all.new.self.gate c.args.library.now c.in_ok-table.table contents) (sym is) store;
   buffer = search rules;
   numbered = search rules;
   unlocked = search rules;
@@ -153,19 +155,19 @@ returns-clause-found g c = record {
       let head = head_place chosen in
       let body = body_place shape chosen in
       let first = c.in_ok-found.ensures.found.contents h1 in
-      let stay = c.read_library.ensures.contents h2 ∙ first in
+      let stay = (c.read_library.ensures.reads h2).contents_stay ∙ first in
       let at0 = c.bank_of-bank.ensures in
       let at1 = subst (λ (b : Bank). IsAt shape head body (body_bytes shape - 1) false b) (sym c.in_ok-text.ensures.bank) at0 in
       let text = sym c.deref.ensures.value ∙ c.if-not-same.ensures.0 refl in
       let has = carried (λ s x y. HasLibrary s x y c.in_ok-text.text.items) c.bank_of-bank.result shape head body (body_bytes shape - 1) false (g.D.Disk.contents c.find_room.new.disk) contents at0 first (c.in_ok-text.ensures.found h2) in
-      let bank = carried (λ s x y. IsBank s x y c.in_ok-table.field-0-0.items c.in_ok-table.table c.read_all.new.bank.gate) c.read_library.new.bank shape head body (body_bytes shape - 1) false (g.D.Disk.contents c.read_library.new.disk) contents at1 stay (c.in_ok-table.ensures.found h) in
+      let bank = carried (λ s x y. IsBank s x y c.in_ok-table.field-0-0.items c.in_ok-table.table c.read_all.new.self.gate) c.read_library.new.self shape head body (body_bytes shape - 1) false (g.D.Disk.contents c.read_library.new.disk) contents at1 stay (c.in_ok-table.ensures.found.found h) in
       let read = c.in_ok-table.field-0-0.items in
-      let same = one_library shape (from_place head contents) (from_place body contents) read c.in_ok-text.text.items (bank_library shape (from_place head contents) (from_place body contents) read c.in_ok-table.table c.read_all.new.bank.gate bank) has in
+      let same = one_library shape (from_place head contents) (from_place body contents) read c.in_ok-text.text.items (bank_library shape (from_place head contents) (from_place body contents) read c.in_ok-table.table c.read_all.new.self.gate bank) has in
       omega (
         arith,
         ap length (same ∙ text),
         c.in_ok-found.ensures.calls h1,
         c.in_ok-text.ensures.calls h2,
-        c.in_ok-table.ensures.calls h,
+        c.in_ok-table.ensures.found.calls h,
       );
 }

@@ -29,17 +29,17 @@ returns-in_err-library-clause-refused g c =
       early = search rules;
       any_library = search rules;
       any_format = search rules;
-      calls = λ h. until_late (20 + g.D.Disk.size_of c.args.disk.now) _ _ fault (omega (arith, c.find_head.ensures.calls (c.look.ensures.after.honest h), c.find_head.ensures.after.size, c.look.ensures.most h));
-      cause = subst (λ (n : ℕ). IsCaused n (g.D.Disk.failures_of c.look.new.disk) (of_bank fault)) c.in_ok-chosen.ensures.after.unfailed (bank_caused _ _ fault c.in_err-library.ensures.cause);
+      calls = λ h. until_late (20 + g.D.Disk.size_of c.args.disk.now) _ _ fault (omega (arith, c.find_head.ensures.calls (c.look.ensures.after.calls.honest h), c.find_head.ensures.after.size, c.look.ensures.after.most h));
+      cause = subst (λ (n : ℕ). IsCaused n (g.D.Disk.failures_of c.look.new.disk) (of_bank fault)) c.in_ok-chosen.ensures.after.unfailed (bank_caused _ _ fault c.in_err-library.ensures.after.cause);
       tells = λ h.
-          let h1 = c.look.ensures.after.honest h in
+          let h1 = c.look.ensures.after.calls.honest h in
           tells_late (g.D.Disk.contents c.args.disk.now) (g.D.Disk.image c.args.disk.now) (g.D.Disk.image c.look.new.disk) fault
-          (λ why is. c.in_err-library.ensures.device why (ap (λ (x : BankFault). Err x) is))
-          (λ image is. c.in_ok-chosen.ensures.found.synced h1 image ((c.look.ensures.reads h).images image is));
+          (λ why is. c.in_err-library.ensures.after.device why (ap (λ (x : BankFault). Err x) is))
+          (λ image is. c.in_ok-chosen.ensures.found.synced h1 image ((c.look.ensures.after.reads h).writes_nothing.images image is));
       says = λ h.
           let size = g.D.Disk.size_of c.args.disk.now in
           let contents = g.D.Disk.contents c.args.disk.now in
-          let h1 = c.look.ensures.after.honest h in
+          let h1 = c.look.ensures.after.calls.honest h in
           let found = c.in_ok-chosen.ensures.found.found h1 in
           let stay = c.in_ok-chosen.ensures.found.contents h1 in
           let chosen = c.in_ok-chosen.chosen in
@@ -55,12 +55,12 @@ returns-clause-found g c = record {
   numbered = search rules;
   unlocked = search rules;
   calls = λ h.
-      let h1 = c.look.ensures.after.honest h in
+      let h1 = c.look.ensures.after.calls.honest h in
       let found = c.in_ok-chosen.ensures.found.found h1 in
       let stay = c.in_ok-chosen.ensures.found.contents h1 in
       let chosen = c.in_ok-chosen.chosen in
       let shape = c.in_ok-chosen.head.shape in
       let gate = c.in_ok-library.field-0-2.gate in
-      let bank = subst (λ (d : List ℕ). IsBank shape (from_place (head_place chosen) d) (from_place (body_place shape chosen) d) c.in_ok-library.library.items c.in_ok-library.table gate) stay (c.in_ok-library.ensures.found h) in
-      ((shape, (chosen, gate, record { head = found.0; room = found.1.room; bank = bank })), omega (arith, c.in_ok-chosen.ensures.calls h1, c.in_ok-library.ensures.calls h));
+      let bank = subst (λ (d : List ℕ). IsBank shape (from_place (head_place chosen) d) (from_place (body_place shape chosen) d) c.in_ok-library.library.items c.in_ok-library.table gate) stay (c.in_ok-library.ensures.found.found h) in
+      ((shape, (chosen, gate, record { head = found.0; room = found.1.room; bank = bank })), omega (arith, c.in_ok-chosen.ensures.calls h1, c.in_ok-library.ensures.found.calls h));
 }

@@ -14,7 +14,7 @@ returns-in_err-library-clause-damaged g c at e h =
     let bank = c.bank_of-bank.result in
     let stands = c.bank_of-bank.ensures in
     let disk = g.D.Disk.contents c.args.disk.now in
-    let damaged = c.in_err-library.ensures.damaged at (ap (λ (x : BankFault). Err x) is) h in
+    let damaged = (c.in_err-library.ensures.refused.damaged at (ap (λ (x : BankFault). Err x) is)).1 h in
     let sized = subst (λ (s : Shape). IsDamagedBank s bank.head bank.body disk at) stands.shape_is damaged in
     let headed = subst (λ (k : ℕ). IsDamagedBank c.args.shape k bank.body disk at) stands.head_is sized in
     subst (λ (k : ℕ). IsDamagedBank c.args.shape (head_place c.args.chosen) k disk at) stands.body_is headed

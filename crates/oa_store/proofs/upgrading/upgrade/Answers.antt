@@ -20,15 +20,15 @@ returns-in_err-map_err-clause-any_moment g c h =
     let library = c.in_ok-old.old.library.items in
     let h1 = sym c.switch_to.ensures.after.honest ∙ h in
     let h0 = c.find_fitting.ensures.after.honest h1 in
-    let found = c.in_ok-old.ensures.found h1 in
+    let found = c.in_ok-old.ensures.found.store h1 in
     let reads = c.find_fitting.ensures.reads h1 in
     let P : List ℕ → Type 0 = λ f. (d : List ℕ) × g.D.Disk.image old d × IsUpgrade size d f in
-    chained g.D.Disk.moment g.D.Disk.image_since old mid new (g.D.Disk.image old) _ P reads.moments (c.switch_to.ensures.any_moment h1)
+    chained g.D.Disk.moment g.D.Disk.image_since old mid new (g.D.Disk.image old) _ P reads.moments (c.switch_to.ensures.leaves.any_moment h1)
     (λ f is. (f, is, λ shape text other store. inl store))
     (λ f step. (
       first,
       g.met.D.Disk.contents_is_image old h0,
-      moved size chosen found.0 (first_gate library table) library table first step.0 f found.1 (c.in_ok-old.ensures.synced h1 step.0 step.1)
+      moved size chosen found.0 (first_gate library table) library table first step.0 f found.1 (c.in_ok-old.ensures.found.synced h1 step.0 step.1)
           (subst (λ (l : List ℕ). IsMove chosen size (first_gate l table) l (unlocked_table table) step.0 f) c.deref.ensures.value step.2),
     ))
 
@@ -44,15 +44,15 @@ returns-clause-any_moment g c h =
     let library = c.in_ok-old.old.library.items in
     let h1 = sym c.switch_to.ensures.after.honest ∙ h in
     let h0 = c.find_fitting.ensures.after.honest h1 in
-    let found = c.in_ok-old.ensures.found h1 in
+    let found = c.in_ok-old.ensures.found.store h1 in
     let reads = c.find_fitting.ensures.reads h1 in
     let P : List ℕ → Type 0 = λ f. (d : List ℕ) × g.D.Disk.image old d × IsUpgrade size d f in
-    chained g.D.Disk.moment g.D.Disk.image_since old mid new (g.D.Disk.image old) _ P reads.moments (c.switch_to.ensures.any_moment h1)
+    chained g.D.Disk.moment g.D.Disk.image_since old mid new (g.D.Disk.image old) _ P reads.moments (c.switch_to.ensures.leaves.any_moment h1)
     (λ f is. (f, is, λ shape text other store. inl store))
     (λ f step. (
       first,
       g.met.D.Disk.contents_is_image old h0,
-      moved size chosen found.0 (first_gate library table) library table first step.0 f found.1 (c.in_ok-old.ensures.synced h1 step.0 step.1)
+      moved size chosen found.0 (first_gate library table) library table first step.0 f found.1 (c.in_ok-old.ensures.found.synced h1 step.0 step.1)
           (subst (λ (l : List ℕ). IsMove chosen size (first_gate l table) l (unlocked_table table) step.0 f) c.deref.ensures.value step.2),
     ))
 
@@ -68,15 +68,15 @@ returns-clause-done g c h =
     let library = c.in_ok-old.old.library.items in
     let h1 = sym c.switch_to.ensures.after.honest ∙ h in
     let h0 = c.find_fitting.ensures.after.honest h1 in
-    let found = c.in_ok-old.ensures.found h1 in
-    let done = was_done _ _ _ c.switch_to.result (sym c.in_ok-map_err.ensures.variant) c.switch_to.ensures.done h1 in
+    let found = c.in_ok-old.ensures.found.store h1 in
+    let done = was_done _ _ _ c.switch_to.result (sym c.in_ok-map_err.ensures.variant) c.switch_to.ensures.leaves.done h1 in
     record {
       was = record { library = library; table = table; store = (chosen, found.0, found.1); short = search rules; fits = search rules };
       each = λ f now.
           let step = done f now in (
             1 - chosen,
             first_gate library table,
-            arrived size chosen found.0 (first_gate library table) library table first step.0 f found.1 (c.in_ok-old.ensures.synced h1 step.0 step.1)
+            arrived size chosen found.0 (first_gate library table) library table first step.0 f found.1 (c.in_ok-old.ensures.found.synced h1 step.0 step.1)
                 (subst (λ (l : List ℕ). IsMoved chosen size (first_gate l table) l (unlocked_table table) step.0 f) c.deref.ensures.value step.2),
           );
     }
@@ -107,8 +107,8 @@ returns-in_err-map_err-clause-refused g c =
           let library = c.in_ok-old.old.library.items in
           let table = c.in_ok-old.old.table in
           let h1 = sym c.switch_to.ensures.after.honest ∙ h in
-          let found = c.in_ok-old.ensures.found h1 in
-          let whole = ap length c.deref_mut.ensures.value ∙ c.in_ok-old.ensures.buffer in
+          let found = c.in_ok-old.ensures.found.store h1 in
+          let whole = ap length c.deref_mut.ensures.value ∙ c.in_ok-old.ensures.found.whole in
           let written = in_pieces 4 (g.D.Disk.moment c.find_fitting.new.disk) (g.D.Disk.moment c.switch_to.new.disk) _ _ library table c.deref.ensures.value whole (c.switch_to.ensures.after.calls h1) in
           inr (library, table, c.in_ok-old.old.chosen, found.0, found.1, omega (arith, found.2, written));
     })

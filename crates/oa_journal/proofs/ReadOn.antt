@@ -1,0 +1,41 @@
+-- Reads, one run behind the other.
+use Rattle.std.proofs.Common.{◌≡◌, ℕ, ◌+◌, ◌≤◌, Result, Ok, OnOk, IfErr, ◌∙◌, subst, arith}
+use Rattle.oa_disk.specs.declared.disk.Disk.{Ghosts}
+use Rattle.oa_journal.specs.declared.bank.BankFault.{BankFault}
+use Rattle.oa_journal.specs.Reads.{AfterReads, reads_on}
+use Rattle.oa_journal.specs.Replies.{IsCaused}
+
+module _ {D : Type 0} (g : Ghosts D) {old : D} where
+  -- the first has ended well
+  pub reads_then : {mid new : D} {S T : Type 0} {x : S} {result : Result T BankFault} (m n k : ℕ)
+      → AfterReads g m old mid (Ok x) → AfterReads g n mid new result → m + n ≤ k → AfterReads g k old new result
+  reads_then {mid} {new} {S} {T} {x} {result} m n k one two le = record {
+    reads = λ h. reads_on g.contents g.image g.moment g.image_since old mid new (one.reads (two.calls.honest h)) (two.reads h);
+    calls = record {
+      size = two.calls.size ∙ one.calls.size;
+      honest = λ h. one.calls.honest (two.calls.honest h);
+      failures = omega (arith, one.calls.unfailed, two.calls.failures);
+      once = omega (arith, one.calls.unfailed, two.calls.once);
+      unfailed = subst (λ (n : ℕ). OnOk result (g.failures_of new ≡ n)) one.calls.unfailed two.calls.unfailed;
+    };
+    device = two.device;
+    cause = subst (λ (n : ℕ). IfErr result (IsCaused n (g.failures_of new))) one.calls.unfailed two.cause;
+    most = λ h. omega (arith, one.most (two.calls.honest h), two.most h, le);
+  }
+
+  -- what they answer does not count
+  pub reads_ok : {new : D} {S T : Type 0} {x : S} {y : T} {n : ℕ} → AfterReads g n old new (Ok x)
+      → AfterReads {T = T} g n old new (Ok y)
+  reads_ok all = record {
+    reads = all.reads;
+    calls = record {
+      size = all.calls.size;
+      honest = all.calls.honest;
+      failures = all.calls.failures;
+      once = all.calls.once;
+      unfailed = all.calls.unfailed;
+    };
+    device = λ fault is. absurd cc;
+    cause = tt;
+    most = all.most;
+  }

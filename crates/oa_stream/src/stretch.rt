@@ -1,5 +1,5 @@
 //! The memory of the buffers: a stretch that was read ahead, and one that waits to be written.
-ghost use Rattle.std.specs.Prelude.{◌≡◌, ◌≤◌, ◌<◌, ◌+◌, ◌++◌, [], length, drop, take, slice_range, vec_len, false, IfOk};
+ghost use Rattle.std.specs.Prelude.{◌≡◌, ◌≤◌, ◌<◌, ◌+◌, ◌-◌, ◌++◌, [], length, drop, take, slice_range, vec_len, false, IfOk};
 ghost use Rattle.oa_stream.specs.Source.{Loads};
 
 use crate::{Next, Source};
@@ -45,10 +45,21 @@ impl Front {
     /// Takes the first of them.
     pub(crate) fn advance(&mut self, count: usize)
         requires { count ≤ length (slice_range self.old.bytes.items self.old.from self.old.to) }
-        ensures { slice_range self.new.bytes.items self.new.from self.new.to
+        ensures held { slice_range self.new.bytes.items self.new.from self.new.to
             ≡ drop count (slice_range self.old.bytes.items self.old.from self.old.to) }
+        ensures passed { take self.new.from self.new.bytes.items
+            ≡ take self.old.from self.old.bytes.items ++ take count (slice_range self.old.bytes.items self.old.from self.old.to) }
     {
         self.from += count;
+    }
+
+    /// The last bytes before them, which were taken.
+    #[inline(always)]
+    pub(crate) fn passed(&self, count: usize) -> &[u8]
+        requires { count ≤ length (take self.now.from self.now.bytes.items) }
+        ensures { result.now ≡ drop (length (take self.now.from self.now.bytes.items) - count) (take self.now.from self.now.bytes.items) }
+    {
+        &self.bytes[self.from - count..self.from]
     }
 
     /// Forgets them all, and holds what one read call gives.

@@ -56,10 +56,12 @@ impl Front {
     /// The last bytes before them, which were taken.
     #[inline(always)]
     pub(crate) fn passed(&self, count: usize) -> &[u8]
-        requires { count ≤ length (take self.now.from self.now.bytes.items) }
-        ensures { result.now ≡ drop (length (take self.now.from self.now.bytes.items) - count) (take self.now.from self.now.bytes.items) }
+        requires { count ≤ self.now.from }
+        ensures { result.now ≡ slice_range self.now.bytes.items (self.now.from - count) self.now.from }
     {
-        &self.bytes[self.from - count..self.from]
+        let (from, to) = (self.from - count, self.from);
+        let all = self.bytes.as_slice();
+        &all[from..to]
     }
 
     /// Forgets them all, and holds what one read call gives.

@@ -21,7 +21,7 @@ use std::simd::prelude::*;
 const BLOCK: usize = 16;
 
 /// Reads the body of the line with this number. A line that was read ahead whole is decoded from where it stands.
-#[inline(never)]
+#[inline(always)]
 pub(crate) fn read_hex<R: Source + Drop, W: Sink>(
     reader: &mut Ahead<R>,
     writer: &mut W,
@@ -45,6 +45,28 @@ pub(crate) fn read_hex<R: Source + Drop, W: Sink>(
         reader.advance(place + 1);
         return read;
     }
+    read_on(reader, writer, line, body, number)
+}
+
+/// The same of a line whose end was not read ahead: first all that was put is handed on, so that whoever sends the line has all replies.
+#[inline(never)]
+fn read_on<R: Source + Drop, W: Sink>(
+    reader: &mut Ahead<R>,
+    writer: &mut W,
+    line: &mut Vec<u8>,
+    body: &mut Vec<u8>,
+    number: u64,
+) -> Read
+    requires buffers { HoldLongest (vec_capacity line.now) (vec_capacity body.now) }
+    requires unbroken { AreUnbroken (ahead R.input reader.old) (W.out writer.old) }
+    ensures capacity { vec_capacity line.old ≤ vec_capacity line.new }
+    ensures buffer { vec_capacity body.old ≤ vec_capacity body.new }
+    ensures within { Fits result body.new.items (passed reader.new) }
+    ensures longest { GrowsTo result (length body.old.items) (length body.new.items) }
+    ensures input { Inputs hex_lines result number body.new.items (passed reader.new) (ahead R.input reader.old).left (ahead R.input reader.new).left }
+    ensures paced { Paced (ends_in_read_fault result) (ahead R.input reader.old) (ahead R.input reader.new) }
+    ensures output { Hands result (W.out writer.old) (W.out writer.new) (ahead R.input reader.old).calls (ahead R.input reader.new).calls }
+{
     match writer.deliver() {
         Err(Unwritten) => Read::Unwritten,
         Ok(()) => match read_line(reader, writer, line) {
@@ -68,6 +90,7 @@ fn trimmed(raw: &[u8]) -> &[u8]
 }
 
 /// What a line says.
+#[inline(never)]
 fn judge(line: &[u8], body: &mut Vec<u8>, number: u64) -> Read
     requires { max_request_bytes ≤ vec_capacity body.now }
     ensures buffer { vec_capacity body.old ≤ vec_capacity body.new }

@@ -1,8 +1,8 @@
 //! Bodies as records of a length and that many bytes.
-ghost use Rattle.std.specs.Prelude.{◌≡◌, ◌≤◌, ◌<◌, ◌+◌, ℕ, List, Option, false, length, take, vec_capacity, IfSome};
+ghost use Rattle.std.specs.Prelude.{◌≡◌, ◌≤◌, ◌<◌, ◌+◌, ℕ, List, Option, false, drop, length, take, vec_capacity, IfSome};
 ghost use Rattle.std.specs.Io.KnownBytes.{Consumes};
 ghost use Rattle.oa_model.specs.Limits.{max_read_calls, max_request_bytes};
-ghost use Rattle.oa_stream.specs.Ahead.{ahead, passed, read_ahead};
+ghost use Rattle.oa_stream.specs.Ahead.{TakesAhead, ahead, passed, read_ahead};
 ghost use Rattle.oa_stream.specs.Sink.{IsHandedOn};
 ghost use Rattle.oa_stream.specs.Source.{Input};
 ghost use Rattle.oa_frame.specs.Beginnings.{AreUnbroken};
@@ -201,6 +201,15 @@ fn fetch<R: Source + Drop>(reader: &mut Ahead<R>, out: &mut [u8], at: usize) -> 
     let front = reader.buffered();
     let n = front.len().min(out.len() - at);
     out[at..at + n].copy_from_slice(&front[..n]);
-    reader.advance(n);
+    skip(reader, n);
     at + n
+}
+
+/// Takes so many bytes; where they stand then is not told.
+fn skip<R: Source + Drop>(reader: &mut Ahead<R>, count: usize)
+    requires { count ≤ length (read_ahead reader.old) }
+    ensures held { read_ahead reader.new ≡ drop count (read_ahead reader.old) }
+    ensures taken { TakesAhead (take count (read_ahead reader.old)) (ahead R.input reader.old) (ahead R.input reader.new) }
+{
+    reader.advance(count);
 }

@@ -1,7 +1,7 @@
 -- Bytes as digits, part by part.
 use Rattle.std.proofs.Common.{◌≡◌, ℕ, ◌+◌, ◌-◌, ◌*◌, ◌/◌, ◌%◌, ◌<◌, ◌≤◌, ◌&&◌, ◌==◌, ◌⊎◌, zero, suc, inl, inr, Bool, true, false, List, [], ◌∷◌}
 use Rattle.std.proofs.Common.{◌++◌, get_or, length, map, take, drop, slice_index, slice_set, Some, None, Result, Ok, Err, refl, sym, ap, ◌∙◌, subst, append_assoc}
-use Rattle.std.proofs.Common.{length-append, arith, cond, leb, eqb, replicate, w8, Option, ◌^◌, ◌≢◌}
+use Rattle.std.proofs.Common.{arith, cond, leb, eqb, replicate, w8, Option, ◌^◌, ◌≢◌}
 use Rattle.std.proofs.lemmas.Simd.{mask_l-mod, tops_compared, zip2_splat_left}
 use Rattle.std.specs.Simd.Lanes.{mask_l, top, zip2}
 use Rattle.std.specs.Prelude.{IfSome, IsErr, IsNone}

@@ -1,7 +1,7 @@
 -- Records of a length and that many bytes.
-use Rattle.std.proofs.Common.{◌≡◌, ℕ, ◌+◌, ◌-◌, ◌≤◌, ◌<◌, Bool, false, List, ◌++◌, Option, Some, None, take, drop, length, slice_range, refl, inr}
+use Rattle.std.proofs.Common.{◌≡◌, ℕ, ◌+◌, ◌-◌, ◌≤◌, ◌<◌, Bool, false, List, ◌++◌, Option, Some, None, take, drop, length, refl, inr}
 use Rattle.std.proofs.Common.{sym, ap, ◌∙◌, append_assoc, length-take-le, arith}
-use Rattle.std.proofs.lemmas.List.{append-nil, length-append, length-drop}
+use Rattle.std.proofs.lemmas.List.{append-nil, drop_at, length-append, length-drop}
 use lib.Seq.{take-add}
 use Rattle.std.specs.Io.KnownBytes.{Consumes, IsAtEnd}
 use Rattle.oa_model.specs.Limits.{max_request_bytes}
@@ -57,22 +57,37 @@ lost_part a c out at short p =
     let within : at ≤ length out = omega (arith, short) in
     (take at out, rw (length-take-le at out within) short, p)
 
+-- the last of some bytes behind others
+last_part : (before one two : List ℕ) (n : ℕ) → length two ≡ n → drop (length (before ++ (one ++ two)) - n) (before ++ (one ++ two)) ≡ two
+last_part before one two n size =
+    let all = length-append before (one ++ two) in
+    let both = length-append one two in
+    let front = length-append before one in
+    let same : length (before ++ (one ++ two)) - n ≡ length (before ++ one) = omega (arith, all, both, front, size) in
+    ap (λ l. drop (length (before ++ (one ++ two)) - n) l) (sym (append_assoc before one two)) ∙ drop_at (before ++ one) two (length (before ++ (one ++ two)) - n) (sym same)
+
 -- a record that was read ahead whole
-pub record_ahead : (a c : Option (List ℕ)) (front body bytes : List ℕ) (n : ℕ) → SaysLength (take 4 front) n → 0 < n → n ≤ max_request_bytes
+pub record_ahead : (a c : Option (List ℕ)) (front before passed : List ℕ) (n : ℕ) → SaysLength (take 4 front) n → 0 < n → n ≤ max_request_bytes
     → 4 + n ≤ length front
-    → take (length bytes) body ≡ bytes → bytes ≡ slice_range front 4 (4 + n) → Consumes a c (take (4 + n) front) → Known (λ x rest. records.Next x (take n body) rest) a c
-record_ahead None c front body bytes n s some short within e f p = tt
-record_ahead (Some x) None front body bytes n s some short within e f p = absurd p
-record_ahead (Some x) (Some y) front body bytes n s some short within e f p =
-    let back = drop 4 front in
-    let same : 4 + n - 4 ≡ n = omega arith in
-    let is : bytes ≡ take n back = f ∙ ap (λ k. take k back) same in
-    let len : length bytes ≡ n = ap length is ∙ length-take-le n back (rw (length-drop 4 front) (omega (arith, within))) in
-    let got : take n body ≡ bytes = ap (λ k. take k body) (sym len) ∙ e in
+    → passed ≡ before ++ take (4 + n) front → Consumes a c (take (4 + n) front) → Known (λ x rest. records.Next x (drop (length passed - n) passed) rest) a c
+record_ahead None c front before passed n s some short within e p = tt
+record_ahead (Some x) None front before passed n s some short within e p = absurd p
+record_ahead (Some x) (Some y) front before passed n s some short within e p =
+    let body = take n (drop 4 front) in
+    let parts : take (4 + n) front ≡ take 4 front ++ body = take-add 4 n front in
+    let len : length body ≡ n = length-take-le n (drop 4 front) (rw (length-drop 4 front) (omega (arith, within))) in
+    let got : drop (length passed - n) passed ≡ body = rw (e, parts) (last_part before (take 4 front) body n len) in
     record {
       head = take 4 front;
       says = rw (got, len) s;
       some = rw (got, len) some;
       short = rw (got, len) short;
-      whole = p ∙ ap (λ l. l ++ y) (take-add 4 n front ∙ ap (λ l. take 4 front ++ l) (sym is ∙ sym got)) ∙ append_assoc (take 4 front) (take n body) y;
+      whole = p ∙ ap (λ l. l ++ y) (parts ∙ ap (λ l. take 4 front ++ l) (sym got)) ∙ append_assoc (take 4 front) (drop (length passed - n) passed) y;
     }
+
+-- and it stands there
+pub record_fits : (front before passed : List ℕ) (n : ℕ) → 4 + n ≤ length front → passed ≡ before ++ take (4 + n) front → n ≤ length passed
+record_fits front before passed n within e =
+    let all = ap length e ∙ length-append before (take (4 + n) front) in
+    let part = length-take-le (4 + n) front within in
+    omega (arith, all, part)

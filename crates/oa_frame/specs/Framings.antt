@@ -1,6 +1,6 @@
 -- Framings: how bodies stand in bytes, what ends them, and how replies are spelled (this project's choice).
-use Rattle.std.specs.Prelude.{◌≡◌, ◌⊎◌, ℕ, ◌<◌, ◌≤◌, max, Bool, true, false, List, [], ◌∷◌, ◌++◌, length, take, Option}
-use Rattle.std.specs.Prelude.{IsErr, Ok, ⊤}
+use Rattle.std.specs.Prelude.{◌≡◌, ◌⊎◌, ℕ, ◌-◌, ◌<◌, ◌≤◌, max, Bool, true, false, List, [], ◌∷◌, ◌++◌, length, drop}
+use Rattle.std.specs.Prelude.{take, Option, IsErr, Ok, ⊤}
 use Rattle.std.specs.Io.KnownBytes as known
 use Rattle.std.specs.Int.{w32, from_le_bytes, to_le_bytes}
 use Rattle.hex.specs.Hex.{decode_of, encode_lower}
@@ -122,11 +122,17 @@ abbrev pub frames : Framing → Frames
 frames HexLines = hex_lines
 frames Records = records
 
+-- a body of n bytes: the last of what was passed over of that which was read ahead, or the first of a buffer
+abbrev pub body_of : ℕ → Bool → List ℕ → List ℕ → List ℕ
+body_of n true buffer passed = drop (length passed - n) passed
+body_of n false buffer passed = take n buffer
+
 -- what was read at the record of this number; where the writer failed, nothing
-abbrev pub Inputs : Frames → Read → ℕ → List ℕ → Option (List ℕ) → Option (List ℕ) → Type 0
-Inputs f (read.Body n) number body old new = Known (λ bytes rest. f.Next bytes (take n body) rest) old new
-Inputs f (read.Ends why) number body old new = f.Can number why × Known (f.Stop why) old new
-Inputs f read.Unwritten number body old new = known.Keeps old new
+abbrev pub Inputs : Frames → Read → ℕ → List ℕ → List ℕ → Option (List ℕ) → Option (List ℕ) → Type 0
+Inputs f (read.Body n ahead) number buffer passed old new =
+    Known (λ bytes rest. f.Next bytes (body_of n ahead buffer passed) rest) old new
+Inputs f (read.Ends why) number buffer passed old new = f.Can number why × Known (f.Stop why) old new
+Inputs f read.Unwritten number buffer passed old new = known.Keeps old new
 
 -- All that was put before is put still, and has left where the reader was called.
 pub record HandsOver (old new : Output) (calls calls' : ℕ) : Type 0 where
@@ -135,19 +141,20 @@ pub record HandsOver (old new : Output) (calls calls' : ℕ) : Type 0 where
 
 -- so it is, or the writer failed, and the reader was not called
 abbrev pub Hands : Read → Output → Output → ℕ → ℕ → Type 0
-Hands (read.Body n) old new calls calls' = HandsOver old new calls calls'
+Hands (read.Body n ahead) old new calls calls' = HandsOver old new calls calls'
 Hands (read.Ends why) old new calls calls' = HandsOver old new calls calls'
 Hands read.Unwritten old new calls calls' = Breaks old new [] × (calls' ≡ calls)
 
--- the buffer holds the body
-abbrev pub FitsBuffer : Read → List ℕ → Type 0
-FitsBuffer (read.Body n) buffer = n ≤ length buffer
-FitsBuffer (read.Ends why) buffer = ⊤
-FitsBuffer read.Unwritten buffer = ⊤
+-- the body stands there
+abbrev pub Fits : Read → List ℕ → List ℕ → Type 0
+Fits (read.Body n true) buffer passed = n ≤ length passed
+Fits (read.Body n false) buffer passed = n ≤ length buffer
+Fits (read.Ends why) buffer passed = ⊤
+Fits read.Unwritten buffer passed = ⊤
 
 -- how long the buffer gets: no longer than it was or the body is
 abbrev pub GrowsTo : Read → ℕ → ℕ → Type 0
-GrowsTo (read.Body n) old new = new ≤ max old n
+GrowsTo (read.Body n ahead) old new = new ≤ max old n
 GrowsTo (read.Ends why) old new = ⊤
 GrowsTo read.Unwritten old new = new ≤ old
 
@@ -160,12 +167,12 @@ is_read_fault end.ReadFault = true
 is_read_fault end.WriteFault = false
 
 abbrev pub ends_in_read_fault : Read → Bool
-ends_in_read_fault (read.Body n) = false
+ends_in_read_fault (read.Body n ahead) = false
 ends_in_read_fault (read.Ends why) = is_read_fault why
 ends_in_read_fault read.Unwritten = false
 
 -- the writer did not fail
 abbrev pub WriterStands : Read → Type 0
-WriterStands (read.Body n) = ⊤
+WriterStands (read.Body n ahead) = ⊤
 WriterStands (read.Ends why) = ⊤
 WriterStands read.Unwritten = ⊥

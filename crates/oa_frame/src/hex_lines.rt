@@ -3,11 +3,11 @@ ghost use Rattle.std.specs.Prelude.{◌≡◌, ◌<◌, ◌≤◌, ◌+◌, ◌*
 ghost use Rattle.std.specs.Prelude.{Ok, IfSome, IsErr, IsNone};
 ghost use Rattle.hex.specs.Hex.{decode_of, pair_value};
 ghost use Rattle.oa_model.specs.Limits.{max_request_bytes};
-ghost use Rattle.oa_stream.specs.Ahead.{ahead};
+ghost use Rattle.oa_stream.specs.Ahead.{ahead, passed};
 ghost use Rattle.oa_frame.specs.Beginnings.{AreUnbroken, HoldLongest};
 ghost use Rattle.oa_frame.specs.Digits.{AreDecoded, HasBadPair, HasDigitValue, HasNoDigit, IsDigitValue};
 ghost use Rattle.oa_frame.specs.Lines.{DecodesLine, without_return};
-ghost use Rattle.oa_frame.specs.Framings.{GrowsTo, Hands, Inputs, FitsBuffer, hex_lines, ends_in_read_fault};
+ghost use Rattle.oa_frame.specs.Framings.{GrowsTo, Hands, Inputs, Fits, hex_lines, ends_in_read_fault};
 ghost use Rattle.oa_frame.specs.Paces.{Paced};
 
 use crate::buffer::lengthen;
@@ -21,7 +21,7 @@ use std::simd::prelude::*;
 const BLOCK: usize = 16;
 
 /// Reads the body of the line with this number. A line that was read ahead whole is decoded from where it stands.
-#[inline(never)]
+#[inline(always)]
 pub(crate) fn read_hex<R: Source + Drop, W: Sink>(
     reader: &mut Ahead<R>,
     writer: &mut W,
@@ -33,9 +33,9 @@ pub(crate) fn read_hex<R: Source + Drop, W: Sink>(
     requires unbroken { AreUnbroken (ahead R.input reader.old) (W.out writer.old) }
     ensures capacity { vec_capacity line.old ≤ vec_capacity line.new }
     ensures buffer { vec_capacity body.old ≤ vec_capacity body.new }
-    ensures within { FitsBuffer result body.new.items }
+    ensures within { Fits result body.new.items (passed reader.new) }
     ensures longest { GrowsTo result (length body.old.items) (length body.new.items) }
-    ensures input { Inputs hex_lines result number body.new.items (ahead R.input reader.old).left (ahead R.input reader.new).left }
+    ensures input { Inputs hex_lines result number body.new.items (passed reader.new) (ahead R.input reader.old).left (ahead R.input reader.new).left }
     ensures paced { Paced (ends_in_read_fault result) (ahead R.input reader.old) (ahead R.input reader.new) }
     ensures output { Hands result (W.out writer.old) (W.out writer.new) (ahead R.input reader.old).calls (ahead R.input reader.new).calls }
 {
@@ -45,6 +45,28 @@ pub(crate) fn read_hex<R: Source + Drop, W: Sink>(
         reader.advance(place + 1);
         return read;
     }
+    read_on(reader, writer, line, body, number)
+}
+
+/// The same of a line whose end was not read ahead: first all that was put is handed on, so that whoever sends the line has all replies.
+#[inline(never)]
+fn read_on<R: Source + Drop, W: Sink>(
+    reader: &mut Ahead<R>,
+    writer: &mut W,
+    line: &mut Vec<u8>,
+    body: &mut Vec<u8>,
+    number: u64,
+) -> Read
+    requires buffers { HoldLongest (vec_capacity line.now) (vec_capacity body.now) }
+    requires unbroken { AreUnbroken (ahead R.input reader.old) (W.out writer.old) }
+    ensures capacity { vec_capacity line.old ≤ vec_capacity line.new }
+    ensures buffer { vec_capacity body.old ≤ vec_capacity body.new }
+    ensures within { Fits result body.new.items (passed reader.new) }
+    ensures longest { GrowsTo result (length body.old.items) (length body.new.items) }
+    ensures input { Inputs hex_lines result number body.new.items (passed reader.new) (ahead R.input reader.old).left (ahead R.input reader.new).left }
+    ensures paced { Paced (ends_in_read_fault result) (ahead R.input reader.old) (ahead R.input reader.new) }
+    ensures output { Hands result (W.out writer.old) (W.out writer.new) (ahead R.input reader.old).calls (ahead R.input reader.new).calls }
+{
     match writer.deliver() {
         Err(Unwritten) => Read::Unwritten,
         Ok(()) => match read_line(reader, writer, line) {
@@ -68,6 +90,7 @@ fn trimmed(raw: &[u8]) -> &[u8]
 }
 
 /// What a line says.
+#[inline(never)]
 fn judge(line: &[u8], body: &mut Vec<u8>, number: u64) -> Read
     requires { max_request_bytes ≤ vec_capacity body.now }
     ensures buffer { vec_capacity body.old ≤ vec_capacity body.new }
@@ -82,7 +105,7 @@ fn judge(line: &[u8], body: &mut Vec<u8>, number: u64) -> Read
     }
     lengthen(body, (line.len() + 1) / 2);
     match decode(line, body) {
-        Some(count) => Read::Body(count),
+        Some(count) => Read::Body(count, false),
         None => Read::Ends(End::BadHex(number)),
     }
 }

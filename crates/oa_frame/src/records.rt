@@ -1,12 +1,12 @@
 //! Bodies as records of a length and that many bytes.
-ghost use Rattle.std.specs.Prelude.{◌≡◌, ◌≤◌, ◌<◌, ◌+◌, ℕ, List, Option, false, length, max, take, vec_capacity, IfSome};
+ghost use Rattle.std.specs.Prelude.{◌≡◌, ◌≤◌, ◌<◌, ◌+◌, ℕ, List, Option, false, drop, length, take, vec_capacity, IfSome};
 ghost use Rattle.std.specs.Io.KnownBytes.{Consumes};
 ghost use Rattle.oa_model.specs.Limits.{max_read_calls, max_request_bytes};
-ghost use Rattle.oa_stream.specs.Ahead.{ahead, read_ahead};
+ghost use Rattle.oa_stream.specs.Ahead.{TakesAhead, ahead, passed, read_ahead};
 ghost use Rattle.oa_stream.specs.Sink.{IsHandedOn};
 ghost use Rattle.oa_stream.specs.Source.{Input};
 ghost use Rattle.oa_frame.specs.Beginnings.{AreUnbroken};
-ghost use Rattle.oa_frame.specs.Framings.{GrowsTo, Hands, Inputs, WriterStands, FitsBuffer, SaysLength, ends_in_read_fault, records};
+ghost use Rattle.oa_frame.specs.Framings.{GrowsTo, Hands, Inputs, WriterStands, Fits, SaysLength, ends_in_read_fault, records};
 ghost use Rattle.oa_frame.specs.Paces.{Paced};
 ghost use Rattle.oa_frame.specs.Records.{Fetches, Gets, SpendsCalls, is_gone};
 
@@ -29,7 +29,7 @@ pub(crate) enum Got {
     Fault,
 }
 
-/// Reads the body of one record. One that was read ahead whole is copied from where it stands.
+/// Reads the body of one record. One that was read ahead whole stays where it stands.
 #[inline(always)]
 pub(crate) fn read_record<R: Source + Drop, W: Sink>(
     reader: &mut Ahead<R>,
@@ -39,45 +39,21 @@ pub(crate) fn read_record<R: Source + Drop, W: Sink>(
     requires buffer { max_request_bytes ≤ vec_capacity body.now }
     requires unbroken { AreUnbroken (ahead R.input reader.old) (W.out writer.old) }
     ensures buffer { vec_capacity body.old ≤ vec_capacity body.new }
-    ensures within { FitsBuffer result body.new.items }
+    ensures within { Fits result body.new.items (passed reader.new) }
     ensures longest { GrowsTo result (length body.old.items) (length body.new.items) }
     ensures input { (number : ℕ)
-        → Inputs records result number body.new.items (ahead R.input reader.old).left (ahead R.input reader.new).left }
+        → Inputs records result number body.new.items (passed reader.new) (ahead R.input reader.old).left (ahead R.input reader.new).left }
     ensures paced { Paced (ends_in_read_fault result) (ahead R.input reader.old) (ahead R.input reader.new) }
     ensures output { Hands result (W.out writer.old) (W.out writer.new) (ahead R.input reader.old).calls (ahead R.input reader.new).calls }
 {
     if let Some(n) = whole_record(reader.buffered()) {
-        copy_front(body, &reader.buffered()[4..4 + n]);
         reader.advance(4 + n);
-        return Read::Body(n);
+        return Read::Body(n, true);
     }
     match writer.deliver() {
         Err(_) => Read::Unwritten,
         Ok(()) => read_waiting(reader, writer, body),
     }
-}
-
-/// Copies bytes to the start of a buffer that has room for them.
-fn copy_front(body: &mut Vec<u8>, bytes: &[u8])
-    requires { length bytes.now ≤ vec_capacity body.old }
-    ensures buffer { vec_capacity body.old ≤ vec_capacity body.new }
-    ensures len { length bytes.now ≤ length body.new.items }
-    ensures longest { length body.new.items ≤ max (length body.old.items) (length bytes.now) }
-    ensures front { take (length bytes.now) body.new.items ≡ bytes.now }
-{
-    let n = bytes.len();
-    lengthen(body, n);
-    put_front(body, bytes);
-}
-
-/// The same where they are not more than the buffer's.
-fn put_front(body: &mut [u8], bytes: &[u8])
-    requires { length bytes.now ≤ length body.old }
-    ensures len { length body.new ≡ length body.old }
-    ensures front { take (length bytes.now) body.new ≡ bytes.now }
-{
-    let n = bytes.len();
-    body[..n].copy_from_slice(bytes);
 }
 
 /// How many bytes the body of the first record has, where all of it stands here and it is no end.
@@ -105,10 +81,10 @@ fn read_waiting<R: Source + Drop, W: Sink>(
     requires unbroken { (ahead R.input reader.old).faulted ≡ false }
     requires quiet { IsHandedOn (W.out writer.now) }
     ensures buffer { vec_capacity body.old ≤ vec_capacity body.new }
-    ensures within { FitsBuffer result body.new.items }
+    ensures within { Fits result body.new.items (passed reader.new) }
     ensures longest { GrowsTo result (length body.old.items) (length body.new.items) }
     ensures input { (number : ℕ)
-        → Inputs records result number body.new.items (ahead R.input reader.old).left (ahead R.input reader.new).left }
+        → Inputs records result number body.new.items (passed reader.new) (ahead R.input reader.old).left (ahead R.input reader.new).left }
     ensures paced { Paced (ends_in_read_fault result) (ahead R.input reader.old) (ahead R.input reader.new) }
     ensures read { WriterStands result }
 {
@@ -138,11 +114,11 @@ fn read_content<R: Source + Drop, W: Sink>(
     requires quiet { IsHandedOn (W.out writer.now) }
     requires few { calls ≤ max_read_calls }
     ensures buffer { vec_capacity body.old ≤ vec_capacity body.new }
-    ensures within { FitsBuffer result body.new.items }
+    ensures within { Fits result body.new.items (passed reader.new) }
     ensures longest { GrowsTo result (length body.old.items) (length body.new.items) }
     ensures input { (number : ℕ) (bytes : Option (List ℕ)) (head : List ℕ) → SaysLength head n
         → Consumes bytes (ahead R.input reader.old).left head
-        → Inputs records result number body.new.items bytes (ahead R.input reader.new).left }
+        → Inputs records result number body.new.items (passed reader.new) bytes (ahead R.input reader.new).left }
     ensures paced { (start : Input) → SpendsCalls false 4 0 calls start (ahead R.input reader.old)
         → Paced (ends_in_read_fault result) start (ahead R.input reader.new) }
     ensures read { WriterStands result }
@@ -172,17 +148,17 @@ fn read_bytes<R: Source + Drop, W: Sink>(
     requires quiet { IsHandedOn (W.out writer.now) }
     requires few { calls ≤ max_read_calls }
     ensures len { length body.new ≡ length body.old }
-    ensures within { FitsBuffer result body.new }
+    ensures within { Fits result body.new (passed reader.new) }
     ensures whole { GrowsTo result 0 n }
     ensures input { (number : ℕ) (bytes : Option (List ℕ)) (head : List ℕ) → SaysLength head n
         → Consumes bytes (ahead R.input reader.old).left head
-        → Inputs records result number body.new bytes (ahead R.input reader.new).left }
+        → Inputs records result number body.new (passed reader.new) bytes (ahead R.input reader.new).left }
     ensures paced { (start : Input) → SpendsCalls false 4 0 calls start (ahead R.input reader.old)
         → Paced (ends_in_read_fault result) start (ahead R.input reader.new) }
     ensures read { WriterStands result }
 {
     match fill_up(reader, writer, &mut body[..n], &mut calls) {
-        Got::All => Read::Body(n),
+        Got::All => Read::Body(n, false),
         Got::End(_) => Read::Ends(End::Cut),
         Got::Fault => Read::Ends(End::ReadFault),
     }
@@ -225,6 +201,15 @@ fn fetch<R: Source + Drop>(reader: &mut Ahead<R>, out: &mut [u8], at: usize) -> 
     let front = reader.buffered();
     let n = front.len().min(out.len() - at);
     out[at..at + n].copy_from_slice(&front[..n]);
-    reader.advance(n);
+    skip(reader, n);
     at + n
+}
+
+/// Takes so many bytes; where they stand then is not told.
+fn skip<R: Source + Drop>(reader: &mut Ahead<R>, count: usize)
+    requires { count ≤ length (read_ahead reader.old) }
+    ensures held { read_ahead reader.new ≡ drop count (read_ahead reader.old) }
+    ensures taken { TakesAhead (take count (read_ahead reader.old)) (ahead R.input reader.old) (ahead R.input reader.new) }
+{
+    reader.advance(count);
 }

@@ -1,9 +1,10 @@
 //! Sessions over a reader and a writer.
-ghost use Rattle.std.specs.Prelude.{◌≡◌, ◌≤◌, ℕ, Bool, List, false, true, length, take, vec_capacity};
-ghost use Rattle.oa_stream.specs.Ahead.{ahead};
+ghost use Rattle.std.specs.Prelude.{◌≡◌, ◌≤◌, ℕ, Bool, List, false, true, length, vec_capacity};
+ghost use Rattle.oa_stream.specs.Ahead.{ahead, passed};
 ghost use Rattle.oa_stream.specs.Sink.{IsHandedOn, Puts};
 ghost use Rattle.oa_frame.specs.Beginnings.{AreUnbroken, HoldLongest};
-ghost use Rattle.oa_frame.specs.Framings.{frames};
+ghost use Rattle.oa_frame.specs.Framings.{Fits, body_of, frames};
+ghost use Rattle.oa_frame.specs.declared.framing.Read.TheVariants.{Body};
 ghost use Rattle.oa_frame.specs.Sessions.{Abandons, AnswersBody, Closes, Finishes, HandsOn};
 ghost use Rattle.oa_frame.specs.Sessions.{PartsBefore, Session, is_answered, last_reply, spelled_all, step};
 
@@ -95,8 +96,8 @@ pub fn serve<S: Responder, R: Source + Drop, W: Sink>(
     let mut requests = 0u64;
     'turns: for _ in 0..MAX_RECORDS {
         match read_body(framing, reader, writer, line, body, requests + 1) {
-            Read::Body(count) => {
-                let bytes = front(body, count);
+            Read::Body(count, is_ahead) => {
+                let bytes = body_in(reader, body, count, is_ahead);
                 match part_before(server, framing, bytes, writer) {
                     Ok(()) => {}
                     Err(_) => {
@@ -135,12 +136,22 @@ pub fn serve<S: Responder, R: Source + Drop, W: Sink>(
     Served { requests, why }
 }
 
-/// So many bytes at the start of a buffer.
-fn front(buffer: &[u8], count: usize) -> &[u8]
-    requires { count ≤ length buffer.now }
-    ensures { result.now ≡ take count buffer.now }
+/// So many bytes: the last that were taken of what was read ahead, or the first of a buffer.
+#[inline(always)]
+fn body_in<'a, R: Source + Drop>(
+    reader: &'a Ahead<R>,
+    buffer: &'a [u8],
+    count: usize,
+    is_ahead: bool,
+) -> &'a [u8]
+    requires { Fits (Body count is_ahead) buffer.now (passed reader.now) }
+    ensures { result.now ≡ body_of count is_ahead buffer.now (passed reader.now) }
 {
-    &buffer[..count]
+    if is_ahead {
+        reader.passed(count)
+    } else {
+        &buffer[..count]
+    }
 }
 
 /// Writes what is held and hands all on, where this body comes alone.

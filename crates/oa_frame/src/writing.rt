@@ -112,6 +112,7 @@ pub fn put_some<W: Sink>(writer: &mut W, bytes: &[u8]) -> Result<(), Unwritten>
 }
 
 /// Writes the length of two stretches, and the first of them.
+#[inline(always)]
 fn put_front<W: Sink>(writer: &mut W, head: &[u8; 16], fields: &[u8]) -> Result<(), Unwritten>
     requires short { length head.now + length fields.now ≤ 4294967295 }
     requires unbroken { (W.out writer.old).broken ≡ false }
@@ -123,6 +124,7 @@ fn put_front<W: Sink>(writer: &mut W, head: &[u8; 16], fields: &[u8]) -> Result<
 }
 
 /// The same, in a buffer.
+#[inline(always)]
 fn lay_out(head: &[u8; 16], fields: &[u8], bytes: &mut [u8; 20])
     requires { length head.now + length fields.now ≤ 4294967295 }
     ensures { take 20 bytes.new ≡ to_le_bytes w32 (length (head.now ++ fields.now)) ++ head.now }

@@ -25,6 +25,7 @@ pub fn put_reply_of<W: Sink>(
 }
 
 /// Writes what stands before the second stretch: the head of the frame, the reply's length, and the first.
+#[inline(always)]
 fn put_front<W: Sink>(
     writer: &mut W,
     client: u32,
@@ -43,6 +44,7 @@ fn put_front<W: Sink>(
 }
 
 /// The same, in a buffer.
+#[inline(always)]
 fn lay_out(client: u32, head: &[u8; 16], fields: &[u8], bytes: &mut [u8; 28])
     requires { length head.now + length fields.now ≤ 4294967291 }
     ensures { take 28 bytes.new ≡ (frames.frame_head client (4 + (length head.now + length fields.now))

@@ -1,5 +1,5 @@
 -- A buffer between a reader and its caller. (This project's choice.)
-use Rattle.std.specs.Prelude.{◌≡◌, ℕ, ◌<◌, Bool, true, false, List, [], length, slice_range, Option, ⊤}
+use Rattle.std.specs.Prelude.{◌≡◌, ℕ, ◌<◌, Bool, true, false, List, [], length, slice_range, take, Option, ⊤}
 use Rattle.std.specs.Io.KnownBytes.{Consumes, Keeps, IsAtEnd, prepend_known}
 use Rattle.oa_stream.specs.declared.ahead.Ahead.{Ahead}
 use Rattle.oa_stream.specs.declared.ahead.More.{More}
@@ -9,6 +9,10 @@ use Rattle.oa_stream.specs.Source.{Input, later}
 -- what was read ahead
 abbrev pub read_ahead : {R : Type 0} → Ahead R → List ℕ
 read_ahead a = slice_range a.front.bytes.items a.front.from a.front.to
+
+-- what was taken of what the reader gave when it was last called
+abbrev pub passed : {R : Type 0} → Ahead R → List ℕ
+passed a = take a.front.from a.front.bytes.items
 
 -- a reader with these bytes before all that it has left
 abbrev pub with_front : List ℕ → Input → Input

@@ -1,6 +1,6 @@
 //! A buffer between a reader and its caller.
-ghost use Rattle.std.specs.Prelude.{◌≡◌, ◌≤◌, [], false, length, drop, take, IfOk};
-ghost use Rattle.oa_stream.specs.Ahead.{TakesAhead, Waits, ahead, read_ahead};
+ghost use Rattle.std.specs.Prelude.{◌≡◌, ◌≤◌, ◌-◌, ◌++◌, [], false, length, drop, take, IfOk};
+ghost use Rattle.oa_stream.specs.Ahead.{TakesAhead, Waits, ahead, passed, read_ahead};
 ghost use Rattle.oa_stream.specs.Sink.{IsHandedOn};
 
 use crate::stretch::Front;
@@ -49,9 +49,19 @@ impl<R: Source + Drop> Ahead<R> {
     pub fn advance(&mut self, count: usize)
         requires { count ≤ length (read_ahead self.old) }
         ensures held { read_ahead self.new ≡ drop count (read_ahead self.old) }
+        ensures passed { passed self.new ≡ passed self.old ++ take count (read_ahead self.old) }
         ensures taken { TakesAhead (take count (read_ahead self.old)) (ahead R.input self.old) (ahead R.input self.new) }
     {
         self.front.advance(count);
+    }
+
+    /// The last `count` bytes that were taken, of those that the reader gave when it was last called.
+    #[inline(always)]
+    pub fn passed(&self, count: usize) -> &[u8]
+        requires { count ≤ length (passed self.now) }
+        ensures { result.now ≡ drop (length (passed self.now) - count) (passed self.now) }
+    {
+        self.front.passed(count)
     }
 
     /// One call of the reader, for when all that was read ahead was taken. It takes nothing.

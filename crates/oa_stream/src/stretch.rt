@@ -1,5 +1,5 @@
 //! The memory of the buffers: a stretch that was read ahead, and one that waits to be written.
-ghost use Rattle.std.specs.Prelude.{◌≡◌, ◌≤◌, ◌<◌, ◌+◌, ◌++◌, [], length, drop, take, slice_range, vec_len, false, IfOk};
+ghost use Rattle.std.specs.Prelude.{◌≡◌, ◌≤◌, ◌<◌, ◌+◌, ◌-◌, ◌++◌, [], length, drop, take, slice_range, vec_len, false, IfOk};
 ghost use Rattle.oa_stream.specs.Source.{Loads};
 
 use crate::{Next, Source};
@@ -45,10 +45,23 @@ impl Front {
     /// Takes the first of them.
     pub(crate) fn advance(&mut self, count: usize)
         requires { count ≤ length (slice_range self.old.bytes.items self.old.from self.old.to) }
-        ensures { slice_range self.new.bytes.items self.new.from self.new.to
+        ensures held { slice_range self.new.bytes.items self.new.from self.new.to
             ≡ drop count (slice_range self.old.bytes.items self.old.from self.old.to) }
+        ensures passed { take self.new.from self.new.bytes.items
+            ≡ take self.old.from self.old.bytes.items ++ take count (slice_range self.old.bytes.items self.old.from self.old.to) }
     {
         self.from += count;
+    }
+
+    /// The last bytes before them, which were taken.
+    #[inline(always)]
+    pub(crate) fn passed(&self, count: usize) -> &[u8]
+        requires { count ≤ self.now.from }
+        ensures { result.now ≡ slice_range self.now.bytes.items (self.now.from - count) self.now.from }
+    {
+        let (from, to) = (self.from - count, self.from);
+        let all = self.bytes.as_slice();
+        &all[from..to]
     }
 
     /// Forgets them all, and holds what one read call gives.

@@ -1,4 +1,4 @@
-use Rattle.std.proofs.Common.{take, refl, inl, inr}
+use Rattle.std.proofs.Common.{take, refl, inl}
 use Rattle.oa_stream.specs.Ahead.{read_ahead}
 use Rattle.oa_frame.proofs.Sessions.{writes_none}
 use Rattle.oa_frame.proofs.Judged.{judged, judged_sound, judged_hands, line_ahead, paced_ahead}
@@ -6,7 +6,7 @@ use Rattle.oa_frame.proofs.hex_lines.read_hex.Goals as goal
 
 pub returns-in-Some-clause-input : goal.returns-in-Some-clause-input
 returns-in-Some-clause-input g c =
-    judged c.judge-read.result _ _ _ _ _ c.judge-read.ensures.says (line_ahead (read_ahead c.args.reader.now) (take c.in-Some.place (read_ahead c.args.reader.now)) _ _ _ c.in-Some.place (rw c.buffered.ensures at c.in-Some.ensures) refl (rw c.buffered-in-Some.ensures at c.trimmed.ensures) c.advance.ensures.taken)
+    judged c.judge-read.result _ _ _ _ _ _ c.judge-read.ensures.says (line_ahead (read_ahead c.args.reader.now) (take c.in-Some.place (read_ahead c.args.reader.now)) _ _ _ c.in-Some.place (rw c.buffered.ensures at c.in-Some.ensures) refl (rw c.buffered-in-Some.ensures at c.trimmed.ensures) c.advance.ensures.taken)
 
 pub returns-in-Some-clause-paced : goal.returns-in-Some-clause-paced
 returns-in-Some-clause-paced g c = paced_ahead _ _ _ _ (judged_sound c.judge-read.result _ _ _ c.judge-read.ensures.says) c.requires.unbroken.reader c.advance.ensures.taken
@@ -14,13 +14,3 @@ returns-in-Some-clause-paced g c = paced_ahead _ _ _ _ (judged_sound c.judge-rea
 pub returns-in-Some-clause-output : goal.returns-in-Some-clause-output
 returns-in-Some-clause-output g c =
     judged_hands c.judge-read.result _ _ _ _ _ _ _ c.judge-read.ensures.says (record { keeps = writes_none _ c.requires.unbroken.writer; first = inl c.advance.ensures.taken.clock })
-
-pub returns-in-Line-clause-input : goal.returns-in-Line-clause-input
-returns-in-Line-clause-input g c = judged c.judge.result _ _ _ _ _ c.judge.ensures.says (rw c.deref.ensures.value c.in-Line.ensures.found)
-
-pub returns-in-Line-clause-paced : goal.returns-in-Line-clause-paced
-returns-in-Line-clause-paced g c = rw (judged_sound c.judge.result _ _ _ c.judge.ensures.says) c.in-Line.ensures.paced
-
-pub returns-in-Line-clause-output : goal.returns-in-Line-clause-output
-returns-in-Line-clause-output g c =
-    judged_hands c.judge.result _ _ _ _ _ _ _ c.judge.ensures.says (record { keeps = c.in-Ok.ensures.0; first = inr c.in-Ok.ensures.1 })

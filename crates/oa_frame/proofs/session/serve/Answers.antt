@@ -20,14 +20,14 @@ turns-init g c = record {
 pub returns-in-Err : goal.returns-in-Err
 returns-in-Err g c =
     let read = c.in-Body.ensures in
-    let input = rw (← c.deref.ensures.value, ← c.front-bytes.ensures) at read.input in
+    let input = rw (← c.deref.ensures.value, ← c.body_in-bytes.ensures) at read.input in
     going_undone (frames c.args.framing) _ _ _ c.args.last.now _ _ _ _ _ _ _ c.turns.requests c.turns.invariant.going _ _ _ _ _ c.in-Err.ensures.parts input read.paced read.output.keeps (g.met.W.Sink.keeps _)
 
 pub returns-in-Err-respond : goal.returns-in-Err-respond
 returns-in-Err-respond g c =
     let a = stepped (frames c.args.framing) g.S.Responder.alone g.S.Responder.turn g.S.Responder.ends _ _ _ _ _ _ _ _ _ g.met.S.Responder.one_reply c.in-Ok.ensures.parts c.in-Err-respond.ensures.answers in
     let read = c.in-Body.ensures in
-    let input = rw (← c.deref.ensures.value, ← c.front-bytes.ensures) at read.input in
+    let input = rw (← c.deref.ensures.value, ← c.body_in-bytes.ensures) at read.input in
     going_fails (frames c.args.framing) _ _ _ c.args.last.now _ _ _ _ _ _ _ c.turns.requests c.turns.invariant.going _ _ _ _ _ a.answers.replies _ input read.paced a.answers.turned read.output.keeps (g.met.W.Sink.keeps _) a.answers.put a.own c.abandon.ensures.ended
 
 pub returns-in-Ends : goal.returns-in-Ends
@@ -45,7 +45,7 @@ pub turns-preserved : goal.turns-preserved
 turns-preserved g c =
     let a = stepped (frames c.args.framing) g.S.Responder.alone g.S.Responder.turn g.S.Responder.ends _ _ _ _ _ _ _ _ _ g.met.S.Responder.one_reply c.in-Ok.ensures.parts c.in-Ok-respond.ensures.answers in
     let read = c.in-Body.ensures in
-    let input = rw (← c.deref.ensures.value, ← c.front-bytes.ensures) at read.input in
+    let input = rw (← c.deref.ensures.value, ← c.body_in-bytes.ensures) at read.input in
     record {
       room = search rules;
       buffer = search rules;

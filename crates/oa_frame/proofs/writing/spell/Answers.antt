@@ -1,4 +1,4 @@
-use Rattle.std.proofs.Common.{◌*◌, length, refl, arith}
+use Rattle.std.proofs.Common.{◌*◌, length, arith}
 use Rattle.oa_frame.proofs.HexDigits.{hex_end}
 use Rattle.oa_frame.proofs.writing.spell.Goals as goal
 

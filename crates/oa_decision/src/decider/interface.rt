@@ -40,6 +40,7 @@ impl Decider<'_> {
     }
 
     /// The same of an object that was found.
+    #[inline(always)]
     #[tactic(auto, unfolding(crate::specs::Interfaces::interface_found))]
     pub(super) fn find_interface_of(
         &self,

@@ -13,7 +13,7 @@ use oa_table::{Event, Table};
 
 /// How many bytes a table's image has at most where the body of a bank has so many.
 pub fn most_of(bank: u32) -> u64
-    ensures value { result ≡ bank - reserved_bytes }
+    ensures { result ≡ bank - reserved_bytes }
 {
     u64::from(bank.saturating_sub(RESERVED_BYTES))
 }

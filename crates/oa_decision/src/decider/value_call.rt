@@ -34,14 +34,15 @@ impl Decider<'_> {
         let guid = interface.interface().guid;
         match form {
             Kind::Get => match value {
-                None => {
-                    let place = Place::new(guid, head.dispid, Vec::new(self.alloc));
-                    let name = CellName {
+                None => Some(ValuePlan::Answered(self.plan_get(
+                    tag,
+                    object,
+                    CellName {
                         object: head.object,
-                        place,
-                    };
-                    Some(ValuePlan::Answered(self.plan_get(tag, object, &name, declared)))
-                }
+                        place: Place::new(guid, head.dispid, Vec::new(self.alloc)),
+                    },
+                    declared,
+                ))),
                 Some(_) => None,
             },
             Kind::Put => {

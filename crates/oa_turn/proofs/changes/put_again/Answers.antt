@@ -24,12 +24,12 @@ module _ (bank : ℕ) (name : CellName) (value : Variant) (old new : TableValue)
 
 pub returns-clause-change : goal.returns-clause-change
 returns-clause-change c =
-    changes c.args.bank c.args.name.now c.args.value c.args.table.now c.put_again.new.self c.most_of.result _ c.put_again.result c.requires.keyless (omega arith) c.most_of.ensures.value
+    changes c.args.bank c.args.name.now c.args.value c.args.table.now c.put_again.new.self c.most_of.result _ c.put_again.result c.requires.keyless (omega arith) c.most_of.ensures
     c.put_again.ensures.done c.put_again.ensures.longest c.put_again.ensures.most
 
 pub returns-clause-sound : goal.returns-clause-sound
 returns-clause-sound c =
     sound c.args.bank c.args.name.now c.args.value c.args.table.now c.put_again.new.self c.args.value c.put_again.result
-    (changes c.args.bank c.args.name.now c.args.value c.args.table.now c.put_again.new.self c.most_of.result _ c.put_again.result c.requires.keyless (omega arith) c.most_of.ensures.value
+    (changes c.args.bank c.args.name.now c.args.value c.args.table.now c.put_again.new.self c.most_of.result _ c.put_again.result c.requires.keyless (omega arith) c.most_of.ensures
     c.put_again.ensures.done c.put_again.ensures.longest c.put_again.ensures.most)
     c.put_again.ensures.back

@@ -30,18 +30,18 @@ returns-in-None c =
     subst (λ (v : Option Variant). PlansValue state c.args.tag (Invoke (bringing head v)) (Answered reply)) (sym c.in-None.is)
     (plans_get state head i declared found c.args.tag reply is tells)
 
-pub returns-in-Put : goal.returns-in-Put
-returns-in-Put c =
+pub returns-in_ok-value-in-Put : goal.returns-in_ok-value-in-Put
+returns-in_ok-value-in-Put c =
     let state = c.args.self.now in
     let head = c.args.head.now in
     let i = c.in_ok-interface.interface in
     let live = rw (answered c.find_object.result c.in_ok-object.object (sym c.ok.ensures.value ∙ c.in_ok-object.was)) at c.find_object.ensures.live in
     let found = sym (c.find_interface_of.ensures head.object live) ∙ answered c.find_interface_of.result i (sym c.ok-2.ensures.value ∙ c.in_ok-interface.was) in
     let declared = c.in_ok-declared.declared in
-    let argument = c.in_ok-argument.argument in
-    let becomes = c.in_ok-value.ensures in
+    let argument = c.in_ok-argument-in-Put.argument in
+    let becomes = c.in_ok-value-in-Put.ensures in
     let same : to_z w32 (of_z w32 head.dispid) ≡ head.dispid = search rules in
     let is = subst (λ (z : ℤ). IsKeyless i z (Flags head.flags) declared forms.Put) same
     (subst (λ (k : Kind). IsKeyless i (to_z w32 (of_z w32 head.dispid)) (Flags head.flags) declared k) c.in-Put.is c.in_ok-declared.ensures.found) in
-    subst (λ (v : Option Variant). PlansValue state c.args.tag (Invoke (bringing head v)) (Put _)) (sym c.in_ok-argument.was)
+    subst (λ (v : Option Variant). PlansValue state c.args.tag (Invoke (bringing head v)) (Put _)) (sym c.in_ok-argument-in-Put.was)
     (plans_put state head i declared found c.args.tag argument becomes.0 _ is becomes.1 (search (rules, becomes.2)))

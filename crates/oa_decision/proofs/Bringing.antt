@@ -1,5 +1,5 @@
 -- An INVOKE that brings no more than a put's new value, of a property without parameters.
-use Rattle.std.proofs.Common.{◌≡◌, inl, inr, ℕ, [], ◌∷◌, Option, Some, None, is_ok, Result, Ok, Err, refl, sym, ap, ◌∙◌}
+use Rattle.std.proofs.Common.{◌≡◌, inl, inr, ℕ, [], ◌∷◌, Option, Some, None, IfSome, is_ok, Result, Ok, Err, refl, sym, ap, ◌∙◌}
 use Rattle.std.specs.Result.{result_ok}
 use Rattle.oa_bind.specs.Bindings.{bound_call}
 use Rattle.oa_bind.specs.Given.{given_call, argument_index, new_value_id}
@@ -8,7 +8,6 @@ use Rattle.oa_bind.specs.Refusals.{any_at, each_at}
 use Rattle.oa_coerce.specs.Answers.{coerced}
 use Rattle.oa_idl.specs.Values.{InterfaceValue}
 use Rattle.oa_model.specs.declared.var_type.ValueType.{ValueType}
-use Rattle.oa_record.specs.Replies.{ReplyValue}
 use Rattle.oa_record.specs.ValueCalls.{bringing}
 use Rattle.oa_record.specs.declared.request.CallHead.{CallHead}
 use Rattle.oa_record.specs.declared.request.Request.TheVariants.{Invoke}
@@ -16,16 +15,14 @@ use Rattle.oa_table.specs.declared.name.CellName.{CellName}
 use Rattle.oa_typelib.specs.declared.access.Access.TheVariants.{Flags}
 use Rattle.oa_typelib.specs.declared.access.Kind.TheVariants as forms
 use Rattle.oa_variant.specs.declared.variant.Variant.{Variant}
-use Rattle.oa_variant.specs.Variants.{unlocked}
 use Rattle.oa_decision.specs.Cells.{IsKeyless, called_cell}
 use Rattle.oa_decision.specs.Interfaces.{interface_found}
 use Rattle.oa_decision.specs.Invoke.{cell_decided, invocation}
 use Rattle.oa_decision.specs.States.{State}
-use Rattle.oa_decision.specs.ValuePlans.{PlansValue, TellsValue}
+use Rattle.oa_decision.specs.ValuePlans.{PlansGet, PlansPut, PlansValue}
+use Rattle.oa_decision.specs.declared.plan.ValuePlan.{ValuePlan}
 use Rattle.oa_decision.specs.declared.plan.ValuePlan.TheVariants.{Answered, Put}
-use Rattle.oa_decision.specs.declared.plan.ValuePut.{ValuePut}
 use Rattle.oa_decision.proofs.Found.{cell_found}
-use Rattle.oa_decision.proofs.Zeros.{no_locks}
 
 -- what was answered, where it is told without a fault
 pub answered : {A E : Type 0} (r : Result A E) (x : A) → result_ok r ≡ Some x → r ≡ Ok x
@@ -59,12 +56,18 @@ module _ (state : State) (head : CallHead) (interface : InterfaceValue) (declare
       let at = bound_put is.member.value_type argument value (rw is.typed becomes) in
       rw (cell_found state (bringing head (Some argument)) (Flags head.flags) interface is.member forms.Put (record { key = []; value = Some value }) found (sym is.found) (rw (is.keyless, at) refl)) refl
 
-  pub plans_get : (tag : ℕ) (reply : ReplyValue) → IsKeyless interface head.dispid (Flags head.flags) declared forms.Get
-      → TellsValue state tag cell declared reply → PlansValue state tag (Invoke (bringing head None)) (Answered reply)
-  plans_get tag reply is (inl says) = inl (_, decided_get is, says)
-  plans_get tag reply is (inr wants) = inr (inl (inr (ap is_ok (decided_get is))), wants)
+  pub plans_get : (tag : ℕ) (plan : ValuePlan) → IsKeyless interface head.dispid (Flags head.flags) declared forms.Get
+      → PlansGet state tag cell declared plan → PlansValue state tag (Invoke (bringing head None)) plan
+  plans_get tag (Answered reply) is (inl says) = inl (_, decided_get is, says)
+  plans_get tag (Answered reply) is (inr wants) = inr (inl (inr (ap is_ok (decided_get is))), wants)
+  plans_get tag (Put put) is none = absurd none
 
-  pub plans_put : (tag : ℕ) (argument value : Variant) (put : ValuePut) → IsKeyless interface head.dispid (Flags head.flags) declared forms.Put → coerced argument declared ≡ Ok value
-      → put ≡ record { object = head.object; interface = interface.guid; dispid = head.dispid; value = unlocked value }
-      → PlansValue state tag (Invoke (bringing head (Some argument))) (Put put)
-  plans_put tag argument value put is becomes made = (decided_put argument value becomes is ∙ rw made refl, rw made (no_locks value))
+  plans_put : (tag : ℕ) (argument : Variant) (plan : ValuePlan) → IsKeyless interface head.dispid (Flags head.flags) declared forms.Put
+      → PlansPut head.object interface.guid head.dispid (coerced argument declared) plan → PlansValue state tag (Invoke (bringing head (Some argument))) plan
+  plans_put tag argument (Answered reply) is none = absurd none
+  plans_put tag argument (Put put) is puts = (decided_put argument puts.0 puts.1 is ∙ rw puts.2 refl, puts.3)
+
+  pub puts : (tag : ℕ) (argument : Variant) (plan : Option ValuePlan) → IsKeyless interface head.dispid (Flags head.flags) declared forms.Put
+      → IfSome plan (PlansPut head.object interface.guid head.dispid (coerced argument declared)) → IfSome plan (PlansValue state tag (Invoke (bringing head (Some argument))))
+  puts tag argument None is none = tt
+  puts tag argument (Some plan) is plans = plans_put tag argument plan is plans

@@ -1,5 +1,5 @@
 -- What is planned of a call that brings no more than a new value. (This project's choice.)
-use Rattle.std.specs.Prelude.{◌≡◌, ◌⊎◌, List, [], ℕ, None, Result, Ok}
+use Rattle.std.specs.Prelude.{◌≡◌, ◌⊎◌, List, [], ℕ, ℤ, None, Result, Ok}
 use Rattle.oa_coerce.specs.declared.fault.CoerceFault.{CoerceFault}
 use Rattle.oa_model.specs.Codes.{e_outofmemory, s_ok}
 use Rattle.oa_model.specs.declared.var_type.ValueType.{ValueType}
@@ -23,12 +23,13 @@ use Rattle.oa_decision.specs.Decided.{RequestTakesMemory, decided, refusal}
 abbrev pub reply_told : ℕ → List ℕ → ReplyValue
 reply_told tag fields = record { tag = tag; code = s_ok; index = None; body = fields }
 
--- the cell of a property without parameters, which is set
+-- the cell of a property without parameters
+abbrev pub keyless_cell : ℕ → List ℕ → ℤ → CellName
+keyless_cell object interface dispid =
+    record { object = object; place = record { interface = interface; dispid = dispid; key = [] } }
+
 abbrev pub put_event : ValuePut → Event
-put_event put =
-    events.Put
-    (record { object = put.object; place = record { interface = put.interface; dispid = put.dispid; key = [] } })
-    put.value
+put_event put = events.Put (keyless_cell put.object put.interface put.dispid) put.value
 
 -- a request is answered with the fields that are decided, or memory was wanted; or this change is decided
 abbrev pub PlansValue : State → ℕ → Request → ValuePlan → Type 0
@@ -39,10 +40,15 @@ PlansValue state tag request (Put put) =
     (decided state request ≡ Ok (decisions.Change (put_event put) [])) × BringsNoLocks (put_event put)
 
 -- the value of a cell is told, or memory was wanted
-abbrev pub TellsValue : State → ℕ → CellName → ValueType → ReplyValue → Type 0
-TellsValue state tag name declared reply =
+abbrev pub PlansGet : State → ℕ → CellName → ValueType → ValuePlan → Type 0
+PlansGet state tag name declared (Answered reply) =
     (reply ≡ reply_told tag (reply_value state name declared)) ⊎ (reply ≡ refusal tag e_outofmemory None)
+PlansGet state tag name declared (Put put) = ⊥
 
--- an argument becomes this value, which has no locks
-abbrev pub BecomesUnlocked : Result Variant CoerceFault → Variant → Type 0
-BecomesUnlocked due value = (made : Variant) × (due ≡ Ok made) × (value ≡ unlocked made)
+-- a cell is set to a value that was coerced
+abbrev pub PlansPut : ℕ → List ℕ → ℤ → Result Variant CoerceFault → ValuePlan → Type 0
+PlansPut object interface dispid coerced (Answered reply) = ⊥
+PlansPut object interface dispid coerced (Put put) =
+    (value : Variant) × (coerced ≡ Ok value)
+    × (put ≡ record { object = object; interface = interface; dispid = dispid; value = unlocked value })
+    × BringsNoLocks (put_event put)

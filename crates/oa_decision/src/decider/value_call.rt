@@ -6,7 +6,7 @@ ghost use Rattle.oa_record.specs.ValueCalls.{bringing};
 ghost use Rattle.oa_record.specs.declared.request.Request.TheVariants.{Invoke};
 ghost use Rattle.oa_table.specs.Tables.{object_at};
 ghost use Rattle.oa_decision.specs.Cells.{IsKeyless};
-ghost use Rattle.oa_decision.specs.ValuePlans.{BecomesUnlocked, PlansValue, TellsValue};
+ghost use Rattle.oa_decision.specs.ValuePlans.{PlansGet, PlansPut, PlansValue, keyless_cell};
 ghost use Rattle.oa_typelib.specs.Members.{lets};
 ghost use Rattle.oa_variant.specs.Variants.{HasZero};
 
@@ -18,6 +18,7 @@ use oa_record::{CallHead, Reply};
 use oa_table::{CellName, LiveObject, Place};
 use oa_typelib::{Access, Dispinterface, Kind};
 use oa_variant::Variant;
+use uuid::Uuid;
 
 impl Decider<'_> {
     /// What is left of the turn of an INVOKE that brings this value or nothing, under this tag: the reply (E_OUTOFMEMORY where memory was
@@ -34,52 +35,75 @@ impl Decider<'_> {
         let guid = interface.interface().guid;
         match form {
             Kind::Get => match value {
-                None => Some(ValuePlan::Answered(self.plan_get(
-                    tag,
-                    object,
-                    CellName {
-                        object: head.object,
-                        place: Place::new(guid, head.dispid, Vec::new(self.alloc)),
-                    },
-                    declared,
-                ))),
-                Some(_) => None,
+                None => {
+                    return Some(self.plan_get(
+                        tag,
+                        object,
+                        head.object,
+                        guid,
+                        head.dispid,
+                        declared,
+                    ));
+                }
+                Some(_) => return None,
             },
-            Kind::Put => {
-                let argument = value?;
-                let value = self.put_value(argument, declared)?;
-                Some(ValuePlan::Put(ValuePut {
-                    object: head.object,
-                    interface: guid,
-                    dispid: head.dispid,
-                    value,
-                }))
+            Kind::Put => self.plan_put(head.object, guid, head.dispid, value?, declared),
+        }
+    }
+
+    /// A get tells the value of its cell, or that memory was wanted.
+    fn plan_get(
+        &self,
+        tag: u32,
+        object: &LiveObject,
+        number: u32,
+        interface: Uuid,
+        dispid: i32,
+        declared: ValueType,
+    ) -> ValuePlan
+        requires object { object_at number self.now.table ≡ Some object.now }
+        requires zero { HasZero declared }
+        ensures { PlansGet self.now tag (keyless_cell number interface dispid) declared result }
+    {
+        let place = Place::new(interface, dispid, Vec::new(self.alloc));
+        let name = CellName {
+            object: number,
+            place,
+        };
+        match self.value_field(object, &name, declared) {
+            Ok(fields) => {
+                ValuePlan::Answered(Reply::new(tag, HResult::S_OK, None, fields.into_vec()))
+            }
+            Err(_) => {
+                ValuePlan::Answered(Reply::bare(self.alloc, tag, HResult::E_OUTOFMEMORY, None))
             }
         }
     }
 
-    /// What the argument of a put becomes as a value of the declared type, without locks. None where it becomes none.
+    /// A put sets its cell to what the argument becomes as a value of the declared type, without locks. None where it becomes none.
     #[inline(always)]
-    fn put_value(&self, argument: Variant, declared: ValueType) -> Option<Variant>
+    #[tactic(auto, using(crate::proofs::Zeros::no_locks))]
+    fn plan_put(
+        &self,
+        object: u32,
+        interface: Uuid,
+        dispid: i32,
+        argument: Variant,
+        declared: ValueType,
+    ) -> Option<ValuePlan>
         requires { HasZero declared }
-        ensures { IfSome result (BecomesUnlocked (coerced argument declared)) }
+        ensures { IfSome result (PlansPut object interface dispid (coerced argument declared)) }
     {
         let Ok(value) = coerce(self.alloc, argument, declared) else {
             return None;
         };
-        Some(value.into_unlocked())
-    }
-
-    /// A get tells the value of its cell, or that memory was wanted.
-    fn plan_get(&self, tag: u32, object: &LiveObject, name: &CellName, declared: ValueType) -> Reply
-        requires object { object_at name.now.object self.now.table ≡ Some object.now }
-        requires zero { HasZero declared }
-        ensures { TellsValue self.now tag name.now declared result }
-    {
-        match self.value_field(object, name, declared) {
-            Ok(fields) => Reply::new(tag, HResult::S_OK, None, fields.into_vec()),
-            Err(_) => Reply::bare(self.alloc, tag, HResult::E_OUTOFMEMORY, None),
-        }
+        let value = value.into_unlocked();
+        Some(ValuePlan::Put(ValuePut {
+            object,
+            interface,
+            dispid,
+            value,
+        }))
     }
 }
 

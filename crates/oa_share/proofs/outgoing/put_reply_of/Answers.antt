@@ -1,4 +1,4 @@
-use Rattle.std.proofs.Common.{◌+◌, ◌++◌, arith, length, refl, subst}
+use Rattle.std.proofs.Common.{◌+◌, ◌++◌, arith, length, subst}
 use Rattle.std.specs.Int.{to_le_bytes, w32}
 use Rattle.std.proofs.lemmas.Result.{err_from_is_err_and}
 use Rattle.oa_stream.specs.Sink.{Breaks, Puts}

@@ -37,14 +37,14 @@ fn put_front<W: Sink>(
     ensures { Puts result (W.out writer.old) (W.out writer.new)
         ((frames.frame_head client (4 + (16 + length fields.now)) ++ to_le_bytes w32 (16 + length fields.now)) ++ head.now) }
 {
-    let mut bytes = [0u8; 28];
+    let mut bytes = [0u8; 32];
     lay_out(client, head, fields, &mut bytes);
     writer.put(&bytes[..28])
 }
 
-/// The same, in a buffer.
+/// The same, at the start of a buffer.
 #[inline(always)]
-fn lay_out(client: u32, head: &[u8; 16], fields: &[u8], bytes: &mut [u8; 28])
+fn lay_out(client: u32, head: &[u8; 16], fields: &[u8], bytes: &mut [u8; 32])
     requires { 16 + length fields.now ≤ 4294967291 }
     ensures { take 28 bytes.new
         ≡ (frames.frame_head client (4 + (16 + length fields.now)) ++ to_le_bytes w32 (16 + length fields.now)) ++ head.now }

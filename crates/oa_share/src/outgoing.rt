@@ -32,23 +32,22 @@ fn put_front<W: Sink>(
     head: &[u8; 16],
     fields: &[u8],
 ) -> Result<(), Unwritten>
-    requires short { length head.now + length fields.now ≤ 4294967291 }
+    requires short { 16 + length fields.now ≤ 4294967291 }
     requires unbroken { (W.out writer.old).broken ≡ false }
     ensures { Puts result (W.out writer.old) (W.out writer.new)
-        ((frames.frame_head client (4 + (length head.now + length fields.now)) ++ to_le_bytes w32 (length head.now + length fields.now))
-        ++ head.now) }
+        ((frames.frame_head client (4 + (16 + length fields.now)) ++ to_le_bytes w32 (16 + length fields.now)) ++ head.now) }
 {
-    let mut bytes = [0u8; 28];
+    let mut bytes = [0u8; 32];
     lay_out(client, head, fields, &mut bytes);
     writer.put(&bytes[..28])
 }
 
-/// The same, in a buffer.
+/// The same, at the start of a buffer.
 #[inline(always)]
-fn lay_out(client: u32, head: &[u8; 16], fields: &[u8], bytes: &mut [u8; 28])
-    requires { length head.now + length fields.now ≤ 4294967291 }
-    ensures { take 28 bytes.new ≡ (frames.frame_head client (4 + (length head.now + length fields.now))
-        ++ to_le_bytes w32 (length head.now + length fields.now)) ++ head.now }
+fn lay_out(client: u32, head: &[u8; 16], fields: &[u8], bytes: &mut [u8; 32])
+    requires { 16 + length fields.now ≤ 4294967291 }
+    ensures { take 28 bytes.new
+        ≡ (frames.frame_head client (4 + (16 + length fields.now)) ++ to_le_bytes w32 (16 + length fields.now)) ++ head.now }
 {
     bytes[..12].copy_from_slice(&lengths(client, head.len() + fields.len()));
     bytes[12..28].copy_from_slice(head);

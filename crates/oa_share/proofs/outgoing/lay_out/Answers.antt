@@ -7,7 +7,7 @@ use Rattle.oa_share.proofs.outgoing.lay_out.Goals as goal
 
 pub returns : goal.returns
 returns c =
-    let n = length c.args.head.now + length c.args.fields.now in
+    let n = 16 + length c.args.fields.now in
     let told = c.told-head in
     rw (c.copy_from_slice.ensures.after, c.copy_from_slice-2.ensures.after, c.lengths.ensures)
     (two_pieces (frame_head c.args.client (4 + n) ++ to_le_bytes w32 n) c.args.head.now (post_of 0 12 c.args.bytes.now) 12 28 refl (omega (arith, told)))

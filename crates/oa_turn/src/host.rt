@@ -131,7 +131,7 @@ impl Host {
     /// of these.
     fn put_value(&mut self, tag: u32, put: ValuePut) -> Reply
         requires { BringsNoLocks (put_event put) }
-        ensures turn { (body : List ℕ) → IsDrafted self.old body (put_planned tag put) → Ordinary self.old body result self.new }
+        ensures { (body : List ℕ) → IsDrafted self.old body (put_planned tag put) → Ordinary self.old body result self.new }
     {
         let ValuePut {
             object,

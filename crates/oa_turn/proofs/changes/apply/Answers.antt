@@ -1,5 +1,6 @@
+use Rattle.std.proofs.Common.{rules}
 use Rattle.oa_turn.proofs.Allowed.{stays_sound}
 use Rattle.oa_turn.proofs.changes.apply.Goals as goal
 
-pub returns-clause-sound : goal.returns-clause-sound
-returns-clause-sound c bank allowed sound = stays_sound bank c.args.event c.args.table.now c.apply.new.self sound allowed c.in_default.ensures.does
+pub returns-in-Ok-clause-sound : goal.returns-in-Ok-clause-sound
+returns-in-Ok-clause-sound c bank allowed sound = stays_sound bank c.args.event c.args.table.now c.put_again.new.self sound allowed (search (rules, c.in-Ok.ensures.done))

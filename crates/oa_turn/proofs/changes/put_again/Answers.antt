@@ -1,4 +1,4 @@
-use Rattle.std.proofs.Common.{rules, ◌≡◌, ◌-◌, ◌≤◌, ℕ, [], Result, Ok, Err, IfErr, OnOk, arith}
+use Rattle.std.proofs.Common.{◌≡◌, ◌-◌, ◌≤◌, ℕ, [], Result, Ok, Err, IfErr, OnOk, arith}
 use Rattle.oa_decision.specs.Limits.{allowed}
 use Rattle.oa_image.specs.Tables.{reserved_bytes}
 use Rattle.oa_table.specs.Events.{applied}

@@ -1,15 +1,14 @@
-use Rattle.std.proofs.Common.{rules}
 use Rattle.oa_turn.proofs.Bringing.{answers, drafted, no_release}
 use Rattle.oa_turn.proofs.host.Host.ordinary_turn.Goals as goal
 
 pub returns-in-Some-Answered-clause-turn : goal.returns-in-Some-Answered-clause-turn
-returns-in-Some-Answered-clause-turn c = answers c.args.self.now c.args.body.now c.in-Some-Answered.reply c.in-Some-Answered.ensures
+returns-in-Some-Answered-clause-turn c = answers c.args.self.now c.args.body.now c.in-Some-Answered.reply (rw c.in-Some-Answered.field-0-is at c.in-Some-Answered.ensures)
 
 pub returns-in-Some-Put-clause-turn : goal.returns-in-Some-Put-clause-turn
-returns-in-Some-Put-clause-turn c = c.put_value.ensures c.args.body.now (drafted c.args.self.now c.args.body.now c.in-Some-Put.put c.in-Some-Put.ensures)
+returns-in-Some-Put-clause-turn c = c.put_value.ensures c.args.body.now (rw c.tag_of.ensures (drafted c.args.self.now c.args.body.now c.in-Some-Put.put (rw c.in-Some-Put.field-0-is at c.in-Some-Put.ensures)))
 
 pub returns-in-Some-Answered-clause-released : goal.returns-in-Some-Answered-clause-released
-returns-in-Some-Answered-clause-released c = λ number of code. no_release c.args.self.now c.args.body.now c.one_request.ensures number c.in-Some-Answered.ensures of
+returns-in-Some-Answered-clause-released c = λ number of code. no_release c.args.self.now c.args.body.now c.one_request.ensures _ number c.in-Some-Answered.ensures of
 
 pub returns-in-Some-Put-clause-released : goal.returns-in-Some-Put-clause-released
-returns-in-Some-Put-clause-released c = λ number of code. no_release c.args.self.now c.args.body.now c.one_request.ensures number c.in-Some-Put.ensures of
+returns-in-Some-Put-clause-released c = λ number of code. no_release c.args.self.now c.args.body.now c.one_request.ensures _ number c.in-Some-Put.ensures of

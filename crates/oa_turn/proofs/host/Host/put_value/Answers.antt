@@ -1,4 +1,4 @@
-use Rattle.std.proofs.Common.{rules}
+use Rattle.std.proofs.Common.{◌≡◌, [], rules}
 use Rattle.oa_turn.proofs.Changing.{done}
 use Rattle.oa_turn.specs.Plans.{put_planned}
 use Rattle.oa_turn.proofs.host.Host.put_value.Goals as goal
@@ -7,4 +7,7 @@ pub returns-in-Ok : goal.returns-in-Ok
 returns-in-Ok c = λ body is. done c.args.self.now body (put_planned c.args.tag c.args.put) is _ c.bare.result (search rules) (search rules) (search rules)
 
 pub returns-in-Err : goal.returns-in-Err
-returns-in-Err c = λ body is. rw (c.in-Err.ensures.back.0, c.in-Err.ensures.back.1) at (c.make.ensures.turn body (rw (c.in-Err.ensures.back.0, c.in-Err.ensures.back.1) is))
+returns-in-Err c = λ body is.
+    let back = c.in-Err.ensures.back in
+    let placed : c.new-place.result ≡ record { interface = c.args.put.interface; dispid = c.args.put.dispid; key = [] } = search rules in
+    rw (back.1, c.self.view_is) at (c.make-in-Err.ensures.turn body (rw (back.0, back.1, placed, c.none.ensures, c.self.view_is) is))

@@ -50,7 +50,6 @@ pub(crate) fn turn_held<D: Disk>(
 }
 
 /// Makes a planned change in memory and holds its event, and tells it.
-#[inline(always)]
 fn hold<D: Disk>(
     alloc: Global,
     host: &mut Host,
@@ -84,7 +83,6 @@ fn hold<D: Disk>(
 
 /// Makes a change that is allowed, and holds its event in a batch, behind a checkpoint where one is due: that has the table before the
 /// change. Then the growths of the event's bytes and of the table follow. At `Device` the checkpoint failed.
-#[inline(always)]
 fn hold_change<D: Disk>(
     host: &mut Host,
     store: &mut Store<D>,
@@ -109,7 +107,6 @@ fn hold_change<D: Disk>(
 }
 
 /// Makes a change that is allowed, and adds its event to the batch. The growths come in this order: the event's bytes, the table's.
-#[inline(always)]
 fn add_change(host: &mut Host, batch: &mut Batch, event: Event) -> Result<(), HoldFault>
     requires { CanBeMade host.old event }
     ensures change { MakesChange event host.old host.new result }

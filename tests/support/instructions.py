@@ -36,8 +36,9 @@ GETS = {"lines", "records", "frames"}
 # what is committed of them, and how far above it they may come
 TABLE = "instructions.txt"
 RISE = 1.05
-# how far a request of many clients may come above one of a single client, each in a frame of its own, of another client than the one before
-MORE = 150
+# how far a request of many clients may come above one of a single client, each in a frame of its own, of another client than the one before (a
+# record of a single client is answered where it was read, and one of many is put together first)
+MORE = 200
 
 
 def spelled(bodies, way):

@@ -36,7 +36,11 @@ def with_parameters(count):
 
 
 # how many times a put of a long a kind takes at most, and which takes more (docs/DECISIONS.md, "Speed")
-MOST, SLOWER = 3, {"put-array": 3.5, "redim": 3.5, "put-element": 4}
+MOST, SLOWER = 3, {
+    **{f"{way}-{count}-keys": 4.5 for count in (1, 2, 3) for way in ("put", "get")},
+    **{"put-array": 6.5, "put-element": 6.5, "redim": 6, "get-array": 4, "get-element": 4, "lock": 4, "unlock": 4},
+    **{"names": 4.5, "type-info": 4.5, "create": 4},
+}
 # what is sent for each object before the kinds, whose requests are sent one kind behind another: so all puts are over a value that is there
 BEFORE = [
     lambda of: oaut.ask_create(ITEM),

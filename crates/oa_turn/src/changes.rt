@@ -85,7 +85,8 @@ pub(crate) fn put_again(
     table.put_again(name, value, LONGEST_VALUE, most_of(bank))
 }
 
-/// The same of one that is within the limits, where it applies.
+/// Makes a change that is within the limits, where it applies. Err tells why it does not, or that no memory was found; then nothing
+/// changes.
 fn change_within(table: &mut Table, event: Event) -> Result<(), HResult>
     requires unlocked { BringsNoLocks event }
     ensures change { (bank : ℕ) → StaysWithin bank event table.old → ChangesTable bank event table.old table.new result }

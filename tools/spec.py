@@ -27,7 +27,7 @@ SENTENCES = {
     6: ["oa_disk.specs.Disk." + it for it in ("WritesUnsynced", "Syncs", "TakesTime", "FailsAs")],
     7: ["oa_store.specs.Stores.IsStore"],
     8: ["oa_history.specs.Lived.IsLived", "oa_history.specs.SharedLived.IsSharedLived", "oa_history.specs.Survived.IsSurvived"],
-    9: ["oa_keeps.specs.Keeps.KeepsLibrary", "oa_server.specs.Answers.RenewsStore", "oa_store.specs.Changes.IsUpgrade", "oa_store.specs.Faults.IsBrought"],
+    9: ["oa_keeps.specs.Keeps.KeepsLibrary", "oa_server.specs.Answers.ReplacesInStore", "oa_store.specs.Changes.IsUpgrade", "oa_store.specs.Faults.IsBrought"],
 }
 # more than this nobody should have to read
 LIMITS = {"Turn": 820, "IsLived": 1_240}

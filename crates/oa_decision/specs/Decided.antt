@@ -4,6 +4,8 @@ use Rattle.std.specs.Prelude.{◌⊎◌, ℕ, IsOk, [], Option, Result, Ok, Err}
 use Rattle.oa_model.specs.declared.hresult.HResult.{HResult}
 use Rattle.oa_record.specs.declared.request.Request.{Request}
 use Rattle.oa_record.specs.declared.request.Request.TheVariants as requests
+use Rattle.oa_record.specs.declared.opcode.ByCall.TheVariants as by_call
+use Rattle.oa_record.specs.declared.opcode.ByNumber.TheVariants as by_number
 use Rattle.oa_record.specs.Replies.{ReplyValue}
 use Rattle.oa_typelib.specs.declared.access.Access.TheVariants.{Flags, Get, Put}
 use Rattle.oa_decision.specs.declared.decision.Decision.{Decision}
@@ -14,10 +16,10 @@ use Rattle.oa_decision.specs.Create.{creation}
 use Rattle.oa_decision.specs.GetElement.{element_got}
 use Rattle.oa_decision.specs.Invoke.{invocation}
 use Rattle.oa_decision.specs.Limits.{allowed}
-use Rattle.oa_decision.specs.Listing.{listing}
 use Rattle.oa_decision.specs.Lock.{locking}
 use Rattle.oa_decision.specs.LookUps.{look_up}
 use Rattle.oa_decision.specs.PutElement.{element_put}
+use Rattle.oa_decision.specs.Queries.{answered}
 use Rattle.oa_decision.specs.Redimension.{IsOfNeverPut, redimension}
 use Rattle.oa_decision.specs.Release.{ending}
 use Rattle.oa_decision.specs.States.{State}
@@ -27,16 +29,16 @@ use Rattle.oa_decision.specs.Unlock.{unlocking}
 -- what is decided of a request
 abbrev pub decided : State → Request → Result Decision Refusal
 decided state (requests.Create class) = creation state class
-decided state (requests.Release number) = ending number
+decided state (requests.ByNumber by_number.Release number) = ending number
 decided state (requests.GetIds call) = look_up state call
-decided state (requests.Invoke call) = invocation state call
+decided state (requests.ByCall by_call.Invoke call) = invocation state call
 decided state (requests.GetElement call indices) = element_got state call indices
 decided state (requests.PutElement call indices value) = element_put state call indices value
 decided state (requests.Redimension call bound) = redimension state call bound
-decided state (requests.Lock call) = locking state call
-decided state (requests.Unlock call) = unlocking state call
-decided state (requests.TypeInfo index) = information state index
-decided state requests.Objects = listing state
+decided state (requests.ByCall by_call.Lock call) = locking state call
+decided state (requests.ByCall by_call.Unlock call) = unlocking state call
+decided state (requests.ByNumber by_number.TypeInfo index) = information state index
+decided state (requests.Query query) = answered state query
 
 -- a reply without fields
 abbrev pub refusal : ℕ → HResult → Option ℕ → ReplyValue
@@ -46,19 +48,21 @@ refusal tag code index = record { tag = tag; code = code; index = index; body = 
 -- answer, where there is one; the zero array of a cell that was never put, which a REDIM changes.
 abbrev pub DecidingTakesMemory : State → Request → Type 0
 DecidingTakesMemory state (requests.Create class) = IsOk (creation state class)
-DecidingTakesMemory state (requests.Release number) = ⊥
+DecidingTakesMemory state (requests.ByNumber by_number.Release number) = ⊥
 DecidingTakesMemory state (requests.GetIds call) = IsOk (look_up state call)
-DecidingTakesMemory state (requests.Invoke call) =
+DecidingTakesMemory state (requests.ByCall by_call.Invoke call) =
     FindingTakesMemory state call (Flags call.head.flags) ⊎ IsOk (invocation state call)
 DecidingTakesMemory state (requests.GetElement call indices) =
     FindingTakesMemory state call Get ⊎ IsOk (element_got state call indices)
 DecidingTakesMemory state (requests.PutElement call indices value) = FindingTakesMemory state call Put
 DecidingTakesMemory state (requests.Redimension call bound) =
     FindingTakesMemory state call Put ⊎ IsOfNeverPut state call
-DecidingTakesMemory state (requests.Lock call) = FindingTakesMemory state call Get ⊎ IsOk (locking state call)
-DecidingTakesMemory state (requests.Unlock call) = FindingTakesMemory state call Get ⊎ IsOk (unlocking state call)
-DecidingTakesMemory state (requests.TypeInfo index) = IsOk (information state index)
-DecidingTakesMemory state requests.Objects = IsOk (listing state)
+DecidingTakesMemory state (requests.ByCall by_call.Lock call) =
+    FindingTakesMemory state call Get ⊎ IsOk (locking state call)
+DecidingTakesMemory state (requests.ByCall by_call.Unlock call) =
+    FindingTakesMemory state call Get ⊎ IsOk (unlocking state call)
+DecidingTakesMemory state (requests.ByNumber by_number.TypeInfo index) = IsOk (information state index)
+DecidingTakesMemory state (requests.Query query) = IsOk (answered state query)
 
 -- a change takes memory where the table may be changed so
 abbrev pub ChangingTakesMemory : State → Result Decision Refusal → Type 0

@@ -16,5 +16,6 @@ pub mod Redimension
 pub mod Lock
 pub mod Unlock
 pub mod Listing
+pub mod Queries
 pub mod Decided
 pub mod ValuePlans

@@ -1,13 +1,16 @@
 //! What is decided of a request over a library and a table of objects, which are only read.
-ghost use Rattle.std.specs.Prelude.{◌≡◌, IfOk};
+ghost use Rattle.std.specs.Prelude.{◌≡◌, IfOk, IsOk};
 ghost use Rattle.oa_decision.specs.Decisions.{ChangesNoLocks, Decides};
 ghost use Rattle.oa_decision.specs.Decided.{DecidingTakesMemory, decided};
+ghost use Rattle.oa_decision.specs.Queries.{answered, told};
 
 use crate::decision::{Decision, Undecided};
-use oa_record::Request;
+use crate::fields::Fields;
+use oa_model::HResult;
+use oa_record::{ByCall, ByNumber, Query, Request};
 use oa_table::Table;
 use oa_typelib::Library;
-use std::alloc::Global;
+use std::alloc::{AllocError, Global};
 use std::marker::Model;
 
 mod array_cell;
@@ -66,11 +69,12 @@ impl<'a> Decider<'a> {
     {
         match request {
             Request::Create { class } => self.creation(class),
-            Request::Release { object } => Ok(self.ending(object)),
+            Request::ByNumber(ByNumber::Release, object) => Ok(self.ending(object)),
+            Request::ByNumber(ByNumber::TypeInfo, index) => self.information(index),
             Request::GetIds(call) => self.look_up(call),
-            Request::Invoke(call) => self.invocation(call),
-            Request::TypeInfo { index } => self.information(index),
-            Request::Objects => self.listing(),
+            Request::ByCall(ByCall::Invoke, call) => self.invocation(call),
+            Request::ByCall(ByCall::Lock, call) => self.locking(call),
+            Request::ByCall(ByCall::Unlock, call) => self.unlocking(call),
             Request::GetElement { call, indices } => self.element_got(call, indices),
             Request::PutElement {
                 call,
@@ -78,8 +82,26 @@ impl<'a> Decider<'a> {
                 value,
             } => self.element_put(call, indices, value),
             Request::Redimension { call, bound } => self.redimension(call, bound),
-            Request::Lock(call) => self.locking(call),
-            Request::Unlock(call) => self.unlocking(call),
+            Request::Query(query) => self.answered(query),
+        }
+    }
+
+    /// Answers what is asked without fields.
+    fn answered(&self, query: Query) -> Result<Decision, Undecided>
+        ensures decided { Decides (answered self.now query) (IsOk (answered self.now query)) result }
+        ensures unlocked { IfOk result ChangesNoLocks }
+    {
+        let fields = self.told(query)?;
+        let code = HResult::S_OK;
+        Ok(Decision::Answer { code, fields })
+    }
+
+    /// The fields of the answer.
+    fn told(&self, query: Query) -> Result<Fields, AllocError>
+        ensures { IfOk result (λ fields. fields ≡ told self.now query) }
+    {
+        match query {
+            Query::Objects => self.objects_field(),
         }
     }
 }

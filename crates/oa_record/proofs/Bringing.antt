@@ -8,7 +8,8 @@ use Rattle.oa_record.specs.Layouts.{Layout}
 use Rattle.oa_record.specs.Reading.{layout_at}
 use Rattle.oa_record.specs.ValueCalls.{SpellsNew, bringing, parts_bringing}
 use Rattle.oa_record.specs.declared.request.CallHead.{CallHead}
-use Rattle.oa_record.specs.declared.request.Request.TheVariants.{Invoke}
+use Rattle.oa_record.specs.declared.opcode.ByCall.TheVariants.{Invoke}
+use Rattle.oa_record.specs.declared.request.Request.TheVariants.{ByCall}
 use Rattle.oa_record.specs.declared.request.ValueCall.{ValueCall}
 use Rattle.oa_record.proofs.Requests.{asks}
 
@@ -22,7 +23,7 @@ many_one read s t x is = rw is refl
 
 -- the request of a body that is laid out so
 pub asks_value : (body : List ℕ) (head : CallHead) (field : Option (List ℕ)) (value : Option Variant) → length body ≤ max_request_bytes
-    → whole layout_at body ≡ Some (Layout.InvokeBody (parts_bringing head field)) → SpellsNew field value → Asks body (Invoke (bringing head value))
+    → whole layout_at body ≡ Some (Layout.CallBody Invoke (parts_bringing head field)) → SpellsNew field value → Asks body (ByCall Invoke (bringing head value))
 asks_value body head None None short read is = asks body _ _ short read (record { values = []; spelled = tt; is = refl })
 asks_value body head (Some field) (Some value) short read is = asks body _ _ short read (record { values = value ∷ []; spelled = (is, tt); is = refl })
 asks_value body head None (Some value) short read is = absurd is
@@ -30,7 +31,7 @@ asks_value body head (Some field) None short read is = absurd is
 
 -- the same of what was read
 pub asks_read : (body : List ℕ) (head : CallHead) (field : Option (List ℕ)) (read : Option ValueCall) → length body ≤ max_request_bytes
-    → whole layout_at body ≡ Some (Layout.InvokeBody (parts_bringing head field)) → IfSome read (λ call. (call.head ≡ head) × SpellsNew field call.value)
-    → IfSome read (λ call. Asks body (Invoke (bringing call.head call.value)))
+    → whole layout_at body ≡ Some (Layout.CallBody Invoke (parts_bringing head field)) → IfSome read (λ call. (call.head ≡ head) × SpellsNew field call.value)
+    → IfSome read (λ call. Asks body (ByCall Invoke (bringing call.head call.value)))
 asks_read body head field None short laid is = tt
 asks_read body head field (Some call) short laid is = rw is.0 (asks_value body head field call.value short laid is.1)

@@ -1,5 +1,5 @@
 -- What stands before the lists of an INVOKE, read by its places.
-use Rattle.std.proofs.Common.{◌≡◌, ℕ, ◌+◌, ◌≤◌, ◌==◌, ◌&&◌, nat_le, nat_lt, Bool, true, false, true≢false, if◌then◌else◌, List, [], length, take, drop}
+use Rattle.std.proofs.Common.{◌≡◌, ℕ, ◌+◌, ◌≤◌, ◌==◌, ◌&&◌, nat_le, nat_lt, Bool, true, false, true≢false, if◌then◌else◌, List, length, take, drop}
 use Rattle.std.proofs.Common.{Option, Some, None, refl, sym, ap, ◌∙◌, arith}
 use Rattle.std.proofs.lemmas.Bool.Decides.{nat_tests}
 use Rattle.std.proofs.lemmas.List.{drop-drop, length-drop}
@@ -11,6 +11,7 @@ use Rattle.oa_ndr.specs.Forms.{padding}
 use Rattle.oa_ndr.specs.Reading.{Cursor, at, moved, and_then, steps, bytes_at, slot_at, unit_at, whole}
 use Rattle.oa_record.specs.CallParts.{CallParts}
 use Rattle.oa_record.specs.Layouts.{Layout}
+use Rattle.oa_record.specs.declared.opcode.ByCall.TheVariants as by_call
 use Rattle.oa_record.specs.Reading.{guid_at, dispid_at, call_head_at, call_at, fields_at, lists_at, named_at, layout_at}
 use Rattle.oa_record.specs.declared.request.CallHead.{CallHead}
 use Rattle.oa_record.specs.ValueCalls.{guid_in, head_in, number_in, lists_behind}
@@ -70,7 +71,7 @@ module _ (body : List ℕ) where
     unfolding steps call_at lists_behind
     call_there = rw (head_there, unit_there 4 56 refl (omega (arith, h)), unit_there 4 60 refl (omega (arith, h))) refl
 
-    laid : number_in 2 4 body ≡ 4 → layout_at (place_of 0 body) ≡ and_then (lists_behind body (place_of 64 body)) (λ call s. Some (Layout.InvokeBody call, s))
+    laid : number_in 2 4 body ≡ 4 → layout_at (place_of 0 body) ≡ and_then (lists_behind body (place_of 64 body)) (λ call s. Some (Layout.CallBody by_call.Invoke call, s))
     unfolding steps layout_at named_at fields_at
     laid invoke =
         rw (unit_there 4 0 refl (omega (arith, h)), unit_there 2 4 refl (omega (arith, h)), unit_there 2 6 refl (omega (arith, h)), invoke, call_there)
@@ -81,7 +82,7 @@ same_inside x y e = cc
 
 -- an INVOKE whose lists are read to its end
 pub call_laid : (body front : List ℕ) (r s t : Cursor) (call : CallParts) → 64 ≤ length body → number_in 2 4 body ≡ 4 → r ≡ at 0 body
-    → bytes_at 64 r ≡ Some (front, s) → lists_behind body s ≡ Some (call, t) → (length t.rest == 0) ≡ true → whole layout_at body ≡ Some (Layout.InvokeBody call)
+    → bytes_at 64 r ≡ Some (front, s) → lists_behind body s ≡ Some (call, t) → (length t.rest == 0) ≡ true → whole layout_at body ≡ Some (Layout.CallBody by_call.Invoke call)
 call_laid body front r s t call h invoke start moves read none =
     let first : Some (front, s) ≡ Some (take 64 body, place_of 64 body) = sym moves ∙ ap (bytes_at 64) start ∙ bytes_there body 64 0 h in
     let behind : s ≡ place_of 64 body = ap (λ (p : List ℕ × Cursor). p.1) (same_inside (front, s) (take 64 body, place_of 64 body) first) in

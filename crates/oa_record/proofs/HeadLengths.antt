@@ -56,16 +56,13 @@ get_ids_has q =
 
 fields_have : (parts : Layout) → HasAtLeast (before_memory (opcode_of parts)) (fields parts)
 fields_have (Layout.CreateBody class) = any_has _
-fields_have (Layout.ReleaseBody object) = any_has _
+fields_have (Layout.NumberBody kind n) = any_has _
 fields_have (Layout.GetIdsBody call) = get_ids_has call
-fields_have (Layout.InvokeBody call) = call_has call
+fields_have (Layout.CallBody kind call) = call_has call
 fields_have (Layout.GetElementBody element) = then_has 56 0 (call_has element.call) (any_has _)
 fields_have (Layout.PutElementBody put) = then_has 56 0 (then_has 56 0 (call_has put.element.call) (any_has _)) (any_has _)
 fields_have (Layout.RedimensionBody redim) = then_has 56 0 (call_has redim.call) (any_has _)
-fields_have (Layout.LockBody call) = call_has call
-fields_have (Layout.UnlockBody call) = call_has call
-fields_have (Layout.TypeInfoBody index) = any_has _
-fields_have Layout.ObjectsBody = any_has _
+fields_have (Layout.QueryBody query) = any_has _
 
 pub layout_length : (parts : Layout) (body : List ℕ) → layout parts 0 body → 8 + before_memory (opcode_of parts) ≤ length body
 layout_length parts body form =

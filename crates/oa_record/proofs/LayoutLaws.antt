@@ -1,7 +1,7 @@
 -- Reading a layout reads its form.
-use Rattle.std.proofs.Common.{◌≡◌, ℕ, ℤ, ◌+◌, ◌≤◌, Bool, true, false, eqb, leb, ◌&&◌, cond, List, ◌++◌, length, Option, Some, None, refl}
+use Rattle.std.proofs.Common.{◌≡◌, ℕ, ℤ, ◌+◌, ◌≤◌, Bool, true, false, leb, ◌&&◌, List, ◌++◌, length, Option, Some, None, refl}
 use Rattle.std.proofs.Common.{sym, ap, subst, ◌∙◌, arith}
-use Rattle.std.proofs.lemmas.Bool.{leb-true, leb-false, eqb-true}
+use Rattle.std.proofs.lemmas.Bool.{leb-true, leb-false}
 use Rattle.std.specs.Int.{w32, cast_signed}
 use Rattle.oa_model.specs.Limits.{max_arguments, max_dimensions, max_names}
 use Rattle.oa_model.specs.Guids.{wire_order}
@@ -16,6 +16,7 @@ use Rattle.oa_wire_array.specs.ArrayReading.{bound_at}
 use Rattle.oa_wire_array.proofs.ScalarLaws.{signed_reads}
 use Rattle.oa_record.specs.CallParts.{CallParts, ElementParts, PutParts, RedimParts}
 use Rattle.oa_record.specs.Opcodes.{opcode_number, opcode_named}
+use Rattle.oa_record.proofs.OpcodeLaws.{named_back, number_from, same_opcode}
 use Rattle.oa_record.specs.declared.opcode.Opcode.{Opcode}
 use Rattle.oa_record.specs.declared.opcode.Opcode.TheVariants as opcodes
 use Rattle.oa_record.specs.declared.request.CallHead.{CallHead}
@@ -181,72 +182,45 @@ number_reads =
 
 -- ---- the opcodes
 
+-- a body that asks for another library has no layout
+pub no_layout : (l : Layout) → opcode_of l ≡ opcodes.Replace → ⊥
+no_layout (Layout.CreateBody class) e = cc
+no_layout (Layout.NumberBody kind n) e = cc
+no_layout (Layout.GetIdsBody call) e = cc
+no_layout (Layout.CallBody kind call) e = cc
+no_layout (Layout.GetElementBody element) e = cc
+no_layout (Layout.PutElementBody put) e = cc
+no_layout (Layout.RedimensionBody redim) e = cc
+no_layout (Layout.QueryBody query) e = cc
+
 fields_takes : (k : Opcode) (p : ℕ) (bytes : List ℕ) (l : Layout) (end : Cursor) → fields_at k (at p bytes) ≡ Some (l, end) → (opcode_of l ≡ k) × Takes (fields l) p bytes end
 unfolding fields_at
 fields_takes opcodes.Create = made_takes (λ l. opcode_of l ≡ opcodes.Create) fields Layout.CreateBody guid_reads (λ _ _. refl)
-fields_takes opcodes.Release = made_takes (λ l. opcode_of l ≡ opcodes.Release) fields Layout.ReleaseBody number_reads (λ _ _. refl)
+fields_takes (opcodes.ByNumber kind) = made_takes (λ l. opcode_of l ≡ opcodes.ByNumber kind) fields (Layout.NumberBody kind) number_reads (λ _ _. refl)
 fields_takes opcodes.GetIds = made_takes (λ l. opcode_of l ≡ opcodes.GetIds) fields Layout.GetIdsBody get_ids_reads (λ _ _. refl)
-fields_takes opcodes.Invoke = made_takes (λ l. opcode_of l ≡ opcodes.Invoke) fields Layout.InvokeBody call_reads (λ _ _. refl)
+fields_takes (opcodes.ByCall kind) = made_takes (λ l. opcode_of l ≡ opcodes.ByCall kind) fields (Layout.CallBody kind) call_reads (λ _ _. refl)
 fields_takes opcodes.GetElement = made_takes (λ l. opcode_of l ≡ opcodes.GetElement) fields Layout.GetElementBody element_reads (λ _ _. refl)
 fields_takes opcodes.PutElement = made_takes (λ l. opcode_of l ≡ opcodes.PutElement) fields Layout.PutElementBody put_reads (λ _ _. refl)
 fields_takes opcodes.Redimension = made_takes (λ l. opcode_of l ≡ opcodes.Redimension) fields Layout.RedimensionBody redim_reads (λ _ _. refl)
-fields_takes opcodes.Lock = made_takes (λ l. opcode_of l ≡ opcodes.Lock) fields Layout.LockBody call_reads (λ _ _. refl)
-fields_takes opcodes.Unlock = made_takes (λ l. opcode_of l ≡ opcodes.Unlock) fields Layout.UnlockBody call_reads (λ _ _. refl)
-fields_takes opcodes.TypeInfo = made_takes (λ l. opcode_of l ≡ opcodes.TypeInfo) fields Layout.TypeInfoBody number_reads (λ _ _. refl)
-fields_takes opcodes.Objects = nothing_takes (λ l. opcode_of l ≡ opcodes.Objects) fields Layout.ObjectsBody refl (λ p. refl)
+fields_takes (opcodes.Query query) = nothing_takes (λ l. opcode_of l ≡ opcodes.Query query) fields (Layout.QueryBody query) refl (λ p. refl)
+fields_takes opcodes.Replace = (fail_reads {P = λ l. opcode_of l ≡ opcodes.Replace} {F = fields} (λ l p text h form. no_layout l h)).takes
 
 fields_again : (p : ℕ) (text rest : List ℕ) (l : Layout) → fields l p text → fields_at (opcode_of l) (at p (text ++ rest)) ≡ Some (l, at (p + length text) rest)
 unfolding fields_at
 fields_again p text rest (Layout.CreateBody x) form = made_again fields Layout.CreateBody guid_reads p text rest x tt form
-fields_again p text rest (Layout.ReleaseBody x) form = made_again fields Layout.ReleaseBody number_reads p text rest x tt form
+fields_again p text rest (Layout.NumberBody kind x) form = made_again fields (Layout.NumberBody kind) number_reads p text rest x tt form
 fields_again p text rest (Layout.GetIdsBody x) form = made_again fields Layout.GetIdsBody get_ids_reads p text rest x tt form
-fields_again p text rest (Layout.InvokeBody x) form = made_again fields Layout.InvokeBody call_reads p text rest x tt form
+fields_again p text rest (Layout.CallBody kind x) form = made_again fields (Layout.CallBody kind) call_reads p text rest x tt form
 fields_again p text rest (Layout.GetElementBody x) form = made_again fields Layout.GetElementBody element_reads p text rest x tt form
 fields_again p text rest (Layout.PutElementBody x) form = made_again fields Layout.PutElementBody put_reads p text rest x tt form
 fields_again p text rest (Layout.RedimensionBody x) form = made_again fields Layout.RedimensionBody redim_reads p text rest x tt form
-fields_again p text rest (Layout.LockBody x) form = made_again fields Layout.LockBody call_reads p text rest x tt form
-fields_again p text rest (Layout.UnlockBody x) form = made_again fields Layout.UnlockBody call_reads p text rest x tt form
-fields_again p text rest (Layout.TypeInfoBody x) form = made_again fields Layout.TypeInfoBody number_reads p text rest x tt form
-fields_again p text rest Layout.ObjectsBody form = nothing_again Layout.ObjectsBody p text rest form
+fields_again p text rest (Layout.QueryBody query) form = nothing_again (Layout.QueryBody query) p text rest form
 
 fields_reads : (k : Opcode) → Reads (λ l. opcode_of l ≡ k) fields (fields_at k)
 fields_reads k = record {
   takes = fields_takes k;
   again = λ p text rest l h form. subst (λ (j : Opcode). fields_at j (at p (text ++ rest)) ≡ Some (l, at (p + length text) rest)) h (fields_again p text rest l form);
 }
-
-pub named_back : (k : Opcode) → opcode_named (opcode_number k) ≡ Some k
-named_back opcodes.Create = refl
-named_back opcodes.Release = refl
-named_back opcodes.GetIds = refl
-named_back opcodes.Invoke = refl
-named_back opcodes.GetElement = refl
-named_back opcodes.PutElement = refl
-named_back opcodes.Redimension = refl
-named_back opcodes.Lock = refl
-named_back opcodes.Unlock = refl
-named_back opcodes.TypeInfo = refl
-named_back opcodes.Objects = refl
-
-abbrev some_opcode : Opcode → Option Opcode
-some_opcode k = Some k
-
-same_opcode : (k j : Opcode) → some_opcode k ≡ Some j → k ≡ j
-same_opcode k j e = cc
-
-tried : (n m : ℕ) (j : Opcode) (other : Option Opcode) (k : Opcode) → opcode_number j ≡ m → cond (eqb n m) (Some j) other ≡ Some k → (other ≡ Some k → opcode_number k ≡ n) → opcode_number k ≡ n
-tried n m j other k is e next = by_test (eqb n m) refl e
-  where
-    by_test : (b : Bool) → eqb n m ≡ b → cond b (Some j) other ≡ Some k → opcode_number k ≡ n
-    by_test true h e = ap opcode_number (sym (same_opcode j k e)) ∙ is ∙ sym (eqb-true _ _ h)
-    by_test false h e = next e
-
-pub number_from : (n : ℕ) (k : Opcode) → opcode_named n ≡ Some k → opcode_number k ≡ n
-number_from n k e =
-    tried n 1 opcodes.Create _ k refl e (λ e. tried n 2 opcodes.Release _ k refl e (λ e. tried n 3 opcodes.GetIds _ k refl e (λ e.
-    tried n 4 opcodes.Invoke _ k refl e (λ e. tried n 5 opcodes.GetElement _ k refl e (λ e. tried n 6 opcodes.PutElement _ k refl e (λ e.
-    tried n 7 opcodes.Redimension _ k refl e (λ e. tried n 8 opcodes.Lock _ k refl e (λ e. tried n 9 opcodes.Unlock _ k refl e (λ e.
-    tried n 10 opcodes.TypeInfo _ k refl e (λ e. tried n 11 opcodes.Objects _ k refl e (λ e. absurd cc)))))))))))
 
 named_reads : (n : ℕ) (o : Option Opcode) → opcode_named n ≡ o → Reads (λ l. opcode_number (opcode_of l) ≡ n) fields (named_at o)
 unfolding named_at

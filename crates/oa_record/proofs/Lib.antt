@@ -7,6 +7,7 @@ mod Judged
 pub mod LayoutLaws
 mod Lengths
 mod Longs
+pub mod OpcodeLaws
 mod Refusals
 mod Replacing
 mod Requests

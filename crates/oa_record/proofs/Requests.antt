@@ -21,7 +21,8 @@ use Rattle.oa_record.specs.Asks.{HasBroken}
 use Rattle.oa_record.specs.Asks.{HasBadType, HasNoLayout, IsStub, IsBadVarType, IsRequest}
 use Rattle.oa_record.specs.declared.request.Request.{Request}
 use Rattle.oa_record.specs.declared.request.Call.{Call}
-use Rattle.oa_record.proofs.LayoutLaws.{layout_reads, named_back}
+use Rattle.oa_record.proofs.LayoutLaws.{layout_reads}
+use Rattle.oa_record.proofs.OpcodeLaws.{named_back}
 use Rattle.oa_record.proofs.HeadLengths.{layout_length}
 use Rattle.oa_record.proofs.Header.{opcode_lies}
 
@@ -64,16 +65,13 @@ opcode_put call indices (v ∷ w ∷ ws) f q h e = opcode_put call indices (w �
 
 opcode_same : (l : Layout) (vs : List Variant) (q : Request) → request_of l vs ≡ Some q → request_opcode q ≡ opcode_of l
 opcode_same (Layout.CreateBody class) vs q e = ap request_opcode (sym (same_request _ q e))
-opcode_same (Layout.ReleaseBody object) vs q e = ap request_opcode (sym (same_request _ q e))
+opcode_same (Layout.NumberBody kind number) vs q e = ap request_opcode (sym (same_request _ q e))
 opcode_same (Layout.GetIdsBody call) vs q e = ap request_opcode (sym (same_request _ q e))
-opcode_same (Layout.InvokeBody call) vs q e = ap request_opcode (sym (same_request _ q e))
+opcode_same (Layout.CallBody kind call) vs q e = ap request_opcode (sym (same_request _ q e))
 opcode_same (Layout.GetElementBody element) vs q e = ap request_opcode (sym (same_request _ q e))
 opcode_same (Layout.PutElementBody put) vs q e = opcode_put put.element.call put.element.indices vs (λ arguments value. requests.PutElement (call_of put.element.call arguments) put.element.indices value) q (λ arguments value. refl) e
 opcode_same (Layout.RedimensionBody redim) vs q e = ap request_opcode (sym (same_request _ q e))
-opcode_same (Layout.LockBody call) vs q e = ap request_opcode (sym (same_request _ q e))
-opcode_same (Layout.UnlockBody call) vs q e = ap request_opcode (sym (same_request _ q e))
-opcode_same (Layout.TypeInfoBody index) vs q e = ap request_opcode (sym (same_request _ q e))
-opcode_same Layout.ObjectsBody vs q e = ap request_opcode (sym (same_request _ q e))
+opcode_same (Layout.QueryBody query) vs q e = ap request_opcode (sym (same_request _ q e))
 
 pub opcode_stands : (body : List ℕ) (q : Request) → Asks body q → (8 ≤ length body) × (opcode_at body ≡ opcode_number (request_opcode q))
 opcode_stands body q a =

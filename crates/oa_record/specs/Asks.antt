@@ -15,9 +15,8 @@ use Rattle.oa_record.specs.declared.opcode.Opcode.{Opcode}
 use Rattle.oa_record.specs.declared.opcode.Opcode.TheVariants as opcodes
 use Rattle.oa_record.specs.declared.request.Call.{Call}
 use Rattle.oa_record.specs.declared.request.Request.{Request}
-use Rattle.oa_record.specs.declared.request.Request.TheVariants.{Create, Release, GetIds, Invoke, GetElement}
-use Rattle.oa_record.specs.declared.request.Request.TheVariants.{PutElement, Redimension, Lock, Unlock, TypeInfo}
-use Rattle.oa_record.specs.declared.request.Request.TheVariants.{Objects}
+use Rattle.oa_record.specs.declared.request.Request.TheVariants.{Create, ByNumber, GetIds, ByCall, GetElement}
+use Rattle.oa_record.specs.declared.request.Request.TheVariants.{PutElement, Redimension, Query}
 use Rattle.oa_record.specs.declared.fault.RecordFault.{RecordFault}
 use Rattle.oa_record.specs.declared.fault.RecordFault.TheVariants.{Stub, BadVarType, Memory}
 
@@ -46,32 +45,26 @@ with_last (v ∷ w ∷ ws) f = with_last (w ∷ ws) (λ values last. f (v ∷ va
 -- the request of a layout, with the values of its variant fields; None where there are too few
 abbrev pub request_of : Layout → List Variant → Option Request
 request_of (Layout.CreateBody class) values = Some (Create class)
-request_of (Layout.ReleaseBody object) values = Some (Release object)
+request_of (Layout.NumberBody kind number) values = Some (ByNumber kind number)
 request_of (Layout.GetIdsBody call) values = Some (GetIds call)
-request_of (Layout.InvokeBody call) values = Some (Invoke (call_of call values))
+request_of (Layout.CallBody kind call) values = Some (ByCall kind (call_of call values))
 request_of (Layout.GetElementBody element) values = Some (GetElement (call_of element.call values) element.indices)
 request_of (Layout.PutElementBody put) values =
     with_last values
     (λ arguments value. Some (PutElement (call_of put.element.call arguments) put.element.indices value))
 request_of (Layout.RedimensionBody redim) values = Some (Redimension (call_of redim.call values) redim.bound)
-request_of (Layout.LockBody call) values = Some (Lock (call_of call values))
-request_of (Layout.UnlockBody call) values = Some (Unlock (call_of call values))
-request_of (Layout.TypeInfoBody index) values = Some (TypeInfo index)
-request_of Layout.ObjectsBody values = Some Objects
+request_of (Layout.QueryBody query) values = Some (Query query)
 
 -- the opcode of a request
 abbrev pub request_opcode : Request → Opcode
 request_opcode (Create class) = opcodes.Create
-request_opcode (Release object) = opcodes.Release
+request_opcode (ByNumber kind number) = opcodes.ByNumber kind
 request_opcode (GetIds call) = opcodes.GetIds
-request_opcode (Invoke call) = opcodes.Invoke
+request_opcode (ByCall kind call) = opcodes.ByCall kind
 request_opcode (GetElement call indices) = opcodes.GetElement
 request_opcode (PutElement call indices value) = opcodes.PutElement
 request_opcode (Redimension call bound) = opcodes.Redimension
-request_opcode (Lock call) = opcodes.Lock
-request_opcode (Unlock call) = opcodes.Unlock
-request_opcode (TypeInfo index) = opcodes.TypeInfo
-request_opcode Objects = opcodes.Objects
+request_opcode (Query query) = opcodes.Query query
 
 -- the body asks this request
 pub record Asks (body : List ℕ) (request : Request) : Type 0 where
@@ -129,16 +122,13 @@ IsStub body = HasNoLayout body ⊎ IsBroken body
 -- has none
 abbrev pub field_index : Layout → ℕ → Option ℕ
 field_index (Layout.CreateBody class) place = Some place
-field_index (Layout.ReleaseBody object) place = Some place
+field_index (Layout.NumberBody kind number) place = Some place
 field_index (Layout.GetIdsBody call) place = Some place
-field_index (Layout.InvokeBody call) place = Some place
+field_index (Layout.CallBody kind call) place = Some place
 field_index (Layout.GetElementBody element) place = Some place
 field_index (Layout.PutElementBody put) place = if place == length put.element.call.fields then None else Some place
 field_index (Layout.RedimensionBody redim) place = Some place
-field_index (Layout.LockBody call) place = Some place
-field_index (Layout.UnlockBody call) place = Some place
-field_index (Layout.TypeInfoBody index) place = Some place
-field_index Layout.ObjectsBody place = Some place
+field_index (Layout.QueryBody query) place = Some place
 
 -- the body is refused for the type of a value: it has a layout with no broken field, and this is the index of the first
 -- field with a type of no value

@@ -1,5 +1,5 @@
--- How the fields of a request lie in its body (this project's choice). Each opcode has a case of `Layout`, `opcode_of`,
--- `fields` and `variant_fields`.
+-- How the fields of a request lie in its body (this project's choice). Opcodes with the same fields share a case of
+-- `Layout`, `opcode_of`, `fields` and `variant_fields`. REPLACE LIBRARY has none: its text is borrowed (Replacement).
 --
 -- In each body: a tag of 4 bytes, the opcode in 2, 2 reserved bytes, and from the offset 8 on the opcode's own fields,
 -- which fill the body exactly.
@@ -13,49 +13,43 @@ use Rattle.oa_record.specs.CallParts.{CallParts, ElementParts, PutParts, RedimPa
 use Rattle.oa_record.specs.Opcodes.{opcode_number}
 use Rattle.oa_record.specs.declared.opcode.Opcode.{Opcode}
 use Rattle.oa_record.specs.declared.opcode.Opcode.TheVariants as opcodes
+use Rattle.oa_record.specs.declared.opcode.ByCall.{ByCall}
+use Rattle.oa_record.specs.declared.opcode.ByNumber.{ByNumber}
+use Rattle.oa_record.specs.declared.opcode.Query.{Query}
 use Rattle.oa_record.specs.declared.request.CallHead.{CallHead}
 use Rattle.oa_record.specs.declared.request.GetIds.{GetIds}
 
 -- the parts of a body, with the bytes of its variant fields
 pub data Layout : Type 0 where
   CreateBody : (class : List ℕ) → Layout
-  ReleaseBody : (object : ℕ) → Layout
+  NumberBody : (kind : ByNumber) (number : ℕ) → Layout
   GetIdsBody : (call : GetIds) → Layout
-  InvokeBody : (call : CallParts) → Layout
+  CallBody : (kind : ByCall) (call : CallParts) → Layout
   GetElementBody : (element : ElementParts) → Layout
   PutElementBody : (put : PutParts) → Layout
   RedimensionBody : (redim : RedimParts) → Layout
-  LockBody : (call : CallParts) → Layout
-  UnlockBody : (call : CallParts) → Layout
-  TypeInfoBody : (index : ℕ) → Layout
-  ObjectsBody : Layout
+  QueryBody : (query : Query) → Layout
 
 abbrev pub opcode_of : Layout → Opcode
 opcode_of (Layout.CreateBody class) = opcodes.Create
-opcode_of (Layout.ReleaseBody object) = opcodes.Release
+opcode_of (Layout.NumberBody kind number) = opcodes.ByNumber kind
 opcode_of (Layout.GetIdsBody call) = opcodes.GetIds
-opcode_of (Layout.InvokeBody call) = opcodes.Invoke
+opcode_of (Layout.CallBody kind call) = opcodes.ByCall kind
 opcode_of (Layout.GetElementBody element) = opcodes.GetElement
 opcode_of (Layout.PutElementBody put) = opcodes.PutElement
 opcode_of (Layout.RedimensionBody redim) = opcodes.Redimension
-opcode_of (Layout.LockBody call) = opcodes.Lock
-opcode_of (Layout.UnlockBody call) = opcodes.Unlock
-opcode_of (Layout.TypeInfoBody index) = opcodes.TypeInfo
-opcode_of Layout.ObjectsBody = opcodes.Objects
+opcode_of (Layout.QueryBody query) = opcodes.Query query
 
 -- the fields that hold a value each: arguments in the order of rgvarg, and behind them the new value of an element
 abbrev pub variant_fields : Layout → List (List ℕ)
 variant_fields (Layout.CreateBody class) = []
-variant_fields (Layout.ReleaseBody object) = []
+variant_fields (Layout.NumberBody kind number) = []
 variant_fields (Layout.GetIdsBody call) = []
-variant_fields (Layout.InvokeBody call) = call.fields
+variant_fields (Layout.CallBody kind call) = call.fields
 variant_fields (Layout.GetElementBody element) = element.call.fields
 variant_fields (Layout.PutElementBody put) = put.element.call.fields ++ put.value ∷ []
 variant_fields (Layout.RedimensionBody redim) = redim.call.fields
-variant_fields (Layout.LockBody call) = call.fields
-variant_fields (Layout.UnlockBody call) = call.fields
-variant_fields (Layout.TypeInfoBody index) = []
-variant_fields Layout.ObjectsBody = []
+variant_fields (Layout.QueryBody query) = []
 
 -- 16 bytes, which are a GUID in wire order (MS-DTYP section 2.3.4.2)
 abbrev pub guid : List ℕ → Form
@@ -119,16 +113,13 @@ number n = unit 4 n ▸ ignored 4 ▸ nothing
 -- the fields of each opcode
 abbrev pub fields : Layout → Form
 fields (Layout.CreateBody class) = guid class
-fields (Layout.ReleaseBody object) = number object
+fields (Layout.NumberBody kind n) = number n
 fields (Layout.GetIdsBody call) = get_ids call
-fields (Layout.InvokeBody call) = call_parts call
+fields (Layout.CallBody kind call) = call_parts call
 fields (Layout.GetElementBody element) = element_parts element
 fields (Layout.PutElementBody put) = put_parts put
 fields (Layout.RedimensionBody redim) = redim_parts redim
-fields (Layout.LockBody call) = call_parts call
-fields (Layout.UnlockBody call) = call_parts call
-fields (Layout.TypeInfoBody index) = number index
-fields Layout.ObjectsBody = nothing
+fields (Layout.QueryBody query) = nothing
 
 -- the tag, the opcode, a reserved number, the fields of the opcode
 abbrev pub layout : Layout → Form

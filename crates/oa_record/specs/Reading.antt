@@ -201,15 +201,15 @@ unfoldable pub fields_at : Opcode → Reading Layout
 fields_at opcodes.Create = do
   class ← guid_at
   give (Layout.CreateBody class)
-fields_at opcodes.Release = do
-  object ← number_at
-  give (Layout.ReleaseBody object)
+fields_at (opcodes.ByNumber kind) = do
+  number ← number_at
+  give (Layout.NumberBody kind number)
 fields_at opcodes.GetIds = do
   call ← get_ids_at
   give (Layout.GetIdsBody call)
-fields_at opcodes.Invoke = do
+fields_at (opcodes.ByCall kind) = do
   call ← call_at
-  give (Layout.InvokeBody call)
+  give (Layout.CallBody kind call)
 fields_at opcodes.GetElement = do
   element ← element_at
   give (Layout.GetElementBody element)
@@ -219,16 +219,8 @@ fields_at opcodes.PutElement = do
 fields_at opcodes.Redimension = do
   redim ← redim_at
   give (Layout.RedimensionBody redim)
-fields_at opcodes.Lock = do
-  call ← call_at
-  give (Layout.LockBody call)
-fields_at opcodes.Unlock = do
-  call ← call_at
-  give (Layout.UnlockBody call)
-fields_at opcodes.TypeInfo = do
-  index ← number_at
-  give (Layout.TypeInfoBody index)
-fields_at opcodes.Objects = give Layout.ObjectsBody
+fields_at (opcodes.Query query) = give (Layout.QueryBody query)
+fields_at opcodes.Replace = fail
 
 -- the fields of the opcode of some number
 unfoldable pub named_at : Option Opcode → Reading Layout

@@ -1,15 +1,17 @@
--- A body that asks for another library: the opcode 12, and one field, the library's text (this project's choice). The
--- field is laid out as a variant field is: how many bytes, a reserved number, the bytes, padding up to a multiple of 8.
+-- A body that asks for another library: that opcode, and one field, the library's text, which is borrowed (this project's
+-- choice). The field is laid out as a variant field is: how many bytes, a reserved number, the bytes, padding up to a
+-- multiple of 8.
 use Rattle.std.specs.Prelude.{ℕ, ◌+◌, ◌==◌, nat_lt, Bool, false, if◌then◌else◌, List, length, take, drop, Option, Some}
 use Rattle.std.specs.Prelude.{None}
 use Rattle.byteorder.specs.Endian.{little_number}
 use Rattle.oa_model.specs.Limits.{max_request_bytes}
 use Rattle.oa_ndr.specs.Forms.{padding}
-use Rattle.oa_record.specs.Opcodes.{opcode_at, replacement_opcode}
+use Rattle.oa_record.specs.Opcodes.{opcode_at, opcode_number}
+use Rattle.oa_record.specs.declared.opcode.Opcode.TheVariants as opcodes
 
 -- the body has that opcode
 abbrev pub is_replacement : List ℕ → Bool
-is_replacement body = if nat_lt (length body) 8 then false else opcode_at body == replacement_opcode
+is_replacement body = if nat_lt (length body) 8 then false else opcode_at body == opcode_number opcodes.Replace
 
 -- the text of such a length, where it and its padding are all of the bytes
 abbrev pub padded_text : ℕ → List ℕ → Option (List ℕ)

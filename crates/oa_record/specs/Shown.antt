@@ -2,19 +2,15 @@
 use Rattle.oa_record.specs.Layouts.{Layout}
 use Rattle.oa_record.specs.Reading.{parts_of_element, put_of, redim_of}
 use Rattle.oa_record.specs.declared.body_parts.Parts.{Parts}
-use Rattle.oa_record.specs.declared.body_parts.Parts.TheVariants.{Create, Release, GetIds, Invoke, GetElement}
-use Rattle.oa_record.specs.declared.body_parts.Parts.TheVariants.{PutElement, Redimension, Lock, Unlock, TypeInfo}
-use Rattle.oa_record.specs.declared.body_parts.Parts.TheVariants.{Objects}
+use Rattle.oa_record.specs.declared.body_parts.Parts.TheVariants.{Create, Number, GetIds, Call, GetElement}
+use Rattle.oa_record.specs.declared.body_parts.Parts.TheVariants.{PutElement, Redimension, Query}
 
 abbrev pub shown : Parts → Layout
 shown (Create class) = Layout.CreateBody class
-shown (Release object) = Layout.ReleaseBody object
+shown (Number kind number) = Layout.NumberBody kind number
 shown (GetIds call) = Layout.GetIdsBody call
-shown (Invoke call) = Layout.InvokeBody call
+shown (Call kind call) = Layout.CallBody kind call
 shown (GetElement call indices) = Layout.GetElementBody (parts_of_element call indices)
 shown (PutElement call indices value) = Layout.PutElementBody (put_of (parts_of_element call indices) value.now)
 shown (Redimension call bound) = Layout.RedimensionBody (redim_of call bound)
-shown (Lock call) = Layout.LockBody call
-shown (Unlock call) = Layout.UnlockBody call
-shown (TypeInfo index) = Layout.TypeInfoBody index
-shown Objects = Layout.ObjectsBody
+shown (Query query) = Layout.QueryBody query

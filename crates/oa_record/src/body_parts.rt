@@ -1,6 +1,6 @@
 //! A body taken apart.
-use crate::GetIds;
 use crate::raw_call::RawCall;
+use crate::{ByCall, ByNumber, GetIds, Query};
 use oa_array::Indices;
 use oa_model::Bound;
 use uuid::Uuid;
@@ -9,14 +9,11 @@ use uuid::Uuid;
 #[derive(Drop)]
 pub(crate) enum Parts<'a> {
     Create(Uuid),
-    Release(u32),
+    Number(ByNumber, u32),
     GetIds(GetIds),
-    Invoke(RawCall<'a>),
+    Call(ByCall, RawCall<'a>),
     GetElement(RawCall<'a>, Indices),
     PutElement(RawCall<'a>, Indices, &'a [u8]),
     Redimension(RawCall<'a>, Bound),
-    Lock(RawCall<'a>),
-    Unlock(RawCall<'a>),
-    TypeInfo(u32),
-    Objects,
+    Query(Query),
 }

@@ -32,10 +32,11 @@ ghost use Rattle.oa_record.specs.Layouts.{Layout};
 ghost use Rattle.oa_record.specs.Shown.{shown};
 ghost use Rattle.oa_record.specs.ValueCalls.{guid_in, head_in, invoke_front, lists_behind, number_in, parts_bringing};
 ghost use Rattle.oa_record.specs.declared.opcode.Opcode.TheVariants as opcodes;
+ghost use Rattle.oa_record.specs.declared.opcode.ByCall.TheVariants as by_call;
 
 use crate::body_parts::Parts;
 use crate::raw_call::{RawCall, ValueParts};
-use crate::{CallHead, GetIds, Names, Opcode, RecordFault};
+use crate::{ByCall, CallHead, GetIds, Names, Opcode, RecordFault};
 use byteorder::{ByteOrder, LittleEndian};
 use oa_array::Indices;
 use oa_model::{
@@ -253,10 +254,10 @@ fn call_behind<'a>(body: &[u8], r: &mut Ndr<'a>) -> Result<ValueParts<'a>, Short
 /// The head of an INVOKE that brings no more than a new value, and the bytes of that value's field. Err of any other body.
 #[inline(always)]
 pub(crate) fn read_value_parts(body: &[u8]) -> Result<ValueParts<'_>, Short>
-    ensures { IfOk result (λ c. whole layout_at body.now ≡ Some (Layout.InvokeBody (parts_bringing c.head (option_map (λ f. f.now) c.field)))) }
+    ensures { IfOk result (λ c. whole layout_at body.now ≡ Some (Layout.CallBody by_call.Invoke (parts_bringing c.head (option_map (λ f. f.now) c.field)))) }
 {
     // What stands before the lists has places of its own: the bytes are counted once, and not for each number.
-    if body.len() < INVOKE_FRONT || u16_at(body, 4) != Opcode::Invoke.number() {
+    if body.len() < INVOKE_FRONT || u16_at(body, 4) != Opcode::ByCall(ByCall::Invoke).number() {
         return Err(Short);
     }
     let mut r = Ndr::new(body);
@@ -413,23 +414,21 @@ fn redimension<'a>(alloc: Global, r: &mut Ndr<'a>) -> Result<Parts<'a>, RecordFa
 }
 
 /// The fields of an opcode.
-#[tactic(auto, unfolding(oa_ndr::specs::Reading::bind, oa_ndr::specs::Reading::give, crate::specs::Reading::fields_at))]
+#[tactic(auto, unfolding(oa_ndr::specs::Reading::bind, oa_ndr::specs::Reading::give, oa_ndr::specs::Reading::fail, crate::specs::Reading::fields_at))]
 fn fields_of<'a>(alloc: Global, opcode: Opcode, r: &mut Ndr<'a>) -> Result<Parts<'a>, RecordFault>
     ensures answers { ReadsBody shown result r.new (fields_at opcode r.old) }
     ensures memory { StarvesAt result opcode r.old }
 {
     match opcode {
         Opcode::Create => Ok(Parts::Create(guid(r)?)),
-        Opcode::Release => Ok(Parts::Release(number(r)?)),
+        Opcode::ByNumber(kind) => Ok(Parts::Number(kind, number(r)?)),
         Opcode::GetIds => Ok(Parts::GetIds(get_ids(alloc, r)?)),
-        Opcode::Invoke => Ok(Parts::Invoke(call(alloc, r)?)),
+        Opcode::ByCall(kind) => Ok(Parts::Call(kind, call(alloc, r)?)),
         Opcode::GetElement => get_element(alloc, r),
         Opcode::PutElement => put_element(alloc, r),
         Opcode::Redimension => redimension(alloc, r),
-        Opcode::Lock => Ok(Parts::Lock(call(alloc, r)?)),
-        Opcode::Unlock => Ok(Parts::Unlock(call(alloc, r)?)),
-        Opcode::TypeInfo => Ok(Parts::TypeInfo(number(r)?)),
-        Opcode::Objects => Ok(Parts::Objects),
+        Opcode::Query(query) => Ok(Parts::Query(query)),
+        Opcode::Replace => Err(RecordFault::Stub),
     }
 }
 

@@ -28,7 +28,7 @@ pub use fields::{
     put_variant_field, scalar_field, string_field, variant_field,
 };
 pub use names::Names;
-pub use opcode::{Opcode, opcode_of};
+pub use opcode::{ByCall, ByNumber, Opcode, Query, opcode_of};
 pub use reading::{read_request, read_value_call, tag_of};
 pub use replacement::{is_replacement, replacement_text};
 pub use reply::Reply;

@@ -9,7 +9,8 @@ ghost use Rattle.oa_record.specs.Shown.{shown};
 ghost use Rattle.oa_record.specs.ValueCalls.{SpellsNew, bringing};
 ghost use Rattle.std.specs.Option.{option_map};
 ghost use Rattle.oa_record.specs.declared.fault.RecordFault.TheVariants.{Memory};
-ghost use Rattle.oa_record.specs.declared.request.Request.TheVariants.{Invoke};
+ghost use Rattle.oa_record.specs.declared.opcode.ByCall.TheVariants.{Invoke};
+ghost use Rattle.oa_record.specs.declared.request.Request.TheVariants.{ByCall};
 
 use crate::body_parts::Parts;
 use crate::layout::{read_parts, read_value_parts};
@@ -143,9 +144,9 @@ fn request(alloc: Global, parts: Parts<'_>) -> Result<Request, RecordFault>
 {
     match parts {
         Parts::Create(class) => Ok(Request::Create { class }),
-        Parts::Release(object) => Ok(Request::Release { object }),
+        Parts::Number(kind, number) => Ok(Request::ByNumber(kind, number)),
         Parts::GetIds(call) => Ok(Request::GetIds(call)),
-        Parts::Invoke(call) => Ok(Request::Invoke(called(alloc, call)?)),
+        Parts::Call(kind, call) => Ok(Request::ByCall(kind, called(alloc, call)?)),
         Parts::GetElement(call, indices) => {
             let call = called(alloc, call)?;
             Ok(Request::GetElement { call, indices })
@@ -155,10 +156,7 @@ fn request(alloc: Global, parts: Parts<'_>) -> Result<Request, RecordFault>
             let call = called(alloc, call)?;
             Ok(Request::Redimension { call, bound })
         }
-        Parts::Lock(call) => Ok(Request::Lock(called(alloc, call)?)),
-        Parts::Unlock(call) => Ok(Request::Unlock(called(alloc, call)?)),
-        Parts::TypeInfo(index) => Ok(Request::TypeInfo { index }),
-        Parts::Objects => Ok(Request::Objects),
+        Parts::Query(query) => Ok(Request::Query(query)),
     }
 }
 
@@ -199,7 +197,7 @@ fn value_call(alloc: Global, parts: ValueParts<'_>) -> Option<ValueCall>
 /// The call of an INVOKE that brings no more than a put's new value, read without a list. None of any other body, of one that
 /// `read_request` refuses, and where the value gets no block.
 pub fn read_value_call(alloc: Global, body: &[u8]) -> Option<ValueCall>
-    ensures { IfSome result (λ call. Asks body.now (Invoke (bringing call.head call.value))) }
+    ensures { IfSome result (λ call. Asks body.now (ByCall Invoke (bringing call.head call.value))) }
 {
     if body.len() <= MAX_REQUEST_BYTES as usize {
         let Ok(parts) = read_value_parts(body) else {

@@ -2,18 +2,18 @@
 ghost use Rattle.std.specs.Prelude.{◌≡◌, None, Some, IfSome, IsNone};
 ghost use Rattle.oa_record.specs.Replacement.{is_replacement, text_in, padded_text};
 
-use crate::opcode::REPLACEMENT_OPCODE;
+use crate::Opcode;
 use byteorder::{ByteOrder, LittleEndian};
 use oa_model::MAX_REQUEST_BYTES;
 
-/// Whether a body of 8 bytes or more has the opcode 12: it asks for another library, and is no request. Its fields are not looked at.
+/// Whether a body of 8 bytes or more has the opcode `Opcode::Replace`: it asks for another library, and is no request. Its fields are not looked at.
 pub fn is_replacement(body: &[u8]) -> bool
     ensures { result ≡ is_replacement body.now }
 {
     if body.len() < 8 {
         return false;
     }
-    LittleEndian::read_u16(&body[4..]) == REPLACEMENT_OPCODE
+    LittleEndian::read_u16(&body[4..]) == Opcode::Replace.number()
 }
 
 /// The text of the library that such a body asks for, in its bytes from the offset 16 on: u32 length at 8, u32 reserved, the text, padding up

@@ -1,5 +1,5 @@
 //! Requests.
-use crate::{Arguments, Dispids, Names};
+use crate::{Arguments, ByCall, ByNumber, Dispids, Names, Query};
 use oa_array::Indices;
 use oa_model::Bound;
 use oa_variant::Variant;
@@ -13,15 +13,12 @@ pub enum Request {
         /// The GUID of the coclass.
         class: Uuid,
     },
-    /// An object ends.
-    Release {
-        /// The number of the object.
-        object: u32,
-    },
+    /// What is asked by a number.
+    ByNumber(ByNumber, u32),
     /// The DISPIDs of a member and of its parameters.
     GetIds(GetIds),
-    /// A call of a member of an object.
-    Invoke(Call),
+    /// What is asked by a call of a member of an object.
+    ByCall(ByCall, Call),
     /// An element of an array that a property holds.
     GetElement {
         /// The property.
@@ -45,17 +42,8 @@ pub enum Request {
         /// What replaces the first listed bound (SAFEARRAYBOUND, MS-OAUT section 2.2.30.1).
         bound: Bound,
     },
-    /// A lock of an array that a property holds.
-    Lock(Call),
-    /// One lock fewer.
-    Unlock(Call),
-    /// What the library says of an interface or a coclass.
-    TypeInfo {
-        /// Counts the interfaces in the order of the library's text, from 0 on, and then the coclasses.
-        index: u32,
-    },
-    /// The live objects.
-    Objects,
+    /// What is asked without fields.
+    Query(Query),
 }
 
 /// A look-up of names (IDispatch::GetIDsOfNames, MS-OAUT section 3.1.4.3).

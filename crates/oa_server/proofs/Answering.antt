@@ -32,7 +32,7 @@ use Rattle.oa_turn.specs.Events.{held_of}
 use Rattle.oa_decision.specs.States.{State}
 use Rattle.oa_turn.specs.Turns.{Turn}
 use Rattle.oa_server.proofs.Making.{no_event_of}
-use Rattle.oa_server.proofs.Renewing.{as_held}
+use Rattle.oa_server.proofs.Replacing.{as_held}
 
 -- one request is a group of one
 full_one : (bytes : ℕ) → fills 1 1 bytes ≡ true

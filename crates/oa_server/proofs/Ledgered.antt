@@ -31,6 +31,8 @@ use Rattle.oa_record.specs.Replacement.{is_replacement}
 use Rattle.oa_record.specs.Replies.{ReplyValue, number_field}
 use Rattle.oa_record.specs.declared.request.Request.{Request}
 use Rattle.oa_record.specs.declared.request.Request.TheVariants as requests
+use Rattle.oa_record.specs.declared.opcode.ByCall.TheVariants as by_call
+use Rattle.oa_record.specs.declared.opcode.ByNumber.TheVariants as by_number
 use Rattle.oa_server.specs.Ledgers.{EndUnlocksAll, HasLedger, IsRunOfOne, IsTurnOfOne, OpeningHasLedger, OwnsAll, RunsKeepLedger, TurnsKeepLedger}
 use Rattle.oa_server.specs.Sharing.{ClientReply, HasOwners, IsSharedTurn, MayChange, RefusesUnlock, Replies, Shared, TakesTurn, TurnOf, TurnsFor, behind_end, brought_by, client_in, relocked_by, shared, tagged, taken_back}
 use Rattle.oa_server.proofs.LockTurns.{OneRequest, apart_asks_none, not_apart}
@@ -129,16 +131,16 @@ resize_shaped b name declared bound None = then_shaped b (zero_with bound declar
 
 shaped : (state : State) (request : Request) → Shaped (changes_lock request) (decided state request)
 shaped state (requests.Create class) = then_shaped false (class_found state class) _ (λ x is. then_shaped false (fitting (allowed state.bank (CreateEvent state.table.next class) state.table)) _ (λ y at. tt))
-shaped state (requests.Release number) = tt
+shaped state (requests.ByNumber by_number.Release number) = tt
 shaped state (requests.GetIds call) = then_shaped false (ids_found state call) _ (λ x is. tt)
-shaped state (requests.Invoke call) = then_shaped false (cell_called state call (Flags call.head.flags)) _ (λ cell is. acts_shaped false state cell.name cell.declared cell.value)
+shaped state (requests.ByCall by_call.Invoke call) = then_shaped false (cell_called state call (Flags call.head.flags)) _ (λ cell is. acts_shaped false state cell.name cell.declared cell.value)
 shaped state (requests.GetElement call indices) = then_shaped false (cell_called state call Get) (reading state indices) (λ cell is. then_shaped false (element_in state indices cell) _ (λ x at. tt))
 shaped state (requests.PutElement call indices value) = then_shaped false (cell_called state call Put) (setting state indices value) (λ cell is. then_shaped false (element_for state indices value cell) _ (λ x at. tt))
 shaped state (requests.Redimension call bound) = then_shaped false (cell_called state call Put) _ (λ cell is. resize_shaped false cell.name cell.declared bound (put_in state cell.name))
-shaped state (requests.Lock call) = then_shaped true (cell_called state call Get) (adding state) (λ cell is. then_shaped true (locks_found state cell) _ (λ x at. refl))
-shaped state (requests.Unlock call) = then_shaped true (cell_called state call Get) (taking state) (λ cell is. then_shaped true (locks_found state cell) _ (λ x at. refl))
-shaped state (requests.TypeInfo index) = then_shaped false (known _ (description_of state index)) _ (λ x is. tt)
-shaped state requests.Objects = tt
+shaped state (requests.ByCall by_call.Lock call) = then_shaped true (cell_called state call Get) (adding state) (λ cell is. then_shaped true (locks_found state cell) _ (λ x at. refl))
+shaped state (requests.ByCall by_call.Unlock call) = then_shaped true (cell_called state call Get) (taking state) (λ cell is. then_shaped true (locks_found state cell) _ (λ x at. refl))
+shaped state (requests.ByNumber by_number.TypeInfo index) = then_shaped false (known _ (description_of state index)) _ (λ x is. tt)
+shaped state (requests.Query query) = tt
 
 -- what is decided of a body that asks for a lock
 relock_of : (state : State) (request : Request) (change : LockChange) → lock_asked_by state request ≡ Some change → (fields : List ℕ) × (decided state request ≡ Ok (Relock change fields)) × (changes_lock request ≡ true)
@@ -162,7 +164,7 @@ relocks name fields = Ok (Relock (Unlock name) fields)
 
 -- an UNLOCK that is asked for is of an array that was put
 unlock_of : (state : State) (request : Request) (name : CellName) (fields : List ℕ) → changes_lock request ≡ true → decided state request ≡ Ok (Relock (Unlock name) fields) → (a : ArrayValue Scalar) × (put_in state name ≡ Some (AnArray a))
-unlock_of state (requests.Lock call) name fields kind is = by (cell_called state call Get) is
+unlock_of state (requests.ByCall by_call.Lock call) name fields kind is = by (cell_called state call Get) is
   where
     on : (r : Result ℕ Refusal) (cell : BoundCell) → (r >>= λ locks. Ok (Relock (Lock cell.name) (number_field (locks + 1)))) ≡ Ok (Relock (Unlock name) fields) → ⊥
     on (Ok n) cell e = cc
@@ -171,7 +173,7 @@ unlock_of state (requests.Lock call) name fields kind is = by (cell_called state
     by : (r : Result BoundCell Refusal) → (r >>= adding state) ≡ Ok (Relock (Unlock name) fields) → (a : ArrayValue Scalar) × (put_in state name ≡ Some (AnArray a))
     by (Ok cell) e = absurd (on (locks_found state cell) cell e)
     by (Err r) e = absurd cc
-unlock_of state (requests.Unlock call) name fields kind is = by (cell_called state call Get) is
+unlock_of state (requests.ByCall by_call.Unlock call) name fields kind is = by (cell_called state call Get) is
   where
     on : (cell : BoundCell) (declared : ValueType) (o : Option Variant) → put_in state cell.name ≡ o → (array_locks declared o >>= λ locks. Ok (Relock (Unlock cell.name) (number_field (locks - 1)))) ≡ Ok (Relock (Unlock name) fields)
         → (a : ArrayValue Scalar) × (put_in state name ≡ Some (AnArray a))
@@ -187,14 +189,13 @@ unlock_of state (requests.Unlock call) name fields kind is = by (cell_called sta
     by (Ok cell) e = on cell cell.declared (put_in state cell.name) refl e
     by (Err r) e = absurd cc
 unlock_of state (requests.Create class) name fields kind is = absurd (true≢false (sym kind))
-unlock_of state (requests.Release number) name fields kind is = absurd (true≢false (sym kind))
+unlock_of state (requests.ByNumber which number) name fields kind is = absurd (true≢false (sym kind))
 unlock_of state (requests.GetIds call) name fields kind is = absurd (true≢false (sym kind))
-unlock_of state (requests.Invoke call) name fields kind is = absurd (true≢false (sym kind))
+unlock_of state (requests.ByCall by_call.Invoke call) name fields kind is = absurd (true≢false (sym kind))
 unlock_of state (requests.GetElement call indices) name fields kind is = absurd (true≢false (sym kind))
 unlock_of state (requests.PutElement call indices value) name fields kind is = absurd (true≢false (sym kind))
 unlock_of state (requests.Redimension call bound) name fields kind is = absurd (true≢false (sym kind))
-unlock_of state (requests.TypeInfo index) name fields kind is = absurd (true≢false (sym kind))
-unlock_of state requests.Objects name fields kind is = absurd (true≢false (sym kind))
+unlock_of state (requests.Query query) name fields kind is = absurd (true≢false (sym kind))
 
 -- ---- tables
 -- no object has the next number

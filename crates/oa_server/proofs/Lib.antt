@@ -1,4 +1,4 @@
-pub mod Renewing
+pub mod Replacing
 pub mod Opened
 pub mod Making
 pub mod Mapping

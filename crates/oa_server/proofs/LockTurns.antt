@@ -9,6 +9,7 @@ use Rattle.oa_record.specs.Replacement.{is_replacement}
 use Rattle.oa_record.specs.Replies.{ReplyValue}
 use Rattle.oa_record.specs.declared.request.Request.{Request}
 use Rattle.oa_record.specs.declared.request.Request.TheVariants as requests
+use Rattle.oa_record.specs.declared.opcode.ByCall.TheVariants as by_call
 use Rattle.oa_server.specs.Sharing.{HasOwners, IsLockTurn, MayChange, TurnsFor, relocked_by, shared, taken_back, taken_one}
 use Rattle.oa_table.specs.declared.name.CellName.{CellName}
 use Rattle.oa_decision.specs.Decided.{RequestTakesMemory, decided, refusal}
@@ -67,16 +68,15 @@ is_decided (Err why) change is = cc
 
 takes : (state : State) (request : Request) (change : LockChange) → lock_asked_by state request ≡ Some change → RequestTakesMemory state request
 takes state (requests.Create class) change is = cc
-takes state (requests.Release number) change is = cc
+takes state (requests.ByNumber kind number) change is = cc
 takes state (requests.GetIds call) change is = cc
-takes state (requests.Invoke call) change is = cc
+takes state (requests.ByCall by_call.Invoke call) change is = cc
 takes state (requests.GetElement call indices) change is = cc
 takes state (requests.PutElement call indices value) change is = cc
 takes state (requests.Redimension call bound) change is = cc
-takes state (requests.Lock call) change is = inl (inr (is_decided (locking state call) change is))
-takes state (requests.Unlock call) change is = inl (inr (is_decided (unlocking state call) change is))
-takes state (requests.TypeInfo index) change is = cc
-takes state requests.Objects change is = cc
+takes state (requests.ByCall by_call.Lock call) change is = inl (inr (is_decided (locking state call) change is))
+takes state (requests.ByCall by_call.Unlock call) change is = inl (inr (is_decided (unlocking state call) change is))
+takes state (requests.Query query) change is = cc
 
 lacks : (state : State) (body : List ℕ) (change : LockChange) → AsksLock state body change → MayLack state body
 lacks state body change asks = record { request = asks.request; asked = asks.asked; takes = takes state asks.request change asks.is }

@@ -72,7 +72,7 @@ pub record IsAnswered {D : Type 0} {g : Ghosts D} (old new : Store D g) (before 
   pub served : old.stopped ≡ false → IsServed requests 1 old new before after (body ∷ []) (reply ∷ [])
 
 -- What a turn of opcode 12 over a store leaves, whether it is told or in doubt.
-pub record RenewsStore {D : Type 0} {g : Ghosts D} (old new : Store D g) (before after : State) : Type 0 where
+pub record ReplacesInStore {D : Type 0} {g : Ghosts D} (old new : Store D g) (before after : State) : Type 0 where
   pub same : unlocked_table after.table ≡ unlocked_table before.table
   -- A stop at any moment leaves the old library or the new, with the table.
   pub any_moment : AllHoldState requests old before
@@ -83,17 +83,17 @@ pub record RenewsStore {D : Type 0} {g : Ghosts D} (old new : Store D g) (before
   pub goes : Goes old new
 
 -- A body that asks for another library is answered, where no group is open: as a group of its own.
-pub record IsRenewed {D : Type 0} {g : Ghosts D} (old new : Store D g) (before after : State) (body : List ℕ)
+pub record IsReplacedOver {D : Type 0} {g : Ghosts D} (old new : Store D g) (before after : State) (body : List ℕ)
     (reply : ReplyValue) : Type 0 where
   pub due : ReplyValue
   pub replaced : IsAnsweredAlone requests (exchange body due []) (reply ∷ []) (grouping old before [] [])
       (grouping new after [] [])
   pub calls : CallsForLibrary old new after
 
-abbrev pub IsRenewedOrLate : {D : Type 0} {g : Ghosts D} → Store D g → Store D g → State → State → List ℕ → ReplyValue
+abbrev pub IsReplacedOrLate : {D : Type 0} {g : Ghosts D} → Store D g → Store D g → State → State → List ℕ → ReplyValue
     → Type 0
-IsRenewedOrLate old new before after body reply =
-    (old.stopped ≡ false → IsRenewed old new before after body reply)
+IsReplacedOrLate old new before after body reply =
+    (old.stopped ≡ false → IsReplacedOver old new before after body reply)
     × (old.stopped ≡ true → (reply ≡ failed body) × (new ≡ old) × (after ≡ before))
 
 -- The device has failed before: all bodies are answered that, and nothing is done.

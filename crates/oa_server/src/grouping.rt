@@ -5,13 +5,13 @@ ghost use Rattle.oa_groups.specs.Served.{IsServed};
 ghost use Rattle.oa_journal.specs.Shapes.{ample_bytes};
 ghost use Rattle.oa_keeper.specs.Kept.{HasRoom};
 ghost use Rattle.oa_record.specs.Replacement.{is_replacement};
-ghost use Rattle.oa_server.specs.Answers.{IsAnswered, AnswersAfterFault, IsRenewed, IsRenewedOrLate};
+ghost use Rattle.oa_server.specs.Answers.{IsAnswered, AnswersAfterFault, IsReplacedOver, IsReplacedOrLate};
 ghost use Rattle.oa_server.specs.OpenGroups.{CanTake, CanTakeCleared, HandsOut, HasBanks, cleared_grouping, grouping_of};
 ghost use Rattle.oa_server.specs.Requests.{requests};
 
 use crate::holding::turn_held;
 use crate::open_group::{OpenGroup, bare_reply, withdraw};
-use crate::renewal::renew_over;
+use crate::replacement::replace_over;
 use oa_disk::Disk;
 use oa_keeper::{Batch, commit};
 use oa_model::HResult;
@@ -36,7 +36,7 @@ pub(crate) fn answer_over<D: Disk>(
         return bare_reply(alloc, body, HResult::E_FAIL);
     }
     if is_replacement(body) {
-        return renewed_over(alloc, host, store, body);
+        return replaced_over(alloc, host, store, body);
     }
     let mut batch = Batch::new(alloc);
     let Ok(reply) = turn_held(alloc, host, store, &mut batch, body) else {
@@ -49,14 +49,19 @@ pub(crate) fn answer_over<D: Disk>(
 }
 
 /// Answers one body that asks for another library, which is a group of its own.
-fn renewed_over<D: Disk>(alloc: Global, host: &mut Host, store: &mut Store<D>, body: &[u8]) -> Reply
+fn replaced_over<D: Disk>(
+    alloc: Global,
+    host: &mut Host,
+    store: &mut Store<D>,
+    body: &[u8],
+) -> Reply
     requires goes_on { store.old.stopped ≡ false }
     requires kind { is_replacement body.now ≡ true }
     requires banks { HasBanks store.old host.old }
-    ensures renewed { IsRenewed store.old store.new host.old host.new body.now result }
+    ensures replaced { IsReplacedOver store.old store.new host.old host.new body.now result }
     ensures banks { HasBanks store.new host.new }
 {
-    match renew_over(alloc, host, store, body) {
+    match replace_over(alloc, host, store, body) {
         Ok(reply) => reply,
         Err(_) => bare_reply(alloc, body, HResult::STG_E_WRITEFAULT),
     }
@@ -133,7 +138,7 @@ pub(crate) fn take<D: Disk>(
 }
 
 /// Answers one body that asks for another library, behind the end of the group before it, which the device may have failed.
-fn renewed_or_late<D: Disk>(
+fn replaced_or_late<D: Disk>(
     alloc: Global,
     host: &mut Host,
     store: &mut Store<D>,
@@ -141,11 +146,11 @@ fn renewed_or_late<D: Disk>(
 ) -> Reply
     requires kind { is_replacement body.now ≡ true }
     requires banks { HasBanks store.old host.old }
-    ensures renewed { IsRenewedOrLate store.old store.new host.old host.new body.now result }
+    ensures replaced { IsReplacedOrLate store.old store.new host.old host.new body.now result }
     ensures banks { HasBanks store.new host.new }
 {
     if !store.has_stopped() {
-        return renewed_over(alloc, host, store, body);
+        return replaced_over(alloc, host, store, body);
     }
     bare_reply(alloc, body, HResult::E_FAIL)
 }
@@ -171,7 +176,7 @@ fn take_apart<D: Disk>(
 {
     finish(alloc, host, store, open_group);
     open_group.batch = Batch::new(alloc);
-    let reply = renewed_or_late(alloc, host, store, body);
+    let reply = replaced_or_late(alloc, host, store, body);
     open_group.replies.push_reserved(reply);
 }
 

@@ -15,7 +15,7 @@ mod holding;
 pub mod laws;
 mod locking;
 mod open_group;
-mod renewal;
+mod replacement;
 mod server;
 mod serving;
 mod shared_engine;

@@ -38,6 +38,8 @@ use Rattle.oa_record.specs.Replies.{ReplyValue}
 use Rattle.oa_record.specs.declared.request.Call.{Call}
 use Rattle.oa_record.specs.declared.request.Request.{Request}
 use Rattle.oa_record.specs.declared.request.Request.TheVariants as requests
+use Rattle.oa_record.specs.declared.opcode.ByCall.TheVariants as by_call
+use Rattle.oa_record.specs.declared.opcode.ByNumber.TheVariants as by_number
 use Rattle.oa_table.specs.declared.event.Event.{Event}
 use Rattle.oa_table.specs.declared.event.Event.TheVariants as events
 use Rattle.oa_table.specs.declared.fault.TableFault.{TableFault}
@@ -212,17 +214,17 @@ module _ (state : State) (is : IsChecked state.library) where
 
   decided_brings : (request : Request) → IfOk (decided state request) (Brings state)
   decided_brings (requests.Create class) = after_both (Brings state) (class_found state class) _ (λ u a. after_both (Brings state) (fitting (allowed state.bank (events.Create state.table.next class) state.table)) _ (λ v b. rw a at (class_known state class)))
-  decided_brings (requests.Release number) = refl
+  decided_brings (requests.ByNumber by_number.Release number) = refl
   decided_brings (requests.GetIds call) = after_both (Brings state) (ids_found state call) _ (λ found a. tt)
-  decided_brings (requests.Invoke call) = called call (accesses.Flags call.head.flags) _ (λ cell for. invoked state cell for)
+  decided_brings (requests.ByCall by_call.Invoke call) = called call (accesses.Flags call.head.flags) _ (λ cell for. invoked state cell for)
   decided_brings (requests.GetElement call index) = called call accesses.Get _ (λ cell for. after_both (Brings state) (element_in state index cell) _ (λ element a. tt))
   decided_brings (requests.PutElement call index value) =
       called call accesses.Put _ (λ cell for. after_both (Brings state) (element_for state index value cell) _ (λ element a. refl))
   decided_brings (requests.Redimension call bound) = called call accesses.Put _ (λ cell for. resized state cell bound (put_in state cell.name) for)
-  decided_brings (requests.Lock call) = called call accesses.Get _ (λ cell for. after_both (Brings state) (locks_found state cell) _ (λ locks a. tt))
-  decided_brings (requests.Unlock call) = called call accesses.Get _ (λ cell for. after_both (Brings state) (locks_found state cell) _ (λ locks a. tt))
-  decided_brings (requests.TypeInfo index) = after_both (Brings state) (known _ (description_of state index)) _ (λ description a. tt)
-  decided_brings requests.Objects = tt
+  decided_brings (requests.ByCall by_call.Lock call) = called call accesses.Get _ (λ cell for. after_both (Brings state) (locks_found state cell) _ (λ locks a. tt))
+  decided_brings (requests.ByCall by_call.Unlock call) = called call accesses.Get _ (λ cell for. after_both (Brings state) (locks_found state cell) _ (λ locks a. tt))
+  decided_brings (requests.ByNumber by_number.TypeInfo index) = after_both (Brings state) (known _ (description_of state index)) _ (λ description a. tt)
+  decided_brings (requests.Query query) = tt
 
 -- ---- what becomes of it
 -- the library stays, and the table is one of it

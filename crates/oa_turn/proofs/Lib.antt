@@ -1,6 +1,6 @@
 -- what the crates above cite
 pub mod Relocked
-pub mod Renewing
+pub mod Replacing
 pub mod Runs
 pub mod Texts
 pub mod Fitting

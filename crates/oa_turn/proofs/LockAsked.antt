@@ -5,7 +5,7 @@ use Rattle.std.proofs.lemmas.Bool.{ltb-true}
 use Rattle.oa_record.specs.Asks.{Asks, request_opcode}
 use Rattle.oa_record.specs.Opcodes.{opcode_at, opcode_in, opcode_named, opcode_number}
 use Rattle.oa_record.specs.declared.request.Request.{Request}
-use Rattle.oa_record.specs.declared.request.Request.TheVariants as requests
+use Rattle.oa_record.proofs.OpcodeLaws.{named_back}
 use Rattle.oa_decision.specs.Decided.{decided}
 use Rattle.oa_decision.specs.States.{State}
 use Rattle.oa_decision.specs.declared.decision.LockChange.{LockChange}
@@ -37,17 +37,7 @@ named body request stands = by (nat_lt (length body) 8) refl
     by false long = ap opcode_named stands.1
 
 changes_by_opcode : (request : Request) → changes_lock request ≡ is_lock_in (opcode_named (opcode_number (request_opcode request)))
-changes_by_opcode (requests.Create class) = refl
-changes_by_opcode (requests.Release number) = refl
-changes_by_opcode (requests.GetIds call) = refl
-changes_by_opcode (requests.Invoke call) = refl
-changes_by_opcode (requests.GetElement call indices) = refl
-changes_by_opcode (requests.PutElement call indices value) = refl
-changes_by_opcode (requests.Redimension call bound) = refl
-changes_by_opcode (requests.Lock call) = refl
-changes_by_opcode (requests.Unlock call) = refl
-changes_by_opcode (requests.TypeInfo index) = refl
-changes_by_opcode requests.Objects = refl
+changes_by_opcode request = ap is_lock_in (sym (named_back (request_opcode request)))
 
 pub asks_none : ((body : List ℕ) (q : Request) → Asks body q → (8 ≤ length body) × (opcode_at body ≡ opcode_number (request_opcode q))) → (state : State) (body : List ℕ) → asks_lock body ≡ false
     → (change : LockChange) → AsksLock state body change → ⊥

@@ -25,6 +25,8 @@ use Rattle.oa_record.specs.declared.request.Call.{Call}
 use Rattle.oa_record.specs.declared.request.GetIds.{GetIds}
 use Rattle.oa_record.specs.declared.request.Request.{Request}
 use Rattle.oa_record.specs.declared.request.Request.TheVariants as requests
+use Rattle.oa_record.specs.declared.opcode.ByCall.TheVariants as by_call
+use Rattle.oa_record.specs.declared.opcode.ByNumber.TheVariants as by_number
 use Rattle.oa_record.specs.Replies.{ReplyValue}
 use Rattle.oa_table.specs.declared.event.Event.{Event}
 use Rattle.oa_table.specs.declared.event.Event.TheVariants as events
@@ -308,13 +310,13 @@ decided_own state (requests.Create class) =
     fits : (due : Result TableValue HResult) → allowed state.bank (events.Create state.table.next class) state.table ≡ due → Own (fitting due)
     fits (Ok table) is = tt
     fits (Err code) is = allowed_own state.bank (events.Create state.table.next class) state.table code is
-decided_own state (requests.Release number) = tt
+decided_own state (requests.ByNumber by_number.Release number) = tt
 decided_own state (requests.GetIds call) = then_decides (ids_found state call) _ (ids_own state call) (λ ids. told ids.all_known)
   where
     told : (known : Bool) → is_own (if known then s_ok else disp_e_unknownname) ≡ true
     told true = refl
     told false = refl
-decided_own state (requests.Invoke call) = then_decides (cell_called state call (accesses.Flags call.head.flags)) _ (cell_own state call (accesses.Flags call.head.flags)) (λ cell. acted cell cell.value)
+decided_own state (requests.ByCall by_call.Invoke call) = then_decides (cell_called state call (accesses.Flags call.head.flags)) _ (cell_own state call (accesses.Flags call.head.flags)) (λ cell. acted cell cell.value)
   where
     acted : (cell : BoundCell) (value : Option Variant) → OwnAnswer (acting state cell.name cell.declared value)
     acted cell None = refl
@@ -330,12 +332,12 @@ decided_own state (requests.Redimension call bound) = then_decides (cell_called 
     by : (cell : BoundCell) (o : Option Variant) → OwnDecision (resizing cell.name cell.declared bound o)
     by cell None = then_decides (zero_with bound cell.declared) _ (refused_own (redimensioned_value bound (zero_value cell.declared))) (λ value. tt)
     by cell (Some value) = tt
-decided_own state (requests.Lock call) = then_decides (cell_called state call accesses.Get) _ (cell_own state call accesses.Get)
+decided_own state (requests.ByCall by_call.Lock call) = then_decides (cell_called state call accesses.Get) _ (cell_own state call accesses.Get)
     (λ cell. then_decides (array_cells.locks_found state cell) _ (locks_own cell.declared (array_cells.put_in state cell.name)) (λ locks. tt))
-decided_own state (requests.Unlock call) = then_decides (cell_called state call accesses.Get) _ (cell_own state call accesses.Get)
+decided_own state (requests.ByCall by_call.Unlock call) = then_decides (cell_called state call accesses.Get) _ (cell_own state call accesses.Get)
     (λ cell. then_decides (array_cells.locks_found state cell) _ (locks_own cell.declared (array_cells.put_in state cell.name)) (λ locks. tt))
-decided_own state (requests.TypeInfo index) = then_decides (known disp_e_badindex (description_of state index)) _ (known_own disp_e_badindex (description_of state index) refl) (λ description. refl)
-decided_own state requests.Objects = refl
+decided_own state (requests.ByNumber by_number.TypeInfo index) = then_decides (known disp_e_badindex (description_of state index)) _ (known_own disp_e_badindex (description_of state index) refl) (λ description. refl)
+decided_own state (requests.Query query) = refl
 
 outcome_own : (state : State) (due : Result Decision Refusal) → OwnDecision due → is_own (outcome_of state due).code ≡ true
 outcome_own state (Err r) own = own

@@ -1,11 +1,11 @@
 -- Which lock a body asks to be changed. (This project's choice.)
 use Rattle.std.specs.Prelude.{◌≡◌, ◌⊎◌, ℕ, Bool, true, false, if◌then◌else◌, List, Option, Some, None, Result, Ok, Err}
-use Rattle.oa_record.specs.Asks.{Asks, MayStarve}
+use Rattle.oa_record.specs.Asks.{Asks, MayStarve, request_opcode}
 use Rattle.oa_record.specs.Opcodes.{opcode_in}
 use Rattle.oa_record.specs.declared.opcode.Opcode.{Opcode}
 use Rattle.oa_record.specs.declared.opcode.Opcode.TheVariants as opcodes
+use Rattle.oa_record.specs.declared.opcode.ByCall.TheVariants as by_call
 use Rattle.oa_record.specs.declared.request.Request.{Request}
-use Rattle.oa_record.specs.declared.request.Request.TheVariants as requests
 use Rattle.oa_table.specs.declared.fault.TableFault.{TableFault}
 use Rattle.oa_table.specs.Tables.{TableValue}
 use Rattle.oa_decision.specs.declared.decision.Decision.{Decision}
@@ -24,32 +24,13 @@ lock_decided (Ok (Change event fields)) = None
 lock_decided (Ok (Relock change fields)) = Some change
 
 -- only LOCK and UNLOCK change one
-abbrev pub changes_lock : Request → Bool
-changes_lock (requests.Create class) = false
-changes_lock (requests.Release number) = false
-changes_lock (requests.GetIds call) = false
-changes_lock (requests.Invoke call) = false
-changes_lock (requests.GetElement call indices) = false
-changes_lock (requests.PutElement call indices value) = false
-changes_lock (requests.Redimension call bound) = false
-changes_lock (requests.Lock call) = true
-changes_lock (requests.Unlock call) = true
-changes_lock (requests.TypeInfo index) = false
-changes_lock requests.Objects = false
-
--- so their opcodes alone
 abbrev pub is_lock : Opcode → Bool
-is_lock opcodes.Create = false
-is_lock opcodes.Release = false
-is_lock opcodes.GetIds = false
-is_lock opcodes.Invoke = false
-is_lock opcodes.GetElement = false
-is_lock opcodes.PutElement = false
-is_lock opcodes.Redimension = false
-is_lock opcodes.Lock = true
-is_lock opcodes.Unlock = true
-is_lock opcodes.TypeInfo = false
-is_lock opcodes.Objects = false
+is_lock (opcodes.ByCall by_call.Lock) = true
+is_lock (opcodes.ByCall by_call.Unlock) = true
+is_lock opcode = false
+
+abbrev pub changes_lock : Request → Bool
+changes_lock request = is_lock (request_opcode request)
 
 abbrev pub is_lock_in : Option Opcode → Bool
 is_lock_in None = false

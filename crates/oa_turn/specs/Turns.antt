@@ -53,13 +53,13 @@ pub record IsOrdinary (old : State) (body : List ℕ) (reply : ReplyValue) (new 
   pub turn : Ordinary old body reply new
 
 -- one turn of a body with that opcode
-pub record IsRenewal (old : State) (body : List ℕ) (reply : ReplyValue) (new : State) : Type 0 where
+pub record IsReplacing (old : State) (body : List ℕ) (reply : ReplyValue) (new : State) : Type 0 where
   pub kind : is_replacement body ≡ true
   pub turn : Replacement old body reply new
 
 -- one turn
 abbrev pub Turn : State → List ℕ → ReplyValue → State → Type 0
-Turn old body reply new = IsOrdinary old body reply new ⊎ IsRenewal old body reply new
+Turn old body reply new = IsOrdinary old body reply new ⊎ IsReplacing old body reply new
 
 -- one turn after another
 abbrev pub Run : State → List (List ℕ) → List ReplyValue → State → Type 0

@@ -31,7 +31,7 @@ use std::alloc::{AllocError, Global};
 use std::marker::Model;
 
 pub(crate) mod locking;
-pub(crate) mod renewal;
+pub(crate) mod replacement;
 
 /// A library and a table of its objects, in memory, and how large the table may grow: what a server's answers depend on.
 pub struct Host {
@@ -100,7 +100,7 @@ impl Host {
     {
         opcode_stands();
         if is_replacement(body) {
-            return self.renew(body);
+            return self.replace(body);
         }
         self.ordinary_turn(body)
     }

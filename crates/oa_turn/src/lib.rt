@@ -11,5 +11,5 @@ mod host;
 pub mod laws;
 
 pub use host::Host;
-pub use host::renewal::Renewal;
+pub use host::replacement::ReplacementPlan;
 pub use oa_decision::{Fields, Plan, Planned};

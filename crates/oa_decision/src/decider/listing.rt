@@ -1,13 +1,10 @@
 //! LIST.
-ghost use Rattle.std.specs.Prelude.{◌≡◌, ◌+◌, ◌*◌, ◌++◌, length, IfOk, IsOk, OnOk};
+ghost use Rattle.std.specs.Prelude.{◌≡◌, ◌+◌, ◌*◌, ◌++◌, length, IfOk, OnOk};
 ghost use Rattle.std.specs.List.{flat_map};
-ghost use Rattle.oa_decision.specs.Decisions.{ChangesNoLocks, Decides};
-ghost use Rattle.oa_decision.specs.Listing.{entry_of, listing, objects_field};
+ghost use Rattle.oa_decision.specs.Listing.{entry_of, objects_field};
 
 use super::Decider;
-use crate::decision::{Decision, Undecided};
 use crate::fields::Fields;
-use oa_model::HResult;
 use oa_record::{MAX_FIELDS_BYTES, put_number_field, put_object_field};
 use oa_table::Table;
 use std::alloc::AllocError;
@@ -16,19 +13,9 @@ use std::alloc::AllocError;
 const MAX_LISTED: usize = (MAX_FIELDS_BYTES - 8) / 24;
 
 impl Decider<'_> {
-    /// Decides a LIST: the live objects by rising number, each with its coclass.
-    pub(super) fn listing(&self) -> Result<Decision, Undecided>
-        ensures decided { Decides (listing self.now) (IsOk (listing self.now)) result }
-        ensures unlocked { IfOk result ChangesNoLocks }
-    {
-        let fields = self.objects_field()?;
-        let code = HResult::S_OK;
-        Ok(Decision::Answer { code, fields })
-    }
-
-    /// The live objects as the fields of a reply, in room that is reserved once. A reply has room for more than are ever live: a table of
-    /// more is as if memory was refused.
-    fn objects_field(&self) -> Result<Fields, AllocError>
+    /// The live objects by rising number, each with its coclass, as the fields of a reply, in room that is reserved once. A reply has room for
+    /// more than are ever live: a table of more is as if memory was refused.
+    pub(super) fn objects_field(&self) -> Result<Fields, AllocError>
         ensures { IfOk result (λ fields. fields ≡ objects_field self.now.table) }
     {
         let count = self.table.len();

@@ -10,7 +10,7 @@ use super::Host;
 use crate::changes::take_lock_back;
 use oa_decision::{Decision, LockChange, Undecided};
 use oa_record::laws::{one_request, opcode_stands, refused_asks_nothing};
-use oa_record::{Opcode, RecordFault, Request, opcode_of, read_request};
+use oa_record::{ByCall, Opcode, RecordFault, Request, opcode_of, read_request};
 use oa_table::CellName;
 use std::alloc::AllocError;
 
@@ -72,7 +72,7 @@ fn changes_lock(request: &Request) -> bool
     ensures { result ≡ changes_lock request.now }
 {
     match request {
-        Request::Lock(_) | Request::Unlock(_) => true,
+        Request::ByCall(ByCall::Lock | ByCall::Unlock, _) => true,
         _ => false,
     }
 }
@@ -92,7 +92,7 @@ fn is_lock(opcode: Opcode) -> bool
     ensures { result ≡ is_lock opcode }
 {
     match opcode {
-        Opcode::Lock | Opcode::Unlock => true,
+        Opcode::ByCall(ByCall::Lock | ByCall::Unlock) => true,
         _ => false,
     }
 }

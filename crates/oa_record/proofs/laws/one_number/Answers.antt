@@ -1,5 +1,5 @@
 use Rattle.std.proofs.Common.{sym}
-use Rattle.oa_record.proofs.LayoutLaws.{named_back, number_from}
+use Rattle.oa_record.proofs.OpcodeLaws.{named_back, number_from}
 use Rattle.oa_record.proofs.laws.one_number.Goals as goal
 
 pub returns : goal.returns

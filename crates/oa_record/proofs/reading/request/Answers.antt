@@ -8,11 +8,11 @@ use Rattle.oa_record.specs.declared.body_parts.Parts.{Parts}
 use Rattle.oa_record.proofs.Requests.{refuses_call}
 use Rattle.oa_record.proofs.reading.request.Goals as goal
 
-pub returns-in_err-called-in-Invoke : goal.returns-in_err-called-in-Invoke
-returns-in_err-called-in-Invoke c =
+pub returns-in_err-called-in-Call : goal.returns-in_err-called-in-Call
+returns-in_err-called-in-Call c =
     let p = err_from_is_err_and c.from_residual.result c.from_residual.ensures.1 in
-    rw (p.1, p.2) (subst (λ (x : Parts). Requests (shown x) (Err c.in_err-called-in-Invoke.field-0.0)) (sym c.in-Invoke.is)
-    (refuses_call (Layout.InvokeBody c.in-Invoke.call) c.in-Invoke.call c.in_err-called-in-Invoke.field-0.0 refl (λ _. refl) (omega arith) c.in_err-called-in-Invoke.ensures.judged))
+    rw (p.1, p.2) (subst (λ (x : Parts). Requests (shown x) (Err c.in_err-called-in-Call.field-0.0)) (sym c.in-Call.is)
+    (refuses_call (Layout.CallBody c.in-Call.kind c.in-Call.call) c.in-Call.call c.in_err-called-in-Call.field-0.0 refl (λ _. refl) (omega arith) c.in_err-called-in-Call.ensures.judged))
 
 pub returns-in_err-call-in-GetElement : goal.returns-in_err-call-in-GetElement
 returns-in_err-call-in-GetElement c =
@@ -25,15 +25,3 @@ returns-in_err-call-in-Redimension c =
     let p = err_from_is_err_and c.from_residual-in_err-call-in-Redimension.result c.from_residual-in_err-call-in-Redimension.ensures.1 in
     rw (p.1, p.2) (subst (λ (x : Parts). Requests (shown x) (Err c.in_err-call-in-Redimension.field-0.0)) (sym c.in-Redimension.is)
     (refuses_call (Layout.RedimensionBody (redim_of c.in-Redimension.call c.in-Redimension.bound)) c.in-Redimension.call c.in_err-call-in-Redimension.field-0.0 refl (λ _. refl) (omega arith) c.in_err-call-in-Redimension.ensures.judged))
-
-pub returns-in_err-called-in-Lock : goal.returns-in_err-called-in-Lock
-returns-in_err-called-in-Lock c =
-    let p = err_from_is_err_and c.from_residual-in_err-called-in-Lock.result c.from_residual-in_err-called-in-Lock.ensures.1 in
-    rw (p.1, p.2) (subst (λ (x : Parts). Requests (shown x) (Err c.in_err-called-in-Lock.field-0.0)) (sym c.in-Lock.is)
-    (refuses_call (Layout.LockBody c.in-Lock.call) c.in-Lock.call c.in_err-called-in-Lock.field-0.0 refl (λ _. refl) (omega arith) c.in_err-called-in-Lock.ensures.judged))
-
-pub returns-in_err-called-in-Unlock : goal.returns-in_err-called-in-Unlock
-returns-in_err-called-in-Unlock c =
-    let p = err_from_is_err_and c.from_residual-in_err-called-in-Unlock.result c.from_residual-in_err-called-in-Unlock.ensures.1 in
-    rw (p.1, p.2) (subst (λ (x : Parts). Requests (shown x) (Err c.in_err-called-in-Unlock.field-0.0)) (sym c.in-Unlock.is)
-    (refuses_call (Layout.UnlockBody c.in-Unlock.call) c.in-Unlock.call c.in_err-called-in-Unlock.field-0.0 refl (λ _. refl) (omega arith) c.in_err-called-in-Unlock.ensures.judged))

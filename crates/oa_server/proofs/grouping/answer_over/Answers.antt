@@ -1,6 +1,6 @@
 use Rattle.std.proofs.Common.{rules}
 use Rattle.oa_server.proofs.Answering.{checkpoint_failed, commit_failed, committed}
-use Rattle.oa_server.proofs.Renewing.{answered_apart}
+use Rattle.oa_server.proofs.Replacing.{answered_apart}
 use Rattle.oa_server.proofs.grouping.answer_over.Goals as goal
 
 pub returns-in_default-clause-answered : goal.returns-in_default-clause-answered
@@ -27,4 +27,4 @@ returns-clause-answered g c =
 
 pub returns-then-is_replacement-clause-answered : goal.returns-then-is_replacement-clause-answered
 returns-then-is_replacement-clause-answered g c =
-    answered_apart {g = g.D.Disk} (λ d f honest since. g.met.D.Disk.only_now d f honest since) c.args.store.now c.renewed_over.new.store (search rules) c.args.host.now c.renewed_over.new.host c.args.body.now c.renewed_over.result (search rules) c.renewed_over.ensures.renewed
+    answered_apart {g = g.D.Disk} (λ d f honest since. g.met.D.Disk.only_now d f honest since) c.args.store.now c.replaced_over.new.store (search rules) c.args.host.now c.replaced_over.new.host c.args.body.now c.replaced_over.result (search rules) c.replaced_over.ensures.replaced

@@ -10,7 +10,7 @@ pub returns-clause-bank : goal.returns-clause-bank
 returns-clause-bank c = ordinary_bank c.args.self.now c.ordinary_turn.new.self c.args.body.now c.ordinary_turn.result c.ordinary_turn.ensures.turn
 
 pub returns-then-is_replacement-clause-bank : goal.returns-then-is_replacement-clause-bank
-returns-then-is_replacement-clause-bank c = replacement_bank c.args.self.now c.renew.new.self c.args.body.now c.renew.result c.renew.ensures
+returns-then-is_replacement-clause-bank c = replacement_bank c.args.self.now c.replace.new.self c.args.body.now c.replace.result c.replace.ensures
 
 pub returns-then-is_replacement-clause-released : goal.returns-then-is_replacement-clause-released
 returns-then-is_replacement-clause-released c = λ number of code. no_replacement c.args.body.now number of c.opcode_stands.ensures (search rules)

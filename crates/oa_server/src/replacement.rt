@@ -1,7 +1,7 @@
 //! REPLACE LIBRARY over a store.
 ghost use Rattle.std.specs.Prelude.{◌≡◌, false, true, IfOk, OnErr, OnOk};
 ghost use Rattle.oa_record.specs.Replies.{ReplyValue};
-ghost use Rattle.oa_server.specs.Answers.{RenewsStore};
+ghost use Rattle.oa_server.specs.Answers.{ReplacesInStore};
 ghost use Rattle.oa_server.specs.OpenGroups.{HasBanks};
 ghost use Rattle.oa_turn.specs.Events.{is_done};
 ghost use Rattle.oa_turn.specs.Replacing.{Replacement};
@@ -13,13 +13,13 @@ use oa_keeper::DeviceFailed;
 use oa_model::HResult;
 use oa_record::Reply;
 use oa_store::{Store, WriteFault};
-use oa_turn::{Host, Renewal};
+use oa_turn::{Host, ReplacementPlan};
 use std::alloc::Global;
 
 /// The turn of a body of opcode 12 over a store, where no group is open: a group of its own. The store goes on in its other bank with the
 /// other library; where the body is refused, the device is not called. At `Err` the device has failed, and the turn is in doubt: the state
 /// is the one after it.
-pub(crate) fn renew_over<D: Disk>(
+pub(crate) fn replace_over<D: Disk>(
     alloc: Global,
     host: &mut Host,
     store: &mut Store<D>,
@@ -29,16 +29,16 @@ pub(crate) fn renew_over<D: Disk>(
     requires banks { HasBanks store.old host.old }
     ensures turn { IfOk result (λ reply. Replacement host.old body.now reply host.new) }
     ensures failed { OnErr result ((reply : ReplyValue) × Replacement host.old body.now reply host.new × (is_done reply ≡ true)) }
-    ensures renews { RenewsStore store.old store.new host.old host.new }
+    ensures replaced { ReplacesInStore store.old store.new host.old host.new }
     // A body that is refused makes no call of the device.
     ensures quiet { IfOk result (λ reply. is_done reply ≡ false → store.new.disk ≡ store.old.disk) }
     ensures going { OnOk result (store.new.stopped ≡ false) }
     ensures stops { OnErr result (store.new.stopped ≡ true) }
     ensures banks { HasBanks store.new host.new }
 {
-    let library = match host.renewal(body) {
-        Renewal::Answered(reply) => return Ok(reply),
-        Renewal::Renewed(library) => library,
+    let library = match host.plan_replacement(body) {
+        ReplacementPlan::Answered(reply) => return Ok(reply),
+        ReplacementPlan::Replaced(library) => library,
     };
     match store.checkpoint_with(text_of(&library), host.table()) {
         Ok(()) => {

@@ -1,6 +1,6 @@
 //! REPLACE LIBRARY.
 ghost use Rattle.std.specs.Prelude.{◌≡◌};
-ghost use Rattle.oa_turn.specs.Renewals.{IsLibraryOf, RefusesLoss, Renews, text_code};
+ghost use Rattle.oa_turn.specs.ReplacementPlans.{IsLibraryOf, RefusesLoss, PlansReplacement, text_code};
 ghost use Rattle.oa_turn.specs.Replacing.{Replacement};
 
 use super::Host;
@@ -12,11 +12,11 @@ use std::alloc::Global;
 
 /// What becomes of a body that asks for another library.
 #[derive(Drop)]
-pub enum Renewal {
+pub enum ReplacementPlan {
     /// It is refused.
     Answered(Reply),
     /// The library is to take the place of the other.
-    Renewed(Library),
+    Replaced(Library),
 }
 
 /// The library whose text the body has, or the code of a refusal.
@@ -51,27 +51,27 @@ fn refuse_loss(alloc: Global, tag: u32, lost: Lost) -> Reply
 
 impl Host {
     /// What becomes of a body that asks for another library. Only reads.
-    pub fn renewal(&self, body: &[u8]) -> Renewal
-        ensures { Renews self.now body.now result }
+    pub fn plan_replacement(&self, body: &[u8]) -> ReplacementPlan
+        ensures { PlansReplacement self.now body.now result }
     {
         let tag = tag_of(body);
         let library = match library_of(self.alloc, body) {
             Ok(library) => library,
-            Err(code) => return Renewal::Answered(Reply::bare(self.alloc, tag, code, None)),
+            Err(code) => return ReplacementPlan::Answered(Reply::bare(self.alloc, tag, code, None)),
         };
         match keeps(&library, &self.library) {
-            None => Renewal::Renewed(library),
-            Some(lost) => Renewal::Answered(refuse_loss(self.alloc, tag, lost)),
+            None => ReplacementPlan::Replaced(library),
+            Some(lost) => ReplacementPlan::Answered(refuse_loss(self.alloc, tag, lost)),
         }
     }
 
     /// The turn of such a body in memory.
-    pub(super) fn renew(&mut self, body: &[u8]) -> Reply
+    pub(super) fn replace(&mut self, body: &[u8]) -> Reply
         ensures { Replacement self.old body.now result self.new }
     {
-        match self.renewal(body) {
-            Renewal::Answered(reply) => reply,
-            Renewal::Renewed(library) => {
+        match self.plan_replacement(body) {
+            ReplacementPlan::Answered(reply) => reply,
+            ReplacementPlan::Replaced(library) => {
                 self.library = library;
                 Reply::bare(self.alloc, tag_of(body), HResult::S_OK, None)
             }

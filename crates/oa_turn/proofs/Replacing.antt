@@ -13,7 +13,7 @@ use Rattle.oa_record.specs.Asks.{tag_at}
 use Rattle.oa_record.specs.Replacement.{text_in}
 use Rattle.oa_record.specs.Replies.{ReplyValue}
 use Rattle.oa_turn.specs.Events.{is_done}
-use Rattle.oa_turn.specs.Renewals.{IsLibraryOf, IsNext, RefusesLoss, text_code}
+use Rattle.oa_turn.specs.ReplacementPlans.{IsLibraryOf, IsNext, RefusesLoss, text_code}
 use Rattle.oa_turn.specs.Replacing.{AsksLibrary, BringsText, Replacement, after_replacement, replacement_reply}
 use Rattle.oa_decision.specs.States.{State}
 use Rattle.oa_decision.specs.Decided.{refusal}

@@ -1,6 +1,6 @@
 use Rattle.std.proofs.Common.{rules}
-use Rattle.oa_turn.proofs.Renewing.{text_told}
-use Rattle.oa_turn.proofs.host.renewal.library_of.Goals as goal
+use Rattle.oa_turn.proofs.Replacing.{text_told}
+use Rattle.oa_turn.proofs.host.replacement.library_of.Goals as goal
 
 pub returns : goal.returns
 returns c =

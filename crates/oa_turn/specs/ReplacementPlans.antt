@@ -8,8 +8,8 @@ use Rattle.oa_keeps.specs.declared.lost.Lost.{Lost}
 use Rattle.oa_keeps.specs.declared.library_text.TextError.{TextError}
 use Rattle.oa_keeps.specs.declared.library_text.TextError.TheVariants.{NoLibrary, Memory}
 use Rattle.oa_record.specs.Replies.{ReplyValue}
-use Rattle.oa_turn.specs.declared.host.renewal.Renewal.{Renewal}
-use Rattle.oa_turn.specs.declared.host.renewal.Renewal.TheVariants.{Answered, Renewed}
+use Rattle.oa_turn.specs.declared.host.replacement.ReplacementPlan.{ReplacementPlan}
+use Rattle.oa_turn.specs.declared.host.replacement.ReplacementPlan.TheVariants.{Answered, Replaced}
 use Rattle.oa_turn.specs.Replacing.{AsksLibrary, BringsText, Replacement, replacement_reply}
 use Rattle.oa_turn.specs.Events.{is_done}
 use Rattle.oa_decision.specs.States.{State}
@@ -37,6 +37,6 @@ pub record IsNext (state : State) (body : List ℕ) (library : TreeValue) : Type
   pub keeps : first_lost library state.library ≡ None
 
 -- the turn was taken, and changed nothing; or a library is to replace the one of the state
-abbrev pub Renews : State → List ℕ → Renewal → Type 0
-Renews state body (Answered reply) = Replacement state body reply state × (is_done reply ≡ false)
-Renews state body (Renewed library) = IsNext state body library
+abbrev pub PlansReplacement : State → List ℕ → ReplacementPlan → Type 0
+PlansReplacement state body (Answered reply) = Replacement state body reply state × (is_done reply ≡ false)
+PlansReplacement state body (Replaced library) = IsNext state body library

@@ -25,7 +25,7 @@ use Rattle.oa_store.specs.declared.store.Store.{Store}
 use Rattle.oa_table.specs.Tables.{TableValue}
 use Rattle.oa_server.specs.OpenGroups.{grouping}
 use Rattle.oa_turn.specs.Replacing.{Replacement}
-use Rattle.oa_server.specs.Answers.{CallsForLibrary, IsAnswered, IsRenewed, IsRenewedOrLate}
+use Rattle.oa_server.specs.Answers.{CallsForLibrary, IsAnswered, IsReplacedOver, IsReplacedOrLate}
 use Rattle.oa_server.specs.Requests.{IsAsked, faulted, requests, text_of_library}
 use Rattle.oa_turn.specs.Events.{held_of, is_done}
 use Rattle.oa_decision.specs.States.{State}
@@ -98,8 +98,8 @@ module _ {D : Type 0} {g : Ghosts D} (old new : Store D g) (before after : State
     replays = subst (λ (t : TableValue). Replays [] (held_of before) t) (sym same) (no_event (held_of before));
   }
 
-  pub renewed : (due : ReplyValue) → Replacement before body due after → new.stopped ≡ false → (is_done due ≡ false → new.disk ≡ old.disk) → IsRenewed old new before after body due
-  renewed due turn going quiet = record {
+  pub replaced_alone : (due : ReplyValue) → Replacement before body due after → new.stopped ≡ false → (is_done due ≡ false → new.disk ≡ old.disk) → IsReplacedOver old new before after body due
+  replaced_alone due turn going quiet = record {
     due = due;
     replaced = record {
       turn = asked due turn;
@@ -120,7 +120,7 @@ module _ {D : Type 0} {g : Ghosts D} (old new : Store D g) (before after : State
   }
 
   -- a call of the device failed in it
-  pub in_doubt : (due : ReplyValue) → Replacement before body due after → is_done due ≡ true → new.stopped ≡ true → (reply : ReplyValue) → reply ≡ faulted body → IsRenewed old new before after body reply
+  pub in_doubt : (due : ReplyValue) → Replacement before body due after → is_done due ≡ true → new.stopped ≡ true → (reply : ReplyValue) → reply ≡ faulted body → IsReplacedOver old new before after body reply
   in_doubt due turn done stopped reply told = record {
     due = due;
     replaced = record {
@@ -145,7 +145,7 @@ one_reply : (a b : ReplyValue) → a ∷ [] ≡ b ∷ [] → a ≡ b
 one_reply a b e = cc
 
 module _ {D : Type 0} {g : Ghosts D} (only : (d : D) (c : List ℕ) → IsTrue (g.is_honest d) → g.image_since d (g.moment d) c → g.image d c) (old new : Store D g) (was : old.stopped ≡ false) (before after : State) (body : List ℕ) (reply : ReplyValue)
-    (kind : is_replacement body ≡ true) (is : IsRenewed old new before after body reply) where
+    (kind : is_replacement body ≡ true) (is : IsReplacedOver old new before after body reply) where
   abbrev begin : Grouping State ReplyValue D g
   begin = grouping old before [] []
 
@@ -185,7 +185,7 @@ module _ {D : Type 0} {g : Ghosts D} (only : (d : D) (c : List ℕ) → IsTrue (
 
 -- behind the group before it
 module _ {D : Type 0} {g : Ghosts D} (old mid new : Store D g) (was : old.stopped ≡ false) (before after : State) (body : List ℕ) (reply : ReplyValue) (kind : is_replacement body ≡ true)
-    (pending told : List ReplyValue) (events batch : List ℕ) (ended : IsEnded requests told (grouping old before pending events) (grouping mid before [] batch)) (is : IsRenewedOrLate mid new before after body reply) where
+    (pending told : List ReplyValue) (events batch : List ℕ) (ended : IsEnded requests told (grouping old before pending events) (grouping mid before [] batch)) (is : IsReplacedOrLate mid new before after body reply) where
   flushed : IsEnded requests told (grouping old before pending events) (grouping mid before [] batch) → IsFlushed requests told (grouping old before pending events) (grouping mid before [] [])
   flushed (inl idle) = inl (record { none = idle.none; nothing = idle.nothing; store = idle.store; state = idle.state })
   flushed (inr (inl last)) = inr (record {

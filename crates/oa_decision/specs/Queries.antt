@@ -1,0 +1,18 @@
+-- What is asked without fields is answered at any time: with S_OK, and with fields that tell of the server's state, which
+-- stays. (This project's choice.)
+use Rattle.std.specs.Prelude.{ℕ, List, Result, Ok}
+use Rattle.oa_model.specs.Codes.{s_ok}
+use Rattle.oa_record.specs.declared.opcode.Query.{Query}
+use Rattle.oa_record.specs.declared.opcode.Query.TheVariants as queries
+use Rattle.oa_decision.specs.declared.decision.Decision.{Decision}
+use Rattle.oa_decision.specs.declared.decision.Decision.TheVariants.{Answer}
+use Rattle.oa_decision.specs.declared.refusal.Refusal.{Refusal}
+use Rattle.oa_decision.specs.Listing.{objects_field}
+use Rattle.oa_decision.specs.States.{State}
+
+-- the fields of the answer
+abbrev pub told : State → Query → List ℕ
+told state queries.Objects = objects_field state.table
+
+abbrev pub answered : State → Query → Result Decision Refusal
+answered state query = Ok (Answer s_ok (told state query))

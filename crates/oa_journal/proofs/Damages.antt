@@ -4,7 +4,7 @@ use Rattle.oa_table.specs.Tables.{TableValue}
 use Rattle.oa_layout.proofs.Exact.{one_value}
 use Rattle.oa_image.specs.Tables.{table, table_image}
 use Rattle.oa_journal.specs.declared.shape.Shape.{Shape}
-use Rattle.oa_journal.specs.Bank.{from_place, Shows, IsGroupAt, AreGroups, IsBank, HasHeader, HasLibrary}
+use Rattle.oa_journal.specs.Bank.{from_place, header_of, Shows, IsGroupAt, AreGroups, IsBank, HasHeader, HasLibrary}
 use Rattle.oa_journal.proofs.Banks.{bank_header, one_replay}
 use Rattle.oa_journal.proofs.LaidOut.{gate_behind}
 use Rattle.oa_journal.specs.Replays.{Replays, ReplaysAll}
@@ -65,6 +65,31 @@ pub one_library : (shape : Shape) (head body : ℕ → ℕ) (library other : Lis
 one_library shape head body library other one two =
     let heads = one_head head shape (length library) one.snapshot shape (length other) two.snapshot one.has two.has in
     same_bytes body 0 library other heads.library_same one.text two.text
+
+-- what stands behind a library that it begins with
+pub behind_library : (shape : Shape) (head body : ℕ → ℕ) (library : List ℕ) (l s : ℕ) (first now : TableValue) (groups : List (List ℕ)) (gate : ℕ)
+    → HasLibrary shape head body library → HasSnapshot shape head body l s first → AreGroups body (l + s) groups gate
+    → ReplaysAll groups first now → gate < body_bytes shape → IsBank shape head body library now gate × (length library ≡ l)
+behind_library shape head body library l s first now groups gate has snapshot all makes inside =
+    let heads = one_head head shape (length library) has.snapshot shape l s has.has snapshot.has in
+    let at : l + s ≡ length library + length (table_image first) = omega (arith, heads.library_same, snapshot.long) in
+    (
+      record {
+        known = has.has.known;
+        first = first;
+        is = snapshot.is;
+        groups = groups;
+        header = subst (λ (k : ℕ). Shows head 0 (header_of shape (length library) k)) (heads.snapshot_same ∙ sym snapshot.long) has.has.header;
+        parts = record {
+          text = has.text;
+          image = subst (λ (k : ℕ). Shows body k (table_image first)) (sym heads.library_same) snapshot.image;
+          behind = subst (λ (k : ℕ). AreGroups body k groups gate) at all;
+          inside = inside;
+        };
+        makes = makes;
+      },
+      heads.library_same,
+    )
 
 -- the lengths of its parts are those of any head that it has
 pub bank_lengths : (shape : Shape) (head body : ℕ → ℕ) (library : List ℕ) (now : TableValue) (gate l s : ℕ) → HasHeader shape head l s

@@ -7,7 +7,7 @@ use Rattle.oa_disk.specs.declared.disk.DeviceFault.TheVariants.{Read}
 use Rattle.oa_disk.specs.declared.disk.Disk.{Ghosts}
 use Rattle.oa_image.specs.Tables.{is_numbered}
 use Rattle.oa_journal.specs.Append.{IsAt, TornBank}
-use Rattle.oa_journal.specs.Bank.{from_place, HasHead, IsBank}
+use Rattle.oa_journal.specs.Bank.{from_place, HasHead, HasLibrary, IsBank}
 use Rattle.oa_journal.specs.Banks.{first_gate}
 use Rattle.oa_journal.specs.Damages.{IsDamagedHead}
 use Rattle.oa_journal.specs.Replies.{IsCaused}
@@ -82,6 +82,19 @@ pub record ReadsBank {D : Type 0} (g : Ghosts D) (before after : Bank) (old new 
   pub bank : IsAt before.shape before.head before.body after.gate before.stopped after
   -- at most four calls, and one for two bytes of snapshot and groups
   pub calls : IsTrue (g.is_honest new) → g.moment new + length library ≤ g.moment old + (8 + after.gate)
+
+-- The table of a bank was read, after its groups, and not its library: so it is of any library that the bank begins
+-- with. It knows its closed gate, and else is as it was.
+pub record ReadsTable {D : Type 0} (g : Ghosts D) (before after : Bank) (old new : D) (table : TableValue) : Type 0 where
+  -- at most three calls, and one for two bytes of snapshot and groups
+  pub found : IsTrue (g.is_honest new) → (library : List ℕ) → HasLibrary before.shape
+      (from_place before.head (g.contents old)) (from_place before.body (g.contents old)) library
+      → IsBank before.shape (from_place before.head (g.contents old)) (from_place before.body (g.contents old))
+      library table after.gate
+      × (g.moment new + length library ≤ g.moment old + (6 + after.gate))
+  pub numbered : is_numbered table ≡ true
+  pub unlocked : unlocked_table table ≡ table
+  pub bank : IsAt before.shape before.head before.body after.gate before.stopped after
 
 -- The head of a bank stands at this place, and the disk has room for two such banks.
 pub record FindsHead {D : Type 0} (g : Ghosts D) (place : ℕ) (old new : D) (head : Head) : Type 0 where

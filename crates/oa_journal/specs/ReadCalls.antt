@@ -6,7 +6,7 @@ use Rattle.oa_image.specs.Tables.{is_numbered}
 use Rattle.oa_table.specs.Tables.{TableValue, unlocked_table}
 use Rattle.oa_journal.specs.declared.ahead.DiskAhead.{DiskAhead}
 use Rattle.oa_journal.specs.declared.shape.Shape.{Shape}
-use Rattle.oa_journal.specs.Bank.{from_place, AreGroups, IsBank, IsGroupAt}
+use Rattle.oa_journal.specs.Bank.{from_place, AreGroups, HasLibrary, IsBank, IsGroupAt}
 use Rattle.oa_journal.specs.Replays.{Replays, ReplaysAll}
 use Rattle.oa_journal.specs.Shapes.{body_bytes}
 
@@ -72,3 +72,14 @@ pub record FindsBank {D : Type 0} (g : Ghosts D) (shape : Shape) (head body : �
   pub stored : IsStored table
   pub inside : gate < body_bytes shape
   pub calls : IsTrue (g.is_honest new) → g.moment new + length library ≤ g.moment old + (8 + gate)
+
+-- The same of a bank whose library is not read: so it is of any library that it begins with. At most three calls, and
+-- one for two bytes of snapshot and groups.
+pub record FindsTable {D : Type 0} (g : Ghosts D) (shape : Shape) (head body : ℕ) (old new : D) (table : TableValue)
+    (gate : ℕ) : Type 0 where
+  pub found : IsTrue (g.is_honest new) → (library : List ℕ)
+      → HasLibrary shape (from_place head (g.contents old)) (from_place body (g.contents old)) library
+      → IsBank shape (from_place head (g.contents old)) (from_place body (g.contents old)) library table gate
+      × (g.moment new + length library ≤ g.moment old + (6 + gate))
+  pub stored : IsStored table
+  pub inside : gate < body_bytes shape

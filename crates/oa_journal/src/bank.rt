@@ -13,7 +13,7 @@ ghost use Rattle.oa_journal.specs.Shapes.{body_bytes, IsShape};
 use crate::Shape;
 use crate::batch::{append_group, lay_out};
 use crate::layout::{BodyBytes, header_bytes};
-use crate::reading::{bank_at, library_at};
+use crate::reading::{bank_at, library_at, table_at};
 use oa_disk::{DeviceFault, Disk};
 use oa_image::laws::is_table;
 use oa_table::Table;
@@ -88,7 +88,7 @@ impl Bank {
     ghost use Rattle.oa_journal.specs.declared.bank.AppendFault.{AppendFault};
     ghost use Rattle.oa_journal.specs.declared.bank.BankFault.{BankFault};
     ghost use Rattle.oa_journal.specs.Append.{group_of, IsAt, IsWithOrWithout, IsWith};
-    ghost use Rattle.oa_journal.specs.BankCalls.{LiesWithin, MovesGate, ReadsBank, RefusesBank, RefusesGroup, WritesBank};
+    ghost use Rattle.oa_journal.specs.BankCalls.{LiesWithin, MovesGate, ReadsBank, ReadsTable, RefusesBank, RefusesGroup, WritesBank};
 
     /// The bank of that format whose head and whose body stand at these places of a disk; one of format 1 is only read (inspected or
     /// upgraded, never opened). Until it is written or read, its room is 1: no group fits.
@@ -222,6 +222,36 @@ impl Bank {
                 Err(fault)
             }
         }
+    }
+
+    /// Reads the bank's table after its groups, through this buffer, which is given back with all its bytes; the library is not looked at.
+    /// From then on the bank knows where its closed gate stands. After `Device` it has stopped.
+    pub fn read_table<D: Disk>(
+        &mut self,
+        alloc: Global,
+        disk: &mut D,
+        buffer: Vec<u8>,
+    ) -> Result<(Table, Vec<u8>), BankFault>
+        requires some { 5 ≤ length buffer.items }
+        requires lies { LiesWithin (D.size_of disk.old) self.old }
+
+        ensures found { IfOk result (λ r. ReadsTable D.Disk self.old self.new disk.old disk.new r.0) }
+        ensures buffer { IfOk result (λ r. length r.1.items ≡ length buffer.items) }
+        // `Damaged` with the place on the disk of the first part that fails.
+        ensures refused { RefusesBank D.Disk (IsDamagedBank self.old.shape self.old.head self.old.body (D.contents disk.old)) self.old
+            self.new disk.old disk.new result }
+        ensures reads { IsTrue (D.is_honest disk.new) → OnlyReads D.contents D.image D.moment D.image_since disk.old disk.new }
+        ensures after { AfterCalls D.Disk disk.old disk.new result }
+        // at most five calls, and one for two bytes of the body, whatever is answered
+        ensures most { IsTrue (D.is_honest disk.new) → D.moment disk.new ≤ D.moment disk.old + (10 + body_bytes self.old.shape) }
+    {
+        let read = table_at(alloc, disk, self.shape, self.head, self.body, buffer);
+        if let Err(fault) = read {
+            self.stop_after(fault);
+        }
+        let (table, closed, buffer) = read?;
+        self.gate = closed;
+        Ok((table, buffer))
     }
 
     /// After a call that the device has failed, the bank has stopped.

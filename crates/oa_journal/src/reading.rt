@@ -6,7 +6,7 @@ ghost use Rattle.oa_journal.specs.declared.bank.BankFault.{BankFault};
 ghost use Rattle.oa_journal.specs.Bank.{from_place, IsGroupAt, HasHeader, HasLibrary};
 ghost use Rattle.oa_journal.specs.Damages.{HasNoHeader, HasSnapshot, IsDamagedBank, IsNoGroup, StopsAt};
 ghost use Rattle.oa_journal.specs.BankCalls.{BodyWithin, PartsWithin};
-ghost use Rattle.oa_journal.specs.ReadCalls.{FindsBank, FindsGroup, FindsGroups, IsAhead, IsStored};
+ghost use Rattle.oa_journal.specs.ReadCalls.{FindsBank, FindsGroup, FindsGroups, FindsTable, IsAhead, IsStored};
 ghost use Rattle.oa_journal.specs.ReadCalls.{PassesGroup, StaysAhead, StaysStored};
 ghost use Rattle.oa_journal.specs.Reads.{AfterReads};
 ghost use Rattle.oa_journal.specs.Shapes.{body_bytes, IsShape};
@@ -297,6 +297,33 @@ fn read_groups<D: Disk>(
         opened = is_open(disk, &mut ahead, end, body + u64::from(at))?;
     }
     Ok((table, at, ahead.into_buffer()))
+}
+
+/// The table of the bank whose head and body stand at these places of a disk, and where in the body its closed gate stands. The library is
+/// not read.
+pub(crate) fn table_at<D: Disk>(
+    alloc: Global,
+    disk: &mut D,
+    shape: Shape,
+    head: u64,
+    body: u64,
+    buffer: Vec<u8>,
+) -> Result<(Table, u32, Vec<u8>), BankFault>
+    requires lies { PartsWithin (D.size_of disk.old) head body (body_bytes shape) }
+    requires some { 5 ≤ length buffer.items }
+
+    ensures found { IfOk result (λ r. FindsTable D.Disk shape head body disk.old disk.new r.0 r.1) }
+    ensures buffer { IfOk result (λ r. length r.2.items ≡ length buffer.items) }
+    ensures damaged { (at : ℕ) → IsErrOf result (BankFault.Damaged at)
+        → IsTrue (D.is_honest disk.new) → IsDamagedBank shape head body (D.contents disk.old) at }
+
+    ensures after { AfterReads D.Disk (10 + body_bytes shape) disk.old disk.new result }
+{
+    let (told, first) = first_at(alloc, disk, shape, head, body)?;
+    let from = told.library + told.snapshot;
+    let (table, gate, buffer) =
+        read_groups(alloc, disk, body, shape.body_bytes(), from, first, buffer)?;
+    Ok((table, gate, buffer))
 }
 
 /// The library and the table of the bank whose head and body stand at these places of a disk, and where in the body its closed gate

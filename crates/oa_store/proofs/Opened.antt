@@ -35,14 +35,6 @@ carried P bank shape head body gate stopped was is at same p =
     (subst (λ (b : ℕ). P bank.shape (from_place head was) (from_place b was)) at.body_is
     (subst (λ (h : ℕ). P bank.shape (from_place h was) (from_place bank.body was)) at.head_is p)))
 
--- the bank of a library that it begins with
-pub of_library : (shape : Shape) (head body : ℕ → ℕ) (library text read : List ℕ) (table : TableValue) (gate : ℕ) → text ≡ library
-    → HasLibrary shape head body text
-    → IsBank shape head body read table gate → IsBank shape head body library table gate
-of_library shape head body library text read table gate is has bank =
-    let same = one_library shape head body read text (bank_library shape head body read table gate bank) has in
-    subst (λ (l : List ℕ). IsBank shape head body l table gate) (same ∙ is) bank
-
 -- a refusal that is given once a bank is looked at
 pub says_late : (wanted : Option (List ℕ)) (size : ℕ) (contents : List ℕ) (e : BankFault)
     → ((at : ℕ) → e ≡ banks.Damaged at → IsDamaged wanted contents at) → RefusalSays wanted size contents (of_bank e)

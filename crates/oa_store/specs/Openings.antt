@@ -69,7 +69,8 @@ pub record Finds {D : Type 0} (g : Ghosts D) (library : List ℕ) (old new : D) 
   pub room : disk_bytes f.bank.shape ≤ g.size_of old
   pub synced : IsTrue (g.is_honest new) → Only (g.contents old) (g.image new)
   pub contents : IsTrue (g.is_honest new) → g.contents new ≡ g.contents old
-  pub calls : IsTrue (g.is_honest new) → g.moment new + length library ≤ g.moment old + (20 + f.bank.gate)
+  -- at most nine calls, and one for two bytes of snapshot and groups: the library is read once
+  pub calls : IsTrue (g.is_honest new) → g.moment new + length library ≤ g.moment old + (18 + f.bank.gate)
 
 -- What the refusal of a disk says, whose library has to be the one that is wanted.
 pub record Refuses {D : Type 0} (g : Ghosts D) (wanted : Option (List ℕ)) (old new : D)

@@ -80,7 +80,7 @@ pub(crate) fn find_store<D: Disk>(
         return Err(OpenFault::LibraryDiffers);
     }
     kept.extend_from_slice(library).unwrap();
-    let (_, table, buffer) = bank.read_all(alloc, disk, buffer)?;
+    let (table, buffer) = bank.read_table(alloc, disk, buffer)?;
     Ok(Found {
         library: kept,
         table,

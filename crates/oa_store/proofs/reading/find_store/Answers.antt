@@ -1,4 +1,4 @@
-use Rattle.std.proofs.Common.{rules, ◌≡◌, ◌∙◌, ◌+◌, ◌-◌, ℕ, List, length, Some, Err, false, refl, subst, sym, ap, arith}
+use Rattle.std.proofs.Common.{rules, ◌≡◌, ◌∙◌, ◌+◌, ◌-◌, ℕ, List, length, Some, Err, false, refl, subst, sym, ap, IsTrue, arith}
 use Rattle.std.proofs.lemmas.Result.{err_from_is_err_and}
 use Rattle.oa_journal.specs.declared.bank.Bank.{Bank}
 use Rattle.oa_journal.specs.declared.bank.BankFault.{BankFault}
@@ -7,11 +7,10 @@ use Rattle.oa_journal.specs.declared.shape.Shape.TheVariants.{Two}
 use Rattle.oa_journal.specs.Append.{IsAt}
 use Rattle.oa_journal.specs.Bank.{from_place, IsBank, HasHead, HasLibrary}
 use Rattle.oa_journal.specs.Damages.{HasNoHeader, IsDamagedBank}
-use Rattle.oa_journal.proofs.Damages.{bank_library, one_library}
 use Rattle.oa_journal.specs.Shapes.{body_bytes}
 use Rattle.oa_store.specs.Faults.{of_bank, HasWanted, IsCaused}
 use Rattle.oa_store.specs.Stores.{body_place, head_place, IsStoreAt}
-use Rattle.oa_store.proofs.Opened.{bank_caused, carried, of_library, other_long, says_first, says_late, spoilt, tells_late, until_body, until_late, wanted_in, within_disk}
+use Rattle.oa_store.proofs.Opened.{bank_caused, carried, other_long, says_first, says_late, spoilt, tells_late, until_body, until_late, wanted_in, within_disk}
 use Rattle.oa_store.proofs.reading.find_store.Goals as goal
 
 pub returns-in_err-found-clause-refused : goal.returns-in_err-found-clause-refused
@@ -74,20 +73,20 @@ returns-in_err-table-clause-refused g c =
     rw (p.1, p.2) (record {
       early = search rules;
       calls = λ h.
-          let h2 = c.read_all.ensures.after.honest h in
+          let h2 = c.read_table.ensures.after.honest h in
           let sizes : g.D.Disk.size_of c.read_library.new.disk ≡ g.D.Disk.size_of c.args.disk.now = c.read_library.ensures.after.size ∙ c.find_room.ensures.after.size in
           let shape = ap body_bytes (ap (λ (b : Bank). b.shape) c.in_ok-text.ensures.bank ∙ c.bank_of-bank.ensures.shape_is) in
           let long = within_disk c.in_ok-found.found.head.shape in
-          until_late (24 + g.D.Disk.size_of c.args.disk.now) _ _ fault (omega (arith, sizes, shape, long, c.in_ok-found.ensures.found.room, c.find_room.ensures.calls (c.read_library.ensures.after.honest h2), c.read_library.ensures.calls h2, c.read_all.ensures.most h));
-      cause = subst (λ (n : ℕ). IsCaused n (g.D.Disk.failures_of c.read_all.new.disk) (of_bank fault)) (c.in_ok-text.ensures.after.unfailed ∙ c.in_ok-found.ensures.after.unfailed) (bank_caused _ _ fault c.in_err-table.ensures.refused.cause);
+          until_late (24 + g.D.Disk.size_of c.args.disk.now) _ _ fault (omega (arith, sizes, shape, long, c.in_ok-found.ensures.found.room, c.find_room.ensures.calls (c.read_library.ensures.after.honest h2), c.read_library.ensures.calls h2, c.read_table.ensures.most h));
+      cause = subst (λ (n : ℕ). IsCaused n (g.D.Disk.failures_of c.read_table.new.disk) (of_bank fault)) (c.in_ok-text.ensures.after.unfailed ∙ c.in_ok-found.ensures.after.unfailed) (bank_caused _ _ fault c.in_err-table.ensures.refused.cause);
       tells = λ h.
-          let h2 = c.read_all.ensures.after.honest h in
+          let h2 = c.read_table.ensures.after.honest h in
           let h1 = c.read_library.ensures.after.honest h2 in
-          tells_late (g.D.Disk.contents c.args.disk.now) (g.D.Disk.image c.args.disk.now) (g.D.Disk.image c.read_all.new.disk) fault
+          tells_late (g.D.Disk.contents c.args.disk.now) (g.D.Disk.image c.args.disk.now) (g.D.Disk.image c.read_table.new.disk) fault
           (λ why is. (c.in_err-table.ensures.refused.device why (ap (λ (x : BankFault). Err x) is)).1)
-          (λ image is. c.in_ok-found.ensures.found.synced h1 image ((c.read_library.ensures.reads h2).writes_nothing.images image ((c.read_all.ensures.reads h).writes_nothing.images image is)));
+          (λ image is. c.in_ok-found.ensures.found.synced h1 image ((c.read_library.ensures.reads h2).writes_nothing.images image ((c.read_table.ensures.reads h).writes_nothing.images image is)));
       says = λ h.
-          let h2 = c.read_all.ensures.after.honest h in
+          let h2 = c.read_table.ensures.after.honest h in
           let h1 = c.read_library.ensures.after.honest h2 in
           let contents = g.D.Disk.contents c.args.disk.now in
           let found = c.in_ok-found.ensures.found.found h1 in
@@ -113,61 +112,41 @@ returns-in_err-table-clause-refused g c =
     })
 
 pub returns-clause-found : goal.returns-clause-found
-returns-clause-found g c = record {
-  store = λ h.
-      let h2 = c.read_all.ensures.after.honest h in
-      let h1 = c.read_library.ensures.after.honest h2 in
-      let contents = g.D.Disk.contents c.args.disk.now in
-      let found = c.in_ok-found.ensures.found.found h1 in
-      let chosen = c.in_ok-found.found.chosen in
-      let shape = c.in_ok-found.found.head.shape in
-      let head = head_place chosen in
-      let body = body_place shape chosen in
-      let first = c.in_ok-found.ensures.found.contents h1 in
-      let stay = (c.read_library.ensures.reads h2).contents_stay ∙ first in
-      let at0 = c.bank_of-bank.ensures in
-      let at1 = subst (λ (b : Bank). IsAt shape head body (body_bytes shape - 1) false b) (sym c.in_ok-text.ensures.bank) at0 in
-      let text = sym c.deref.ensures.value ∙ c.if-not-same.ensures.0 refl in
-      let has = carried (λ s x y. HasLibrary s x y c.in_ok-text.text.items) c.bank_of-bank.result shape head body (body_bytes shape - 1) false (g.D.Disk.contents c.find_room.new.disk) contents at0 first (c.in_ok-text.ensures.found h2) in
-      let bank = carried (λ s x y. IsBank s x y c.in_ok-table.field-0-0.items c.in_ok-table.table c.read_all.new.self.gate) c.read_library.new.self shape head body (body_bytes shape - 1) false (g.D.Disk.contents c.read_library.new.disk) contents at1 stay (c.in_ok-table.ensures.found.found h) in
-      let store : IsStoreAt shape chosen c.read_all.new.self.gate c.args.library.now c.in_ok-table.table contents = record {
-        head = found.0;
-        room = found.1.room;
-        bank = of_library shape (from_place head contents) (from_place body contents) c.args.library.now c.in_ok-text.text.items c.in_ok-table.field-0-0.items c.in_ok-table.table c.read_all.new.self.gate text has bank;
-      } in
-      let is = c.in_ok-table.ensures.found.bank.shape_is ∙ at1.shape_is in
-      subst (λ (s : Shape). IsStoreAt s chosen c.read_all.new.self.gate c.args.library.now c.in_ok-table.table contents) (sym is) store;
-  buffer = search rules;
-  numbered = search rules;
-  unlocked = search rules;
-  bank = search rules;
-  shape = search rules;
-  two = search rules;
-  room = search rules;
-  synced = search rules;
-  contents = search rules;
-  calls = λ h.
-      let h2 = c.read_all.ensures.after.honest h in
-      let h1 = c.read_library.ensures.after.honest h2 in
-      let contents = g.D.Disk.contents c.args.disk.now in
-      let chosen = c.in_ok-found.found.chosen in
-      let shape = c.in_ok-found.found.head.shape in
-      let head = head_place chosen in
-      let body = body_place shape chosen in
-      let first = c.in_ok-found.ensures.found.contents h1 in
-      let stay = (c.read_library.ensures.reads h2).contents_stay ∙ first in
-      let at0 = c.bank_of-bank.ensures in
-      let at1 = subst (λ (b : Bank). IsAt shape head body (body_bytes shape - 1) false b) (sym c.in_ok-text.ensures.bank) at0 in
-      let text = sym c.deref.ensures.value ∙ c.if-not-same.ensures.0 refl in
-      let has = carried (λ s x y. HasLibrary s x y c.in_ok-text.text.items) c.bank_of-bank.result shape head body (body_bytes shape - 1) false (g.D.Disk.contents c.find_room.new.disk) contents at0 first (c.in_ok-text.ensures.found h2) in
-      let bank = carried (λ s x y. IsBank s x y c.in_ok-table.field-0-0.items c.in_ok-table.table c.read_all.new.self.gate) c.read_library.new.self shape head body (body_bytes shape - 1) false (g.D.Disk.contents c.read_library.new.disk) contents at1 stay (c.in_ok-table.ensures.found.found h) in
-      let read = c.in_ok-table.field-0-0.items in
-      let same = one_library shape (from_place head contents) (from_place body contents) read c.in_ok-text.text.items (bank_library shape (from_place head contents) (from_place body contents) read c.in_ok-table.table c.read_all.new.self.gate bank) has in
-      omega (
-        arith,
-        ap length (same ∙ text),
-        c.in_ok-found.ensures.calls h1,
-        c.in_ok-text.ensures.calls h2,
-        c.in_ok-table.ensures.found.calls h,
-      );
-}
+returns-clause-found g c =
+    let contents = g.D.Disk.contents c.args.disk.now in
+    let mid = g.D.Disk.contents c.read_library.new.disk in
+    let chosen = c.in_ok-found.found.chosen in
+    let shape = c.in_ok-found.found.head.shape in
+    let head = head_place chosen in
+    let body = body_place shape chosen in
+    let bank = c.bank_of-bank.result in
+    let items = c.in_ok-text.text.items in
+    let text = sym c.deref.ensures.value ∙ c.if-not-same.ensures.0 refl in
+    let at1 = subst (λ (b : Bank). IsAt shape head body (body_bytes shape - 1) false b) (sym c.in_ok-text.ensures.bank) c.bank_of-bank.ensures in
+    let read = λ (h : IsTrue (g.D.Disk.is_honest c.read_table.new.disk)).
+    let h2 = c.read_table.ensures.after.honest h in
+    let there = subst (λ (d : List ℕ). HasLibrary bank.shape (from_place bank.head d) (from_place bank.body d) items) (sym (c.read_library.ensures.reads h2).contents_stay) (c.in_ok-text.ensures.found h2) in
+    c.in_ok-table.ensures.found.found h items (subst (λ (b : Bank). HasLibrary b.shape (from_place b.head mid) (from_place b.body mid) items) (sym c.in_ok-text.ensures.bank) there) in
+    record {
+      store = λ h.
+          let h2 = c.read_table.ensures.after.honest h in
+          let h1 = c.read_library.ensures.after.honest h2 in
+          let found = c.in_ok-found.ensures.found.found h1 in
+          let stay = (c.read_library.ensures.reads h2).contents_stay ∙ c.in_ok-found.ensures.found.contents h1 in
+          let its = carried (λ s x y. IsBank s x y items c.in_ok-table.table c.read_table.new.self.gate) c.read_library.new.self shape head body (body_bytes shape - 1) false mid contents at1 stay (read h).0 in
+          let store : IsStoreAt shape chosen c.read_table.new.self.gate items c.in_ok-table.table contents = record { head = found.0; room = found.1.room; bank = its } in
+          let same = subst (λ (l : List ℕ). IsStoreAt shape chosen c.read_table.new.self.gate l c.in_ok-table.table contents) text store in
+          subst (λ (s : Shape). IsStoreAt s chosen c.read_table.new.self.gate c.args.library.now c.in_ok-table.table contents) (sym (c.in_ok-table.ensures.found.bank.shape_is ∙ at1.shape_is)) same;
+      buffer = search rules;
+      numbered = search rules;
+      unlocked = search rules;
+      bank = search rules;
+      shape = search rules;
+      two = search rules;
+      room = search rules;
+      synced = search rules;
+      contents = search rules;
+      calls = λ h.
+          let h2 = c.read_table.ensures.after.honest h in
+          omega (arith, ap length text, c.in_ok-found.ensures.calls (c.read_library.ensures.after.honest h2), c.in_ok-text.ensures.calls h2, (read h).1);
+    }

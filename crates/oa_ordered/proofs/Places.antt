@@ -1,5 +1,5 @@
 -- Where a key is in rows that are in order, and what calls of a map do there.
-use Rattle.std.proofs.Common.{◌≡◌, ◌∙◌, ◌<◌, ◌≤◌, ◌+◌, ℕ, suc, List, [], ◌∷◌, ◌++◌, Bool, true, false, Some, None, length, take, drop, get_or, set, slice_get, refl, sym, ap, subst, ⊎_elim, arith}
+use Rattle.std.proofs.Common.{◌≡◌, ◌∙◌, ◌<◌, ◌≤◌, ◌+◌, ◌-◌, ◌/◌, ℕ, suc, List, [], ◌∷◌, ◌++◌, Bool, true, false, Some, None, length, take, drop, get_or, set, slice_get, refl, sym, ap, subst, ⊎_elim, arith}
 use mathlib.Core.Bool.{true≢false}
 use Rattle.std.specs.Option.{option_map}
 use Rattle.std.specs.Map.{lookup, remove_entry, set_value}
@@ -10,7 +10,7 @@ use Rattle.std.specs.declared.cmp.Ordering.{Ordering}
 use Rattle.std.specs.declared.cmp.Ordering.TheVariants.{Less, Equal, Greater}
 use Rattle.std.proofs.lemmas.List.{append-nil, append_cancel_left, drop_all, get_or_past, take_more}
 use Rattle.std.proofs.lemmas.Bool.{cases_lt}
-use Rattle.oa_ordered.specs.Rows.{AllAbove, AllBelow, AreFilled, IsFirst, IsFound, IsFoundIn, IsGap, IsGapIn, IsOrdered, IsRowFor, after, before, begins_after, from, joined, with_value}
+use Rattle.oa_ordered.specs.Rows.{AllAbove, AllBelow, AreFilled, AreOrdered, IsFirst, IsFound, IsFoundIn, IsGap, IsGapIn, IsOrdered, IsRowFor, after, before, begins_after, from, joined, with_value}
 use Rattle.oa_ordered.proofs.Keys.{above_of, all_append, below_of, ordered_back, ordered_front}
 use Rattle.oa_ordered.proofs.Split.{insert_gap, insert_here, lookup_gap, lookup_here, remove_gap, remove_here, set_gap, set_here}
 use Rattle.oa_ordered.proofs.Joined.{changed, drop_next, entry_split, filled_row, filled_set, from_at, get_is, joined_at, length_with_value, parts_at, row_is, row_of, some_at, whole}
@@ -19,6 +19,15 @@ less_from_test : (r : Ordering) → is_lt r ≡ true → r ≡ Less
 less_from_test Less h = refl
 less_from_test Equal h = absurd (true≢false (sym h))
 less_from_test Greater h = absurd (true≢false (sym h))
+
+module _ {K X : Type 0} (cmp : K → K → Ordering) (key : K) where
+  -- the key is in a row from low on and below high, if in any
+  pub record IsBetween (rows : List (List (K × X))) (low high : ℕ) : Type 0 where
+    pub rises : low ≤ high
+    pub one : 0 < length rows → low < high
+    pub inside : high ≤ length rows
+    pub below : AllBelow cmp key (joined (take low rows))
+    pub above : AllAbove cmp key (joined (drop high rows))
 
 module _ {K X : Type 0} (cmp : K → K → Ordering) (total : IsTotalOrder cmp) (key : K) where
   -- among the entries of one row
@@ -75,20 +84,46 @@ module _ {K X : Type 0} (cmp : K → K → Ordering) (total : IsTotalOrder cmp) 
       pub rows_below : AreFilled rows → false ≡ begins_after cmp key read → AllBelow cmp key (joined (take m rows))
       rows_below filled test = begins_below (joined (take m rows)) (row_of rows m) (joined (drop (suc m) rows)) in_rows (filled_row rows m lt filled) (begins false test)
 
-  pub row_for_all : (rows : List (List (K × X))) (low high : ℕ) → low ≤ high → (0 < length rows → low < high) → high ≤ length rows → high ≤ low + 1
-      → AllBelow cmp key (joined (take low rows)) → AllAbove cmp key (joined (drop high rows)) → IsRowFor cmp key rows low
-  row_for_all rows low high middle one inside near below above = record {
-    place = omega (arith, middle, inside);
-    one = λ some. omega (arith, one some, inside);
-    below = below;
+  -- the key's row is in one of both halves, by where the row in the middle begins
+  module _ (rows : List (List (K × X))) (in_order : AreOrdered cmp rows) (low high : ℕ) (between : IsBetween cmp key rows low high) (more : 1 < high - low)
+      (read d : List (K × X)) (is : read ≡ get_or rows (low + (high - low) / 2) d) where
+    abbrev pub middle : ℕ
+    middle = low + (high - low) / 2
+
+    is_row : middle < length rows
+    is_row = omega (arith, between.inside, more)
+
+    pub lower_half : true ≡ begins_after cmp key read → IsBetween cmp key rows low middle
+    lower_half test = record {
+      rises = omega arith;
+      one = λ some. omega (arith, more);
+      inside = omega (arith, is_row);
+      below = between.below;
+      above = rows_above rows in_order.ordered middle is_row read d is test;
+    }
+
+    pub upper_half : false ≡ begins_after cmp key read → IsBetween cmp key rows middle high
+    upper_half test = record {
+      rises = omega (arith, more);
+      one = λ some. omega (arith, more);
+      inside = between.inside;
+      below = rows_below rows in_order.ordered middle is_row read d is in_order.filled test;
+      above = between.above;
+    }
+
+  pub row_for_all : (rows : List (List (K × X))) (low high : ℕ) → IsBetween cmp key rows low high → high ≤ low + 1 → IsRowFor cmp key rows low
+  row_for_all rows low high between near = record {
+    place = omega (arith, between.rises, between.inside);
+    one = λ some. omega (arith, between.one some, between.inside);
+    below = between.below;
     above = ⊎_elim
-        (λ more. subst (λ n. AllAbove cmp key (joined (drop n rows))) (next more) above)
+        (λ more. subst (λ n. AllAbove cmp key (joined (drop n rows))) (next more) between.above)
         (λ past. rw (drop_all (suc low) rows past) tt)
         (cases_lt (suc low) (length rows));
   }
     where
       next : suc low < length rows → high ≡ suc low
-      next more = omega (arith, one (omega (arith, more)), near)
+      next more = omega (arith, between.one (omega (arith, more)), near)
 
   module _ (rows : List (List (K × X))) (row : ℕ) (of : IsRowFor cmp key rows row) where
     pub found_in_rows : (at : ℕ) → row < length rows → IsFoundIn cmp key (row_of rows row) at → IsFound cmp key rows row at

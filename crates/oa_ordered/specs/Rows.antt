@@ -38,6 +38,11 @@ module _ {K X : Type 0} where
     abbrev pub IsOrdered : List (K × X) → Type 0
     IsOrdered es = IsStrictlySortedBy cmp (keys_of es)
 
+    -- the keys rise, and no row is empty
+    pub record AreOrdered (rows : List (List (K × X))) : Type 0 where
+      pub ordered : IsOrdered (joined rows)
+      pub filled : AreFilled rows
+
     module _ (key : K) where
       -- a key is above all of the entries', or below all of them
       abbrev pub AllBelow : List (K × X) → Type 0

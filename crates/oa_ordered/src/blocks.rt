@@ -3,7 +3,7 @@ ghost use Rattle.std.specs.Prelude.{◌≡◌, ◌<◌, ◌+◌, ◌++◌, ◌�
 ghost use Rattle.std.specs.List.{remove};
 ghost use Rattle.std.specs.Map.{lookup, remove_entry};
 ghost use Rattle.std.specs.BTreeMap.{insert_entry, is_at};
-ghost use Rattle.oa_ordered.specs.Rows.{AreFilled, IsOrdered, IsRowFor, joined};
+ghost use Rattle.oa_ordered.specs.Rows.{AreFilled, AreOrdered, IsRowFor, joined};
 
 use crate::block::{Block, FULL_BLOCK};
 use crate::row::{Row, make_room};
@@ -20,8 +20,7 @@ pub(crate) const BLOCK_ENTRIES: usize = FULL_BLOCK * FULL;
 /// Whether the key is in a block if in any.
 fn is_block_for<K: Ord, V>(blocks: &[Block<K, V>], key: &K, block: usize) -> bool
     requires block { block < length blocks.now }
-    requires ordered { IsOrdered K.cmp (joined blocks.now) }
-    requires filled { AreFilled blocks.now }
+    requires in_order { AreOrdered K.cmp blocks.now }
     ensures { IsTrue result → IsRowFor K.cmp key.now blocks.now block }
 {
     if blocks[block].begins_after(key) {
@@ -36,8 +35,7 @@ fn is_block_for<K: Ord, V>(blocks: &[Block<K, V>], key: &K, block: usize) -> boo
 /// The block in which the key is or would stand: the last that begins at or before it, or else the first. Looks first at one that is
 /// told, where that is not the first.
 pub(crate) fn block_for<K: Ord, V>(blocks: &[Block<K, V>], key: &K, near: usize) -> usize
-    requires ordered { IsOrdered K.cmp (joined blocks.now) }
-    requires filled { AreFilled blocks.now }
+    requires { AreOrdered K.cmp blocks.now }
     ensures { IsRowFor K.cmp key.now blocks.now result }
 {
     let mut low = 0;
@@ -108,8 +106,7 @@ fn insert_in_block<K: Ord + Drop, V: Drop>(
 ) -> Result<Option<V>, AllocFailed<(K, V)>>
     requires block { block < length blocks.old.items }
     requires for_key { IsRowFor K.cmp key blocks.old.items block }
-    requires ordered { IsOrdered K.cmp (joined blocks.old.items) }
-    requires filled { AreFilled blocks.old.items }
+    requires in_order { AreOrdered K.cmp blocks.old.items }
     ensures old { IfOk result (λ old. old ≡ lookup (is_at (K.cmp key)) (joined blocks.old.items)) }
     ensures entries { OnOk result (joined blocks.new.items ≡ insert_entry K.cmp (joined blocks.old.items) key value) }
     ensures handed_back { IfErr result (λ failed. failed.value ≡ (key, value)) }
@@ -129,8 +126,7 @@ pub(crate) fn insert_in<K: Ord + Drop, V: Drop>(
     value: V,
 ) -> Result<Option<V>, AllocFailed<(K, V)>>
     requires some { 0 < length blocks.old.items }
-    requires ordered { IsOrdered K.cmp (joined blocks.old.items) }
-    requires filled { AreFilled blocks.old.items }
+    requires in_order { AreOrdered K.cmp blocks.old.items }
     ensures old { IfOk result (λ old. old ≡ lookup (is_at (K.cmp key)) (joined blocks.old.items)) }
     ensures entries { OnOk result (joined blocks.new.items ≡ insert_entry K.cmp (joined blocks.old.items) key value) }
     ensures handed_back { IfErr result (λ failed. failed.value ≡ (key, value)) }
@@ -157,8 +153,7 @@ fn drop_block<K: Drop, V: Drop>(blocks: &mut Vec<Block<K, V>>, block: usize)
 
 /// Removes a key, and answers its value. A block goes with its last entry.
 pub(crate) fn remove_in<K: Ord + Drop, V: Drop>(blocks: &mut Vec<Block<K, V>>, key: &K) -> Option<V>
-    requires ordered { IsOrdered K.cmp (joined blocks.old.items) }
-    requires filled { AreFilled blocks.old.items }
+    requires { AreOrdered K.cmp blocks.old.items }
     ensures value { result ≡ lookup (is_at (K.cmp key.now)) (joined blocks.old.items) }
     ensures entries { joined blocks.new.items ≡ remove_entry (is_at (K.cmp key.now)) (joined blocks.old.items) }
     ensures filled { AreFilled blocks.new.items }

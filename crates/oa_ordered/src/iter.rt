@@ -26,7 +26,8 @@ impl<'a, K, V> Model for Iter<'a, K, V> {
 
     ghost view = { λ i. i.entries.now ++ (joined i.rows.now ++ joined i.blocks.now) };
 
-    ghost invariant = { λ i. AreFilled i.rows.now × AreFilled i.blocks.now × (i.left ≡ length (i.entries.now ++ (joined i.rows.now ++ joined i.blocks.now))) };
+    ghost invariant = { λ i. AreFilled i.rows.now × AreFilled i.blocks.now
+        × (i.left ≡ length (i.entries.now ++ (joined i.rows.now ++ joined i.blocks.now))) };
 }
 
 impl<'a, K, V> Iter<'a, K, V> {

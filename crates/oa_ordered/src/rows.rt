@@ -1,7 +1,7 @@
 //! Rows, whose entries in turn are those of a map.
 ghost use Rattle.std.specs.Prelude.{◌≡◌, ◌<◌, ◌≤◌, ◌++◌, ◌∷◌, [], take, drop, suc, length, slice_index_or, false, IsTrue, IfOk, IfErr, OnOk, OnErr};
 ghost use Rattle.std.specs.List.{remove};
-ghost use Rattle.oa_ordered.specs.Rows.{AreFilled, IsFound, IsFoundIn, IsGap, IsGapIn, IsOrdered, IsRowFor, after, before, from, joined};
+ghost use Rattle.oa_ordered.specs.Rows.{AreFilled, AreOrdered, IsFound, IsFoundIn, IsGap, IsGapIn, IsOrdered, IsRowFor, after, before, from, joined};
 
 use crate::row::{Row, make_room, place_in, place_to_insert};
 use std::alloc::{AllocError, AllocFailed, Global};
@@ -22,8 +22,7 @@ pub(crate) struct Place {
 
 /// The row in which the key is or would stand: the last that begins at or before it, or else the first.
 fn row_for<K: Ord, V>(rows: &[Row<K, V>], key: &K) -> usize
-    requires ordered { IsOrdered K.cmp (joined rows.now) }
-    requires filled { AreFilled rows.now }
+    requires { AreOrdered K.cmp rows.now }
     ensures { IsRowFor K.cmp key.now rows.now result }
 {
     let mut low = 0;
@@ -41,8 +40,7 @@ fn row_for<K: Ord, V>(rows: &[Row<K, V>], key: &K) -> usize
 
 /// The row in which the key is or would stand. Looks first at the last one.
 fn row_to_insert<K: Ord, V>(rows: &[Row<K, V>], key: &K) -> usize
-    requires ordered { IsOrdered K.cmp (joined rows.now) }
-    requires filled { AreFilled rows.now }
+    requires { AreOrdered K.cmp rows.now }
     ensures { IsRowFor K.cmp key.now rows.now result }
 {
     let behind = rows.len();
@@ -64,8 +62,7 @@ pub(crate) enum Search {
 impl Search {
     /// The row in which the key is or would stand.
     fn row<K: Ord, V>(self, rows: &[Row<K, V>], key: &K) -> usize
-        requires ordered { IsOrdered K.cmp (joined rows.now) }
-        requires filled { AreFilled rows.now }
+        requires { AreOrdered K.cmp rows.now }
         ensures { IsRowFor K.cmp key.now rows.now result }
     {
         match self {
@@ -93,8 +90,7 @@ pub(crate) fn place_of<K: Ord, V>(
     key: &K,
     search: Search,
 ) -> Result<Place, Place>
-    requires ordered { IsOrdered K.cmp (joined rows.now) }
-    requires filled { AreFilled rows.now }
+    requires { AreOrdered K.cmp rows.now }
     ensures found { IfOk result (λ p. IsFound K.cmp key.now rows.now p.row p.at) }
     ensures absent { IfErr result (λ p. IsGap K.cmp key.now rows.now p.row p.at) }
 {
@@ -114,8 +110,7 @@ pub(crate) fn place_near<K: Ord, V>(
     key: &K,
     near: usize,
 ) -> Result<Place, Place>
-    requires ordered { IsOrdered K.cmp (joined rows.now) }
-    requires filled { AreFilled rows.now }
+    requires { AreOrdered K.cmp rows.now }
     ensures found { IfOk result (λ p. IsFound K.cmp key.now rows.now p.row p.at) }
     ensures absent { IfErr result (λ p. IsGap K.cmp key.now rows.now p.row p.at) }
 {

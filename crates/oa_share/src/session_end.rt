@@ -9,7 +9,7 @@ pub enum SessionEnd {
     Cut,
     /// A head said nothing: a length above `MAX_FRAME_BYTES`, or one above 0 for all clients. What follows it was not taken.
     Unknown,
-    /// Memory was refused for a part of a record.
+    /// Memory was refused for a part of a record, or for who comes.
     Memory,
     /// The reader failed, or `MAX_RECORDS` bytes and calls of it were used up.
     ReadFault,

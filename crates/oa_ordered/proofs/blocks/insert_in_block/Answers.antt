@@ -13,7 +13,7 @@ pub insert-requires : goal.insert-requires
 insert-requires g c =
     let blocks = c.args.blocks.now.items in
     let read = c.index_mut.result.now in
-    subst (IsOrdered g.K.Ord.cmp) (sym (row_is blocks c.args.block read read c.requires.block c.index_mut.ensures.value)) (row_ordered g.K.Ord.cmp g.met.K.Ord.total c.args.key blocks c.requires.ordered c.args.block c.requires.block)
+    subst (IsOrdered g.K.Ord.cmp) (sym (row_is blocks c.args.block read read c.requires.block c.index_mut.ensures.value)) (row_ordered g.K.Ord.cmp g.met.K.Ord.total c.args.key blocks c.requires.in_order.ordered c.args.block c.requires.block)
 
 pub returns-clause-old : goal.returns-clause-old
 returns-clause-old g c =
@@ -44,5 +44,5 @@ returns-clause-filled g c =
     let read = c.index_mut.result.now in
     let same = row_is blocks c.args.block read read c.requires.block c.index_mut.ensures.value in
     filled_set blocks c.args.block c.insert.new.self c.requires.block
-    (some_after g.K.Ord.cmp g.met.K.Ord.total c.args.key c.insert.result read c.insert.new.self c.args.value (rw same (filled_row blocks c.args.block c.requires.block c.requires.filled)) c.insert.ensures.entries c.insert.ensures.err)
-    c.requires.filled
+    (some_after g.K.Ord.cmp g.met.K.Ord.total c.args.key c.insert.result read c.insert.new.self c.args.value (rw same (filled_row blocks c.args.block c.requires.block c.requires.in_order.filled)) c.insert.ensures.entries c.insert.ensures.err)
+    c.requires.in_order.filled

@@ -1,15 +1,9 @@
-use Rattle.std.proofs.Common.{◌-◌, ◌<◌, ◌≤◌, take, drop, length}
-use Rattle.oa_ordered.specs.Rows.{AllAbove, AllBelow, joined}
+use Rattle.std.proofs.Common.{◌-◌}
+use Rattle.oa_ordered.proofs.Places.{IsBetween}
 use Rattle.oa_ordered.proofs.rows.row_for.Given as goal
 
 abbrev pub invariant-halves : goal.invariant-halves
-invariant-halves g l = record {
-  middle : l.low ≤ l.high;
-  one : 0 < length l.rows → l.low < l.high;
-  inside : l.high ≤ length l.rows;
-  below : AllBelow g.K.Ord.cmp l.key (joined (take l.low l.rows));
-  above : AllAbove g.K.Ord.cmp l.key (joined (drop l.high l.rows));
-}
+invariant-halves g l = IsBetween g.K.Ord.cmp l.key l.rows l.low l.high
 
 abbrev pub decreases-halves : goal.decreases-halves
 decreases-halves g l = l.high - l.low

@@ -1,14 +1,14 @@
 //! Bodies as records of a length and that many bytes.
 ghost use Rattle.std.specs.Prelude.{◌≡◌, ◌≤◌, ◌<◌, ◌+◌, ℕ, List, Option, false, drop, length, take, vec_capacity, IfSome};
 ghost use Rattle.std.specs.Io.KnownBytes.{Consumes};
-ghost use Rattle.oa_model.specs.Limits.{max_read_calls, max_request_bytes};
+ghost use Rattle.oa_model.specs.Limits.{max_request_bytes};
 ghost use Rattle.oa_stream.specs.Ahead.{TakesAhead, ahead, passed, read_ahead};
 ghost use Rattle.oa_stream.specs.Sink.{IsHandedOn};
 ghost use Rattle.oa_stream.specs.Source.{Input};
 ghost use Rattle.oa_frame.specs.Beginnings.{AreUnbroken};
 ghost use Rattle.oa_frame.specs.Framings.{GrowsTo, Hands, Inputs, WriterStands, Fits, SaysLength, ends_in_read_fault, records};
 ghost use Rattle.oa_frame.specs.Paces.{Paced};
-ghost use Rattle.oa_frame.specs.Records.{Fetches, Gets, SpendsCalls, is_gone};
+ghost use Rattle.oa_frame.specs.Records.{Fetches, Gets, MayCall, SpendsCalls, is_gone};
 
 use crate::buffer::lengthen;
 use crate::lines::MAX_READ_CALLS;
@@ -110,9 +110,7 @@ fn read_content<R: Source + Drop, W: Sink>(
     calls: u32,
 ) -> Read
     requires buffer { max_request_bytes ≤ vec_capacity body.now }
-    requires unbroken { (ahead R.input reader.old).faulted ≡ false }
-    requires quiet { IsHandedOn (W.out writer.now) }
-    requires few { calls ≤ max_read_calls }
+    requires called { MayCall calls (ahead R.input reader.old) (W.out writer.now) }
     ensures buffer { vec_capacity body.old ≤ vec_capacity body.new }
     ensures within { Fits result body.new.items (passed reader.new) }
     ensures longest { GrowsTo result (length body.old.items) (length body.new.items) }
@@ -144,9 +142,7 @@ fn read_bytes<R: Source + Drop, W: Sink>(
     requires some { 0 < n }
     requires short { n ≤ max_request_bytes }
     requires room { n ≤ length body.now }
-    requires unbroken { (ahead R.input reader.old).faulted ≡ false }
-    requires quiet { IsHandedOn (W.out writer.now) }
-    requires few { calls ≤ max_read_calls }
+    requires called { MayCall calls (ahead R.input reader.old) (W.out writer.now) }
     ensures len { length body.new ≡ length body.old }
     ensures within { Fits result body.new (passed reader.new) }
     ensures whole { GrowsTo result 0 n }
@@ -171,9 +167,7 @@ fn fill_up<R: Source + Drop, W: Sink>(
     out: &mut [u8],
     calls: &mut u32,
 ) -> Got
-    requires unbroken { (ahead R.input reader.old).faulted ≡ false }
-    requires quiet { IsHandedOn (W.out writer.now) }
-    requires few { calls.old ≤ max_read_calls }
+    requires { MayCall calls.old (ahead R.input reader.old) (W.out writer.now) }
     ensures len { length out.new ≡ length out.old }
     ensures gets { Gets result (ahead R.input reader.old).left (ahead R.input reader.new).left out.new }
     ensures spends { SpendsCalls (is_gone result) (length out.new) calls.old calls.new (ahead R.input reader.old) (ahead R.input reader.new) }

@@ -39,7 +39,7 @@ class Memory(Cases):
                 self.tell(f"a store without objects in banks of {bank} bytes is opened in less than 8 MiB", 1_024 < peak < 8 * MEBIBYTE, peak)
 
     def test_small_cells(self):
-        """A cell takes a place, in which one argument stands, and a value, in a row with no place to spare. While a store is read, its image is all that is beside them."""
+        """A cell takes a place, in which one argument stands, and a value, in a row with no place to spare. While a store is read, a stretch of it is all that is beside them."""
         keyed, cells_by_key = full.keyed, full.cells_by_key
         nothing = 0
         for what, text, objects, most in (
@@ -58,7 +58,7 @@ class Memory(Cases):
                     taken, peak = resident_of(session.child.pid), peak_of(session.child.pid)
             nothing = nothing or taken
             self.tell(f"{what} take at most {most} times their image", taken - nothing <= most * size, (taken - nothing, size))
-            self.tell(f"{what}: at most 1.3 times that and the image while the store opens", peak - nothing <= 1.3 * (most + 1) * size, (peak - nothing, size))
+            self.tell(f"{what}: at most 1.2 times that while the store opens", peak - nothing <= 1.2 * (taken - nothing) + PAGES, (peak - nothing, taken - nothing))
 
     def test_a_session_in_little_memory(self):
         body = struct.pack("<I", 1) + oaut.ask_create(worked.ITEM)

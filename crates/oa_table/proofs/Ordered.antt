@@ -1,12 +1,12 @@
 -- An entry whose key is above all others goes last.
-use Rattle.std.proofs.Common.{◌≡◌, ◌+◌, ◌<◌, ℕ, List, [], ◌∷◌, ◌++◌, map, refl, ap, ◌∙◌, arith}
+use Rattle.std.proofs.Common.{◌≡◌, ◌+◌, ◌<◌, ℕ, eqb, false, List, [], ◌∷◌, ◌++◌, refl, ap, arith}
 use Rattle.std.specs.Prelude.{All}
 use Rattle.std.specs.List.{sum_by}
 use Rattle.std.specs.Map.{keys_of, values_of}
 use Rattle.std.specs.BTreeMap.{insert_entry}
-use Rattle.std.specs.Ordering.{nat_cmp, ordering_reverse}
-use Rattle.std.specs.declared.cmp.Ordering.TheVariants.{Less, Greater}
-use Rattle.std.proofs.lemmas.Cmp.{nat_cmp_total}
+use Rattle.std.specs.Ordering.{nat_cmp}
+use Rattle.std.specs.declared.cmp.Ordering.TheVariants.{Greater}
+use Rattle.std.proofs.lemmas.Bool.{eqb-true, false_from_ne_true, le-ltb}
 use Rattle.std.proofs.lemmas.List.{map-append}
 use Rattle.std.proofs.lemmas.List.Elements.{All-head, All-tail}
 use Rattle.std.proofs.lemmas.List.Sums.{sum_by-append}
@@ -15,7 +15,9 @@ use Rattle.oa_table.specs.Sizes.{object_size, table_size}
 use Rattle.oa_table.specs.Tables.{ObjectValue, TableValue}
 
 above : (k f : ℕ) → f < k → nat_cmp k f ≡ Greater
-above k f lt = ?
+above k f lt =
+    let other : eqb k f ≡ false = false_from_ne_true (eqb k f) (λ e. let same = eqb-true k f e in absurd (omega (arith, lt, same))) in
+    rw (le-ltb k f (omega (arith, lt)), other) refl
 
 pub goes_last : {X : Type 0} (es : List (ℕ × X)) (k : ℕ) (x : X) → All (λ other. other < k) (keys_of es) → insert_entry nat_cmp es k x ≡ es ++ (k, x) ∷ []
 goes_last [] k x h = refl
@@ -25,4 +27,6 @@ goes_last (e ∷ es) k x h =
 -- and takes as many bytes more as it has
 pub last_adds : (number : ℕ) (object : ObjectValue) (table : TableValue) → table_size (with_last number object table) ≡ table_size table + object_size object
 unfolding table_size
-last_adds number object table = ?
+last_adds number object table =
+    let parts : values_of (table.objects ++ (number, object) ∷ []) ≡ values_of table.objects ++ object ∷ [] = map-append (λ (e : ℕ × ObjectValue). e.1) table.objects ((number, object) ∷ []) in
+    rw parts (omega (arith, sum_by-append object_size (values_of table.objects) (object ∷ [])))

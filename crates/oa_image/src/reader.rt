@@ -161,7 +161,7 @@ fn next_object(
 /// Keeps an object at hand as long as cells of it are left, and then puts it behind the others.
 fn keep(alloc: Global, table: &mut OpenTable, object: OpenObject) -> Result<(), AllocError>
     requires none { table.old.object ≡ None }
-    requires open { IsOpenTable (with_at_hand object table.old) }
+    requires valid { IsOpenTable (with_at_hand object table.old) }
     ensures taken { OnOk result (table_taken table.new ≡ table_taken (with_at_hand object table.old)) }
     ensures between { IsBetweenParts table.new }
 {

@@ -1,5 +1,5 @@
 -- What stands in an image behind the parts that were read.
-use Rattle.std.proofs.Common.{◌≡◌, ℕ, ◌+◌, ◌-◌, ◌^◌, ◌<◌, ◌≤◌, Bool, true, false, cond, eqb, ltb, List, [], ◌∷◌, ◌++◌, length, take, drop, Option, Some, None}
+use Rattle.std.proofs.Common.{◌≡◌, ℕ, ◌+◌, ◌^◌, ◌<◌, ◌≤◌, Bool, true, false, cond, eqb, ltb, List, [], ◌∷◌, ◌++◌, length, Option, None}
 use Rattle.std.proofs.Common.{refl, sym, ap, subst, ◌∙◌, append_assoc, append-nil, arith}
 use Rattle.std.specs.List.{AllByRecursion, flat_map, list_all}
 use Rattle.std.specs.Map.{keys_of}
@@ -8,15 +8,14 @@ use Rattle.std.specs.Ordering.{is_lt, nat_cmp}
 use Rattle.std.specs.declared.cmp.Ordering.TheVariants.{Less, Equal, Greater}
 use Rattle.std.proofs.lemmas.Bool.{and_parts, lt-ltb, ltb-true}
 use Rattle.std.proofs.lemmas.Cmp.{nat_cmp_total, ranked}
-use Rattle.std.proofs.lemmas.List.{length-append, take-append-drop}
-use Rattle.std.proofs.lemmas.List.Folds.{list_all-append}
+use Rattle.std.proofs.lemmas.List.{length-append}
 use Rattle.oa_variant.specs.declared.variant.Variant.{Variant}
 use Rattle.oa_table.specs.Places.{PlaceValue}
 use Rattle.oa_table.specs.Tables.{ObjectValue, TableValue}
 use Rattle.oa_layout.specs.Formats.{Format, counted, coded, made_where, next_by, only, raw, rising, times}
 use Rattle.oa_layout.specs.Numbers.{u32, guid}
 use Rattle.oa_layout.proofs.Exact.{no_prefix}
-use Rattle.oa_image.specs.Tables.{before, cell, cells, is_used, object, objects, older, table, table_image}
+use Rattle.oa_image.specs.Tables.{before, cell, cells, is_used, object, older, table, table_image}
 use Rattle.oa_image.specs.declared.reader.OpenObject.{OpenObject}
 use Rattle.oa_image.specs.declared.reader.OpenTable.{OpenTable}
 use Rattle.oa_image.specs.Reader.{IsOpenTable, TakesEnd, all_objects, object_so_far, with_at_hand, count_at_hand, is_behind, last_number, object_head, object_taken, table_head, table_taken, taken_at_hand}

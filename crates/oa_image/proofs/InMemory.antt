@@ -30,7 +30,7 @@ pub cell_bytes : (c : PlaceValue × Variant) → 0 < length (cell.image c)
 unfolding cell next_by
 cell_bytes c = omega (arith, place_bytes c.0, length-append (place.image c.0) (value.image c.1))
 
-pub object_bytes : (o : ℕ × ObjectValue) → 0 < length (object.image o)
+object_bytes : (o : ℕ × ObjectValue) → 0 < length (object.image o)
 unfolding object next_by made_where u32 raw
 object_bytes o = omega (arith, length-append (u32.image o.0) (guid.image o.1.class ++ cells.image o.1.cells))
 

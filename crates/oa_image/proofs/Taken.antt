@@ -1,7 +1,7 @@
 -- Parts that are taken.
-use Rattle.std.proofs.Common.{◌≡◌, ℕ, ◌+◌, ◌-◌, ◌^◌, ◌<◌, ◌≤◌, true, false, ltb, List, [], ◌∷◌, ◌++◌, length, take, drop, Option, Some, None}
+use Rattle.std.proofs.Common.{◌≡◌, ℕ, ◌+◌, ◌-◌, ◌<◌, ◌≤◌, true, ltb, List, [], ◌∷◌, ◌++◌, length, take, drop, Option, Some, None}
 use Rattle.std.proofs.Common.{refl, sym, ap, subst, ◌∙◌, append_assoc, append-nil, arith}
-use Rattle.std.specs.Prelude.{All, ⊤}
+use Rattle.std.specs.Prelude.{⊤}
 use Rattle.std.specs.Global.{Vec}
 use Rattle.std.specs.List.{AllByRecursion, flat_map, list_all}
 use Rattle.std.specs.List.Sorted.{IsStrictlySortedBy}
@@ -23,7 +23,7 @@ use Rattle.oa_layout.proofs.Exact.{no_prefix}
 use Rattle.oa_image.specs.Tables.{before, cell, object, older, table, table_image, is_used}
 use Rattle.oa_image.specs.declared.reader.OpenObject.{OpenObject}
 use Rattle.oa_image.specs.declared.reader.OpenTable.{OpenTable}
-use Rattle.oa_image.specs.Reader.{BeginsWith, IsBetweenParts, IsOpenTable, TakesEnd, TakesPart, all_objects, is_behind, last_number, object_head, object_so_far, object_taken, table_head, table_taken, with_at_hand}
+use Rattle.oa_image.specs.Reader.{BeginsWith, IsBetweenParts, IsOpenTable, TakesEnd, TakesPart, all_objects, is_behind, object_head, object_so_far, object_taken, table_head, table_taken, with_at_hand}
 use Rattle.oa_image.proofs.Behind.{Comes, above_last, cell_comes, each_below, object_comes, object_head_bytes, head_image, head_is, head_parts, last_pushed, object_head_parts, object_image}
 use Rattle.oa_image.proofs.InMemory.{cell_bytes}
 use Rattle.oa_image.proofs.Numbered.{pushed_numbers_stay}

@@ -63,10 +63,8 @@ impl Objects {
         ensures pushed { OnOk result (self.new ≡ with_last number object self.old) }
         ensures err { OnErr result (self.new ≡ self.old) }
     {
-        match self.objects.insert(number, object) {
-            Ok(_) => Ok(()),
-            Err(_) => Err(AllocError),
-        }
+        self.objects.insert(number, object)?;
+        Ok(())
     }
 
     /// The number of the next object; above the greatest one where the numbers are used up.

@@ -1,5 +1,4 @@
-use Rattle.std.proofs.Common.{◌≡◌, arith, refl}
-use Rattle.oa_table.specs.Parts.{with_last}
+use Rattle.std.proofs.Common.{arith}
 use Rattle.oa_image.proofs.Taken.{can_be_last, closed_is, closed_taken, places_sorted}
 use Rattle.oa_image.proofs.reader.keep.Goals as goal
 

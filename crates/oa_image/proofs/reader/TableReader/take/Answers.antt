@@ -1,5 +1,4 @@
 use Rattle.std.proofs.Common.{◌≡◌, List, ℕ, [], ◌++◌, sym, ap, ◌∙◌, arith, length-drop}
-use Rattle.oa_image.specs.Tables.{table_image}
 use Rattle.oa_image.specs.Reader.{bytes_taken, table_taken}
 use Rattle.oa_image.proofs.Taken.{all_behind, ends, further}
 use Rattle.oa_image.proofs.reader.TableReader.take.Goals as goal

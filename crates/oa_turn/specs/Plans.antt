@@ -27,7 +27,8 @@ use Rattle.oa_turn.specs.Turns.{Ordinary}
 
 -- the body asks a call, of which this is planned
 abbrev pub PlansCall : State → List ℕ → ValuePlan → Type 0
-PlansCall state body plan = (call : Call) × Asks body (ByCall Invoke call) × PlansValue state (tag_at body) (ByCall Invoke call) plan
+PlansCall state body plan =
+    (call : Call) × Asks body (ByCall Invoke call) × PlansValue state (tag_at body) (ByCall Invoke call) plan
 
 -- a put of a value as a change that is told without fields
 abbrev pub put_planned : ℕ → ValuePut → Planned

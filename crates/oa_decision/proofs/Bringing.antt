@@ -10,7 +10,8 @@ use Rattle.oa_idl.specs.Values.{InterfaceValue}
 use Rattle.oa_model.specs.declared.var_type.ValueType.{ValueType}
 use Rattle.oa_record.specs.ValueCalls.{bringing}
 use Rattle.oa_record.specs.declared.request.CallHead.{CallHead}
-use Rattle.oa_record.specs.declared.request.Request.TheVariants.{Invoke}
+use Rattle.oa_record.specs.declared.opcode.ByCall.TheVariants.{Invoke}
+use Rattle.oa_record.specs.declared.request.Request.TheVariants.{ByCall}
 use Rattle.oa_table.specs.declared.name.CellName.{CellName}
 use Rattle.oa_typelib.specs.declared.access.Access.TheVariants.{Flags}
 use Rattle.oa_typelib.specs.declared.access.Kind.TheVariants as forms
@@ -57,17 +58,17 @@ module _ (state : State) (head : CallHead) (interface : InterfaceValue) (declare
       rw (cell_found state (bringing head (Some argument)) (Flags head.flags) interface is.member forms.Put (record { key = []; value = Some value }) found (sym is.found) (rw (is.keyless, at) refl)) refl
 
   pub plans_get : (tag : ℕ) (plan : ValuePlan) → IsKeyless interface head.dispid (Flags head.flags) declared forms.Get
-      → PlansGet state tag cell declared plan → PlansValue state tag (Invoke (bringing head None)) plan
+      → PlansGet state tag cell declared plan → PlansValue state tag (ByCall Invoke (bringing head None)) plan
   plans_get tag (Answered reply) is (inl says) = inl (_, decided_get is, says)
   plans_get tag (Answered reply) is (inr wants) = inr (inl (inr (ap is_ok (decided_get is))), wants)
   plans_get tag (Put put) is none = absurd none
 
   plans_put : (tag : ℕ) (argument : Variant) (plan : ValuePlan) → IsKeyless interface head.dispid (Flags head.flags) declared forms.Put
-      → PlansPut head.object interface.guid head.dispid (coerced argument declared) plan → PlansValue state tag (Invoke (bringing head (Some argument))) plan
+      → PlansPut head.object interface.guid head.dispid (coerced argument declared) plan → PlansValue state tag (ByCall Invoke (bringing head (Some argument))) plan
   plans_put tag argument (Answered reply) is none = absurd none
   plans_put tag argument (Put put) is puts = (decided_put argument puts.0 puts.1 is ∙ rw puts.2 refl, puts.3)
 
   pub puts : (tag : ℕ) (argument : Variant) (plan : Option ValuePlan) → IsKeyless interface head.dispid (Flags head.flags) declared forms.Put
-      → IfSome plan (PlansPut head.object interface.guid head.dispid (coerced argument declared)) → IfSome plan (PlansValue state tag (Invoke (bringing head (Some argument))))
+      → IfSome plan (PlansPut head.object interface.guid head.dispid (coerced argument declared)) → IfSome plan (PlansValue state tag (ByCall Invoke (bringing head (Some argument))))
   puts tag argument None is none = tt
   puts tag argument (Some plan) is plans = plans_put tag argument plan is plans

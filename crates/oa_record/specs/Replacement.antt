@@ -1,6 +1,6 @@
--- A body that asks for another library: that opcode, and one field, the library's text, which is borrowed (this project's
--- choice). The field is laid out as a variant field is: how many bytes, a reserved number, the bytes, padding up to a
--- multiple of 8.
+-- A body that asks for another library: that opcode, and one field, the library's text, which is borrowed (this
+-- project's choice). The field is laid out as a variant field is: how many bytes, a reserved number, the bytes, padding
+-- up to a multiple of 8.
 use Rattle.std.specs.Prelude.{ℕ, ◌+◌, ◌==◌, nat_lt, Bool, false, if◌then◌else◌, List, length, take, drop, Option, Some}
 use Rattle.std.specs.Prelude.{None}
 use Rattle.byteorder.specs.Endian.{little_number}

@@ -6,7 +6,8 @@ use crate::Opcode;
 use byteorder::{ByteOrder, LittleEndian};
 use oa_model::MAX_REQUEST_BYTES;
 
-/// Whether a body of 8 bytes or more has the opcode `Opcode::Replace`: it asks for another library, and is no request. Its fields are not looked at.
+/// Whether a body of 8 bytes or more has the opcode 12 (`Opcode::Replace`): it asks for another library, and is no request. Its fields are not
+/// looked at.
 pub fn is_replacement(body: &[u8]) -> bool
     ensures { result ≡ is_replacement body.now }
 {

@@ -19,7 +19,8 @@ use Rattle.oa_record.specs.Replies.{ReplyValue}
 use Rattle.oa_record.specs.declared.fault.RecordFault.{RecordFault}
 use Rattle.oa_record.specs.declared.fault.RecordFault.TheVariants as records
 use Rattle.oa_record.specs.declared.request.Request.{Request}
-use Rattle.oa_record.specs.declared.request.Request.TheVariants.{Release}
+use Rattle.oa_record.specs.declared.opcode.ByNumber.TheVariants.{Release}
+use Rattle.oa_record.specs.declared.request.Request.TheVariants.{ByNumber}
 use Rattle.oa_table.specs.Events.{applied, released_if_live}
 use Rattle.oa_table.specs.Faults.{table_code}
 use Rattle.oa_table.specs.Memory.{MayWantMemory}
@@ -93,11 +94,11 @@ is_made P (Ok u) to none is = rw is tt
 is_made P (Err e) to none is = absurd none
 
 -- what a body is that asks one
-module _ (body : List ℕ) (number : ℕ) (of : Asks body (Release number)) where
+module _ (body : List ℕ) (number : ℕ) (of : Asks body (ByNumber Release number)) where
   module _ (stands : (body : List ℕ) (q : Request) → Asks body q → (8 ≤ length body) × (opcode_at body ≡ opcode_number (request_opcode q))) where
     pub no_replacement : is_replacement body ≡ true → ⊥
     no_replacement is =
-        let s = stands body (Release number) of in
+        let s = stands body (ByNumber Release number) of in
         let long = le-ltb (length body) 8 s.0 in
         true≢false (sym (rw (long, s.1) at is))
 
@@ -105,7 +106,7 @@ module _ (body : List ℕ) (number : ℕ) (of : Asks body (Release number)) wher
     is_read records.Stub why code = omega (arith, ap number_of code)
     is_read (records.BadVarType i) why code = omega (arith, ap number_of code)
     is_read records.Memory why code =
-        let s = stands body (Release number) of in
+        let s = stands body (ByNumber Release number) of in
         let none : opcode_before_memory (opcode_at body) ≡ 0 = ap opcode_before_memory s.1 in
         omega (arith, none, why.opcode)
 
@@ -116,8 +117,8 @@ module _ (body : List ℕ) (number : ℕ) (of : Asks body (Release number)) wher
   is_change (Err r) = false
 
   module _ (one : (body : List ℕ) (p q : Request) → Asks body p → Asks body q → p ≡ q) (state : State) (request : Request) (asked : Asks body request) where
-    same : request ≡ Release number
-    same = one body request (Release number) asked of
+    same : request ≡ ByNumber Release number
+    same = one body request (ByNumber Release number) asked of
 
     pub changes : (due : Result Decision Refusal) → decided state request ≡ due → is_change due ≡ true
     changes due is = ap is_change (sym is) ∙ ap (λ (q : Request). is_change (decided state q)) same

@@ -4,7 +4,9 @@ use Rattle.oa_model.specs.Codes.{e_outofmemory}
 use Rattle.oa_model.specs.declared.hresult.HResult.{HResult}
 use Rattle.oa_record.specs.declared.request.Request.{Request}
 use Rattle.oa_record.specs.declared.request.Call.{Call}
-use Rattle.oa_record.specs.declared.request.Request.TheVariants.{Invoke, Release}
+use Rattle.oa_record.specs.declared.opcode.ByCall.TheVariants.{Invoke}
+use Rattle.oa_record.specs.declared.opcode.ByNumber.TheVariants.{Release}
+use Rattle.oa_record.specs.declared.request.Request.TheVariants.{ByCall, ByNumber}
 use Rattle.oa_record.specs.Replies.{ReplyValue}
 use Rattle.oa_record.specs.Asks.{Asks, tag_at}
 use Rattle.oa_table.specs.declared.event.Event.{Event}
@@ -25,7 +27,8 @@ use Rattle.oa_turn.specs.Turns.{Ordinary}
 
 -- the body asks a call, of which this is planned
 abbrev pub PlansCall : State → List ℕ → ValuePlan → Type 0
-PlansCall state body plan = (call : Call) × Asks body (Invoke call) × PlansValue state (tag_at body) (Invoke call) plan
+PlansCall state body plan =
+    (call : Call) × Asks body (ByCall Invoke call) × PlansValue state (tag_at body) (ByCall Invoke call) plan
 
 -- a put of a value as a change that is told without fields
 abbrev pub put_planned : ℕ → ValuePut → Planned
@@ -67,7 +70,7 @@ PlansChange state tag event fields (Change planned) =
 
 -- a RELEASE takes no memory: what was answered to one is not want of it
 abbrev pub ReleasesWithoutMemory : List ℕ → ReplyValue → Type 0
-ReleasesWithoutMemory body reply = (number : ℕ) → Asks body (Release number) → reply.code ≡ e_outofmemory → ⊥
+ReleasesWithoutMemory body reply = (number : ℕ) → Asks body (ByNumber Release number) → reply.code ≡ e_outofmemory → ⊥
 
 abbrev pub PlansWithoutMemory : List ℕ → Plan → Type 0
 PlansWithoutMemory body (Answered reply) = ReleasesWithoutMemory body reply

@@ -3,7 +3,7 @@
 use crate::asserts::expect;
 use crate::shown::is_shown;
 use oa_ndr::Ndr;
-use oa_record::{Opcode, opcode_of, put_variant_field};
+use oa_record::{Opcode, Query, opcode_of, put_variant_field};
 use oa_variant::{Scalar, Variant};
 use oa_wire_array::read_scalar;
 use std::alloc::Global;
@@ -40,6 +40,7 @@ fn a_value_an_opcode_and_a_scalar(rt: HostRuntime) {
     let alloc = rt.alloc();
     let opcode = opcode_of(&[9, 0, 0, 0, 11, 0, 0, 0]);
     expect(&rt, "a value", is_put(alloc));
-    expect(&rt, "a list of objects", opcode == Some(Opcode::Objects));
+    let listing = Some(Opcode::Query(Query::Objects));
+    expect(&rt, "a list of objects", opcode == listing);
     expect(&rt, "a text", is_read(alloc));
 }

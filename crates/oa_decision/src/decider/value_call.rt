@@ -3,7 +3,8 @@ ghost use Rattle.std.specs.Prelude.{◌≡◌, IfSome, Some};
 ghost use Rattle.oa_checks.specs.Declarations.{kind_of_property};
 ghost use Rattle.oa_coerce.specs.Answers.{coerced};
 ghost use Rattle.oa_record.specs.ValueCalls.{bringing};
-ghost use Rattle.oa_record.specs.declared.request.Request.TheVariants.{Invoke};
+ghost use Rattle.oa_record.specs.declared.opcode.ByCall.TheVariants.{Invoke};
+ghost use Rattle.oa_record.specs.declared.request.Request.TheVariants.{ByCall};
 ghost use Rattle.oa_table.specs.Tables.{object_at};
 ghost use Rattle.oa_decision.specs.Cells.{IsKeyless};
 ghost use Rattle.oa_decision.specs.ValuePlans.{PlansGet, PlansPut, PlansValue, keyless_cell};
@@ -25,7 +26,7 @@ impl Decider<'_> {
     /// wanted), or the change, which may still be refused. None, of which nothing is said, where the call is refused and where its member is
     /// no property of scalars that alone has its DISPID. Only reads.
     pub fn plan_value(&self, tag: u32, head: &CallHead, value: Option<Variant>) -> Option<ValuePlan>
-        ensures { IfSome result (PlansValue self.now tag (Invoke (bringing head.now value))) }
+        ensures { IfSome result (PlansValue self.now tag (ByCall Invoke (bringing head.now value))) }
     {
         let object = self.find_object(head.object).ok()?;
         let interface = self

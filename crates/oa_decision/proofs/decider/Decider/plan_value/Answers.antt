@@ -2,7 +2,8 @@ use Rattle.std.proofs.Common.{rules, ◌≡◌, ℤ, Option, to_z, of_z, w32, sy
 use Rattle.std.specs.Prelude.{IfSome}
 use Rattle.oa_coerce.specs.Answers.{coerced}
 use Rattle.oa_record.specs.ValueCalls.{bringing}
-use Rattle.oa_record.specs.declared.request.Request.TheVariants.{Invoke}
+use Rattle.oa_record.specs.declared.opcode.ByCall.TheVariants.{Invoke}
+use Rattle.oa_record.specs.declared.request.Request.TheVariants.{ByCall}
 use Rattle.oa_typelib.specs.declared.access.Access.TheVariants.{Flags}
 use Rattle.oa_typelib.specs.declared.access.Kind.{Kind}
 use Rattle.oa_typelib.specs.declared.access.Kind.TheVariants as forms
@@ -25,7 +26,7 @@ returns-in-None c =
     let is = subst (λ (z : ℤ). IsKeyless i z (Flags head.flags) declared forms.Get) same
     (subst (λ (k : Kind). IsKeyless i (to_z w32 (of_z w32 head.dispid)) (Flags head.flags) declared k) c.in-Get.is c.in_ok-declared.ensures.found) in
     let plans : PlansGet state c.args.tag (keyless_cell head.object i.guid head.dispid) declared plan = search (rules, c.plan_get.ensures) in
-    subst (λ (v : Option Variant). PlansValue state c.args.tag (Invoke (bringing head v)) plan) (sym c.in-None.is)
+    subst (λ (v : Option Variant). PlansValue state c.args.tag (ByCall Invoke (bringing head v)) plan) (sym c.in-None.is)
     (plans_get state head i declared found c.args.tag plan is plans)
 
 pub returns : goal.returns
@@ -42,5 +43,5 @@ returns c =
     let is = subst (λ (z : ℤ). IsKeyless i z (Flags head.flags) declared forms.Put) same
     (subst (λ (k : Kind). IsKeyless i (to_z w32 (of_z w32 head.dispid)) (Flags head.flags) declared k) c.in-Put.is c.in_ok-declared.ensures.found) in
     let plans : IfSome plan (PlansPut head.object i.guid head.dispid (coerced argument declared)) = search (rules, c.plan_put.ensures) in
-    subst (λ (v : Option Variant). IfSome plan (PlansValue state c.args.tag (Invoke (bringing head v)))) (sym c.in_ok-value-in-Put.was)
+    subst (λ (v : Option Variant). IfSome plan (PlansValue state c.args.tag (ByCall Invoke (bringing head v)))) (sym c.in_ok-value-in-Put.was)
     (puts state head i declared found c.args.tag argument plan is plans)

@@ -61,20 +61,16 @@ property_of forms d t =
       has_put = is_some (form_for kinds.Put forms);
     }
 
--- A call's flags (MS-OAUT section 3.1.4.4): DISPATCH_METHOD, DISPATCH_PROPERTYGET and DISPATCH_PROPERTYPUT.
-abbrev pub asks_method : ℕ → Bool
-asks_method flags = not (nat_eq (bit_and flags method_flag) 0)
-
-abbrev pub asks_get : ℕ → Bool
-asks_get flags = not (nat_eq (bit_and flags get_flag) 0)
-
-abbrev pub asks_put : ℕ → Bool
-asks_put flags = not (nat_eq (bit_and flags put_flag) 0)
+-- Whether a call's flags (MS-OAUT section 3.1.4.4) have one: DISPATCH_METHOD, DISPATCH_PROPERTYGET or
+-- DISPATCH_PROPERTYPUT.
+abbrev pub has_flag : ℕ → ℕ → Bool
+has_flag flags flag = not (nat_eq (bit_and flags flag) 0)
 
 -- The form of a property that a call asks for: with flags a put where that flag is set, else a get (this project's
 -- choice).
 abbrev pub kind_asked : Access → Option Kind
-kind_asked (Flags flags) = if asks_put flags then Some kinds.Put else if asks_get flags then Some kinds.Get else None
+kind_asked (Flags flags) =
+    if has_flag flags put_flag then Some kinds.Put else if has_flag flags get_flag then Some kinds.Get else None
 kind_asked Get = Some kinds.Get
 kind_asked Put = Some kinds.Put
 
@@ -88,7 +84,8 @@ if_formed m (Some kind) = if has_form m kind then Ok (m, kind) else Err MemberNo
 
 -- A method is called, or not: a library has no bodies of methods (this project's choice).
 abbrev pub method_fault : Access → MemberFault
-method_fault (Flags flags) = if asks_method flags && not (asks_put flags) then NotImplemented else MemberNotFound
+method_fault (Flags flags) =
+    if has_flag flags method_flag && not (has_flag flags put_flag) then NotImplemented else MemberNotFound
 method_fault Get = MemberNotFound
 method_fault Put = MemberNotFound
 

@@ -1,11 +1,9 @@
 //! The places of the default interfaces of coclasses.
-ghost use Rattle.std.specs.Prelude.{◌≡◌, IfOk, map, find, position, option_copied};
-ghost use Rattle.oa_model.specs.Folding.{folded_name};
-ghost use Rattle.oa_checks.specs.Libraries.{same};
+ghost use Rattle.std.specs.Prelude.{◌≡◌, IfOk, map, find, option_copied};
 ghost use Rattle.oa_typelib.specs.Indexes.{default_among, default_in};
 
 use oa_checks::{FoldedNames, folded};
-use oa_idl::{Entry, Item, Name};
+use oa_idl::{Entry, Item};
 use std::alloc::{AllocError, Global};
 
 fn default_entry(entries: &[Entry]) -> Option<&Entry>
@@ -14,14 +12,7 @@ fn default_entry(entries: &[Entry]) -> Option<&Entry>
     entries.iter().find(|e| e.is_default)
 }
 
-/// The place of the item that has a name.
-fn place_named(alloc: Global, names: &FoldedNames, name: &Name) -> Result<Option<usize>, AllocError>
-    ensures { IfOk result (λ place. place ≡ position (same (folded_name name.now)) names.now) }
-{
-    let key = folded(alloc, name)?;
-    Ok(names.place(key.as_slice()))
-}
-
+/// The place of the interface that the default entry names.
 fn entry_place(
     alloc: Global,
     names: &FoldedNames,
@@ -29,10 +20,11 @@ fn entry_place(
 ) -> Result<Option<usize>, AllocError>
     ensures { IfOk result (λ place. place ≡ default_among names.now entries.now) }
 {
-    match default_entry(entries) {
-        Some(entry) => place_named(alloc, names, &entry.interface),
-        None => Ok(None),
-    }
+    let Some(entry) = default_entry(entries) else {
+        return Ok(None);
+    };
+    let key = folded(alloc, &entry.interface)?;
+    Ok(names.place(key.as_slice()))
 }
 
 fn item_default(

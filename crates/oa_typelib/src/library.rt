@@ -191,14 +191,6 @@ impl Library {
         if let Some(place) = place_in_front(self.items(), guid) {
             return Some(place);
         }
-        self.hashed_place(guid)
-    }
-
-    /// The same of a GUID that is hashed.
-    #[inline(never)]
-    fn hashed_place(&self, guid: &Uuid) -> Option<usize>
-        ensures { result ≡ position (λ i. same guid.now (item_guid i)) self.now.items }
-    {
         self.guids.place(guid)
     }
 

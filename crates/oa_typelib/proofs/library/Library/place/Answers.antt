@@ -2,7 +2,7 @@ use Rattle.std.proofs.Common.{map, position, ap, ◌∙◌}
 use Rattle.oa_idl.specs.Trees.{TreeValue}
 use Rattle.oa_checks.specs.Libraries.{same, item_guid}
 use Rattle.oa_checks.proofs.Lists.{position-map}
-use Rattle.oa_typelib.proofs.library.Library.hashed_place.Goals as goal
+use Rattle.oa_typelib.proofs.library.Library.place.Goals as goal
 
 pub returns : goal.returns
 returns c =

@@ -2,12 +2,13 @@
 """The book of the promise: what a reader of one of README's nine sentences has to read, and how much that is.
 
     python3 tools/spec.py FOLDER      writes a page for each word below: its definition, and each that it names, down to lists and numbers
-    python3 tools/spec.py --write     writes the table of docs/reading-the-proofs.md anew
-    python3 tools/spec.py --check     compares that table, and holds the counts to the limits below
+    python3 tools/spec.py --write     writes the two tables of docs/reading-the-proofs.md anew
+    python3 tools/spec.py --check     compares these, and holds the counts to the limits below
 
 A page begins with the word itself. Behind it stands what it names, in the order in which it names them, each followed by what it names in turn, once. With
 each stands the file that it is copied from, whose comments tell its source: a section of a standard, or this project's choice. What the prover's library
-defines, and structs and enums of the code, are named and not copied.
+defines, and structs and enums of the code, are named and not copied. Nor are the lemmas that some descriptions of bytes have among their fields: what is
+neither a record nor unfolds is a proof, of a law which the record of such descriptions states.
 """
 import collections
 import os
@@ -30,23 +31,38 @@ SENTENCES = {
     9: ["oa_keeps.specs.Keeps.KeepsLibrary", "oa_server.specs.Answers.ReplacesInStore", "oa_store.specs.Changes.IsUpgrade", "oa_store.specs.Faults.IsBrought"],
 }
 # more than this nobody should have to read
-LIMITS = {"Turn": 820, "IsLived": 1_240}
+LIMITS = {"Turn": 820, "IsLived": 1_200}
+
+# what IsLived speaks of, each with the crates that say it
+SUBJECTS = {
+    "a library: its text, its canonical text, its checks, its members, its description": "tokens idl canonical checks typelib keeps description",
+    "what is decided of a request, and what its turn makes of the table": "bind coerce decision turn table fits",
+    "images of values, events and tables, the disk, the store": "layout image disk journal store keeper",
+    "sessions over streams, groups, openings, stops": "stream frame groups server history",
+    "values, and how they lie in the bytes of a request or a reply": "array bstr variant ndr wire_text wire_array wire_variant",
+    "codes, limits, types and their numbers": "model",
+    "requests and replies": "record",
+}
 
 COLUMNS = "| Sentence | Word | Definitions | Lines | Files | Crates |"
 TABLE = re.compile(rf"^{re.escape(COLUMNS)}\n(?:\|.*\n)*", re.MULTILINE)
+SUBJECT_COLUMNS = "| What `IsLived` speaks of | Definitions | Lines |"
+SUBJECT_TABLE = re.compile(rf"^{re.escape(SUBJECT_COLUMNS)}\n(?:\|.*\n)*", re.MULTILINE)
 
 NAME = r"[A-Za-z_][\w'\-]*"
-HEAD = re.compile(rf"(?:(?:abbrev|unfoldable|pub|record|data|syntax) )*({NAME})")
+OPERATOR = r"◌[^\s◌]+◌"
+HEAD = re.compile(rf"((?:(?:abbrev|unfoldable|pub|record|data) )*)({NAME}|{OPERATOR})")
 USE = re.compile(r"^(?:pub )?use\s+([\w.+]+)\.\{([^}]*)\}", re.MULTILINE | re.DOTALL)
+WHOLE = re.compile(rf"^use\s+([\w.]+) as ({NAME})$", re.MULTILINE)
 
 Definition = collections.namedtuple("Definition", "path lines")
 
 
 class Book:
-    """The definitions of all specs/, each by its module and its name."""
+    """The definitions of all specs/, each by its module and its name; `laws` are those that are none, but are proved."""
 
     def __init__(self):
-        self.definitions, self.imports, self.order = {}, {}, {}
+        self.definitions, self.imports, self.modules, self.laws = {}, {}, {}, set()
         for crate in sorted(os.listdir(f"{ROOT}/crates")):
             for folder, _, names in os.walk(f"{ROOT}/crates/{crate}/specs"):
                 for name in sorted(it for it in names if it.endswith(".antt")):
@@ -57,42 +73,66 @@ class Book:
         with open(f"{ROOT}/crates/{path}", encoding="utf-8") as file:
             text = file.read()
         self.imports[module] = {}
+        self.modules[module] = {name: of.removeprefix("Rattle.") for of, name in WHOLE.findall(text)}
         for of, names in USE.findall(text):
             for name in filter(None, map(str.strip, names.split(","))):
                 there, _, here = name.partition(" as ")
                 self.imports[module][(here or there).strip()] = (of.removeprefix("Rattle."), there.strip())
-        current, above = None, []
+        # depth: how far definitions are set in here, by the blocks `module` around them
+        current, above, depth = None, [], 0
         for line in USE.sub("", text).split("\n"):
-            if line.startswith("--"):
-                current, above = None, [*above, line]
-            elif not line.strip():
+            words = line.strip()
+            indent = line.index(words) if words else depth
+            depth = min(depth, indent)
+            if not words:
                 above = []
-            elif line[0].isspace():
+            elif indent > depth:
                 if current:
                     self.definitions[current].lines.append(line)
-            else:
-                head = HEAD.match(line)
-                if head and head[1] not in ("module", "infixl", "infixr", "infix", "unfolding"):
-                    current = (module, head[1])
+            elif words.startswith("--"):
+                current, above = None, [*above, line]
+            elif words.split()[0] == "module":
+                current, above, depth = None, [], depth + 2
+            elif words.split()[0] not in ("infixl", "infixr", "infix", "unfolding"):
+                current = self.begun(module, words, current)
+                if current:
                     self.definitions.setdefault(current, Definition(path, list(above))).lines.append(line)
                 above = []
+
+    def begun(self, module, words, current):
+        """Which definition a line begins, or goes on with by an equation."""
+        head = HEAD.match(words)
+        if not head or not head[1] and not words.startswith(f"{head[2]} :"):
+            return (module, head[2]) if head and (module, head[2]) in self.definitions else current
+        kind, name = head.groups()
+        if not re.search("abbrev|unfoldable|record|data", kind):
+            self.laws.add((module, name))
+        return module, name
 
     def named_by(self, key):
         """What a definition names, in the order in which it does: other definitions, and what is not to be read on."""
         module, own = key
-        text = "\n".join(line for line in self.definitions[key].lines if not line.startswith("--"))
-        found = {}
-        for name in re.findall(NAME, re.sub(r"--.*", "", text)):
-            if name != own:
-                found.setdefault((module, name) if (module, name) in self.definitions else self.imports[module].get(name))
-        return [it for it in found if it]
+        text = "\n".join(re.sub(r"--.*", "", line) for line in self.definitions[key].lines)
+        known = {**self.imports[module], **{name: (of, name) for of, name in self.definitions if of == module and name != own}}
+        signs = {it: it.strip("◌") for it in known if it.startswith("◌")}
+        # steps of a `do` are joined by the operator of the module
+        meant = [it for it, sign in signs.items() if f" {sign} " in text or sign == ">>=" and "←" in text]
+        found = [known.get(it) for it in [*re.findall(rf"(?<![\w.]){NAME}", text), *meant]]
+        found += [(self.modules[module][of], name) for of, name in re.findall(rf"({NAME})\.({NAME})", text) if of in self.modules[module]]
+        return list(dict.fromkeys(self.where(it) for it in found if it))
+
+    def where(self, key):
+        """Where a definition stands that may be imported by way of another module."""
+        module, name = key
+        further = None if key in self.definitions else self.imports.get(module, {}).get(name)
+        return self.where(further) if further else key
 
     def closure(self, roots):
         """The definitions below these, each once, in the order of reading."""
         found, waiting = {}, list(reversed(roots))
         while waiting:
             key = waiting.pop()
-            if key in self.definitions and key not in found:
+            if key in self.definitions and key not in self.laws and key not in found:
                 found[key] = None
                 waiting += reversed(self.named_by(key))
         return list(found)
@@ -121,6 +161,15 @@ def table(rows):
     return "\n".join([COLUMNS, "|---|---|---|---|---|---|"] + [f"| {it[0]} | {it[1]} | {it[2]:,} | {it[3]:,} | {it[4]} | {it[5]} |" for it in rows]) + "\n"
 
 
+def subject_table(book):
+    keys = book.closure([root_of(SENTENCES[8][0])])
+    parts = {it: [key for key in keys if key[0].split(".")[0].removeprefix("oa_") in crates.split()] for it, crates in SUBJECTS.items()}
+    rows = [f"| {it} | {len(some):,} | {book.lines(some):,} |" for it, some in parts.items()]
+    if sum(map(len, parts.values())) != len(keys):
+        sys.exit("a crate below IsLived has no subject")
+    return "\n".join([SUBJECT_COLUMNS, "|---|---|---|", *rows]) + "\n"
+
+
 def write(book, folder):
     os.makedirs(folder, exist_ok=True)
     for number, words in SENTENCES.items():
@@ -142,11 +191,11 @@ def main(words):
         page = file.read()
     if words == ["--write"]:
         with open(PAGE, "w", encoding="utf-8") as file:
-            file.write(TABLE.sub(table(rows), page, count=1))
+            file.write(SUBJECT_TABLE.sub(subject_table(book), TABLE.sub(table(rows), page, count=1), count=1))
     elif words == ["--check"]:
-        is_told = table(rows) in page
+        is_told = table(rows) in page and subject_table(book) in page
         if not is_told:
-            print("docs/reading-the-proofs.md has another table: python3 tools/spec.py --write")
+            print("docs/reading-the-proofs.md has other tables: python3 tools/spec.py --write")
         long = [f"{name}: {many} definitions, for {LIMITS[name.strip('`')]}" for _, name, many, *_ in rows if many > LIMITS.get(name.strip("`"), many)]
         print("\n".join(long), end="\n" if long else "")
         return 0 if is_told and not long else 1

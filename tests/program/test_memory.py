@@ -58,7 +58,9 @@ class Memory(Cases):
                     taken, peak = resident_of(session.child.pid), peak_of(session.child.pid)
             nothing = nothing or taken
             self.tell(f"{what} take at most {most} times their image", taken - nothing <= most * size, (taken - nothing, size))
-            self.tell(f"{what}: at most 1.2 times that while the store opens", peak - nothing <= 1.2 * (taken - nothing) + PAGES, (peak - nothing, taken - nothing))
+            self.tell(
+                f"{what}: at most 1.2 times that while the store opens", peak - nothing <= 1.2 * (taken - nothing) + PAGES, (peak - nothing, taken - nothing)
+            )
 
     def test_a_session_in_little_memory(self):
         body = struct.pack("<I", 1) + oaut.ask_create(worked.ITEM)

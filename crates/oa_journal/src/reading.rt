@@ -6,7 +6,7 @@ ghost use Rattle.oa_journal.specs.declared.bank.BankFault.{BankFault};
 ghost use Rattle.oa_journal.specs.Bank.{from_place, IsGroupAt, HasHeader, HasLibrary};
 ghost use Rattle.oa_journal.specs.Damages.{HasNoHeader, HasSnapshot, IsDamagedBank, IsNoGroup, StopsAt};
 ghost use Rattle.oa_journal.specs.BankCalls.{BodyWithin, PartsWithin};
-ghost use Rattle.oa_journal.specs.ReadCalls.{FindsBank, FindsGroup, FindsGroups, FindsTable, IsAhead, IsStored};
+ghost use Rattle.oa_journal.specs.ReadCalls.{FindsGroup, FindsGroups, FindsTable, IsAhead, IsStored};
 ghost use Rattle.oa_journal.specs.ReadCalls.{PassesGroup, StaysAhead, StaysStored};
 ghost use Rattle.oa_journal.specs.Reads.{AfterReads};
 ghost use Rattle.oa_journal.specs.Shapes.{body_bytes, IsShape};
@@ -300,7 +300,7 @@ fn read_groups<D: Disk>(
 }
 
 /// The table of the bank whose head and body stand at these places of a disk, and where in the body its closed gate stands. The library is
-/// not read.
+/// not looked at.
 pub(crate) fn table_at<D: Disk>(
     alloc: Global,
     disk: &mut D,
@@ -317,38 +317,10 @@ pub(crate) fn table_at<D: Disk>(
     ensures damaged { (at : ℕ) → IsErrOf result (BankFault.Damaged at)
         → IsTrue (D.is_honest disk.new) → IsDamagedBank shape head body (D.contents disk.old) at }
 
-    ensures after { AfterReads D.Disk (10 + body_bytes shape) disk.old disk.new result }
+    ensures after { AfterReads D.Disk (8 + body_bytes shape) disk.old disk.new result }
 {
     let (told, first) = first_at(alloc, disk, shape, head, body)?;
-    let from = told.library + told.snapshot;
-    let (table, gate, buffer) =
-        read_groups(alloc, disk, body, shape.body_bytes(), from, first, buffer)?;
-    Ok((table, gate, buffer))
-}
-
-/// The library and the table of the bank whose head and body stand at these places of a disk, and where in the body its closed gate
-/// stands.
-pub(crate) fn bank_at<D: Disk>(
-    alloc: Global,
-    disk: &mut D,
-    shape: Shape,
-    head: u64,
-    body: u64,
-    buffer: Vec<u8>,
-) -> Result<(Vec<u8>, Table, u32, Vec<u8>), BankFault>
-    requires lies { PartsWithin (D.size_of disk.old) head body (body_bytes shape) }
-    requires some { 5 ≤ length buffer.items }
-
-    ensures found { IfOk result (λ r. FindsBank D.Disk shape head body disk.old disk.new r.0.items r.1 r.2) }
-    ensures buffer { IfOk result (λ r. length r.3.items ≡ length buffer.items) }
-    ensures damaged { (at : ℕ) → IsErrOf result (BankFault.Damaged at)
-        → IsTrue (D.is_honest disk.new) → IsDamagedBank shape head body (D.contents disk.old) at }
-
-    ensures after { AfterReads D.Disk (12 + body_bytes shape) disk.old disk.new result }
-{
-    let (told, first) = first_at(alloc, disk, shape, head, body)?;
-    let library = read_part(alloc, disk, body, told.library as usize)?;
-    let (table, gate, buffer) = read_groups(
+    read_groups(
         alloc,
         disk,
         body,
@@ -356,6 +328,5 @@ pub(crate) fn bank_at<D: Disk>(
         told.library + told.snapshot,
         first,
         buffer,
-    )?;
-    Ok((library, table, gate, buffer))
+    )
 }

@@ -14,9 +14,10 @@ ghost use Rattle.oa_journal.specs.Shapes.{body_bytes, IsShape};
 use crate::ahead::DiskAhead;
 use crate::groups::replay;
 use crate::head::{Head, head_at};
+use crate::snapshot::read_snapshot;
 use crate::{BankFault, Shape};
 use oa_disk::Disk;
-use oa_image::{ImageFault, read_table};
+use oa_image::ImageFault;
 use oa_table::Table;
 use std::alloc::{AllocError, Global};
 
@@ -183,16 +184,13 @@ fn first_at<D: Disk>(
     ensures damaged { (at : ℕ) → IsErrOf result (BankFault.Damaged at)
         → IsTrue (D.is_honest disk.new) → IsDamagedBank shape head body (D.contents disk.old) at }
 
-    ensures after { AfterReads D.Disk 4 disk.old disk.new result }
+    ensures calls { IfOk result (λ r. IsTrue (D.is_honest disk.new) → D.moment disk.new ≤ D.moment disk.old + (2 + r.0.snapshot)) }
+    ensures after { AfterReads D.Disk (3 + body_bytes shape) disk.old disk.new result }
 {
     let told = head_of(disk, shape, head)?;
     let at = body + u64::from(told.library);
-    let bytes = read_part(alloc, disk, at, told.snapshot as usize)?;
-    match read_table(alloc, &bytes) {
-        Ok(first) => Ok((told, first)),
-        Err(ImageFault::Damaged(_)) => Err(BankFault::Damaged(at)),
-        Err(ImageFault::Memory) => Err(BankFault::Memory),
-    }
+    let first = read_snapshot(alloc, disk, at, told.snapshot)?;
+    Ok((told, first))
 }
 
 /// The bytes of the group behind the open gate at that place of a body. The next gate stands 5 bytes and the group's length further on.

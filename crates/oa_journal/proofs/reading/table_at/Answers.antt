@@ -6,7 +6,6 @@ use Rattle.oa_journal.specs.Shapes.{body_bytes}
 use Rattle.oa_journal.specs.declared.bank.BankFault.{BankFault}
 use Rattle.oa_journal.specs.declared.bank.BankFault.TheVariants as banks
 use Rattle.oa_journal.proofs.Damages.{behind_library, library_long}
-use Rattle.oa_journal.proofs.Banks.{image_long}
 use Rattle.oa_journal.proofs.reading.table_at.Goals as goal
 
 pub returns-clause-damaged : goal.returns-clause-damaged
@@ -47,5 +46,5 @@ returns-clause-found g c = IfOk-weaker c.read_groups.result _ _ (λ r rows.
       calls = λ h library has.
           let h1 = c.read_groups.ensures.after.calls.honest h in
           let found = c.in_ok-told.ensures.found h1 in
-          omega (arith, library_long c.args.shape (from_place c.args.head disk) (from_place c.args.body disk) library told.library told.snapshot c.in_ok-told.first has found, found.long, image_long c.in_ok-told.first, c.first_at.ensures.after.most h1, rows.calls h);
+          omega (arith, library_long c.args.shape (from_place c.args.head disk) (from_place c.args.body disk) library told.library told.snapshot c.in_ok-told.first has found, c.in_ok-told.ensures.calls h1, rows.calls h);
     }) c.read_groups.ensures.found

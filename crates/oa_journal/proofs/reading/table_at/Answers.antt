@@ -1,4 +1,4 @@
-use Rattle.std.proofs.Common.{◌≡◌, ◌∙◌, ◌+◌, ◌<◌, inl, inr, ap, subst, sym, Err, ℕ, List, arith}
+use Rattle.std.proofs.Common.{◌≡◌, ◌∙◌, ◌+◌, ◌-◌, ◌<◌, inl, inr, ap, subst, sym, Err, ℕ, List, arith}
 use Rattle.std.proofs.lemmas.Result.{err_from_is_err_and, IfOk-weaker}
 use Rattle.oa_journal.specs.Bank.{from_place, AreGroups}
 use Rattle.oa_journal.specs.Damages.{StopsAt}
@@ -6,6 +6,7 @@ use Rattle.oa_journal.specs.Shapes.{body_bytes}
 use Rattle.oa_journal.specs.declared.bank.BankFault.{BankFault}
 use Rattle.oa_journal.specs.declared.bank.BankFault.TheVariants as banks
 use Rattle.oa_journal.proofs.Damages.{behind_library, library_long}
+use Rattle.oa_journal.proofs.ReadOn.{reads_then}
 use Rattle.oa_journal.proofs.reading.table_at.Goals as goal
 
 pub returns-clause-damaged : goal.returns-clause-damaged
@@ -48,3 +49,19 @@ returns-clause-found g c = IfOk-weaker c.read_groups.result _ _ (λ r rows.
           let found = c.in_ok-told.ensures.found h1 in
           omega (arith, library_long c.args.shape (from_place c.args.head disk) (from_place c.args.body disk) library told.library told.snapshot c.in_ok-told.first has found, c.in_ok-told.ensures.calls h1, rows.calls h);
     }) c.read_groups.ensures.found
+
+pub returns-clause-after : goal.returns-clause-after
+returns-clause-after g c =
+    let told = c.in_ok-told.told in
+    let size = c.body_bytes.result in
+    let behind = 6 + (size - (told.library + told.snapshot)) in
+    let all = reads_then g.D.Disk (3 + body_bytes c.args.shape) behind (3 + body_bytes c.args.shape + behind) c.in_ok-told.ensures.after c.read_groups.ensures.after (omega arith) in
+    record {
+      reads = all.reads;
+      calls = all.calls;
+      device = all.device;
+      cause = all.cause;
+      most = λ h.
+          let h1 = c.read_groups.ensures.after.calls.honest h in
+          omega (arith, c.in_ok-told.ensures.known.1, c.in_ok-told.ensures.calls h1, c.body_bytes.ensures, c.read_groups.ensures.after.most h);
+    }

@@ -26,7 +26,7 @@ place_bytes : (p : PlaceValue) → 0 < length (place.image p)
 unfolding place next_by made_where i32 u32 raw
 place_bytes p = omega (arith, length-append (guid.image p.interface) (i32.image p.dispid ++ key.image p.key), length-append (i32.image p.dispid) (key.image p.key))
 
-cell_bytes : (c : PlaceValue × Variant) → 0 < length (cell.image c)
+pub cell_bytes : (c : PlaceValue × Variant) → 0 < length (cell.image c)
 unfolding cell next_by
 cell_bytes c = omega (arith, place_bytes c.0, length-append (place.image c.0) (value.image c.1))
 

@@ -1,16 +1,15 @@
 -- Events keep the numbers of a table's objects between 1 and the next one.
 use Rattle.std.proofs.Common.{◌≡◌, ℕ, ◌+◌, Bool, true, false, cond, eqb, leb, ltb, List, [], ◌∷◌, Option, Some, None, Result, Ok, Err, IfOk}
 use Rattle.std.proofs.Common.{refl, sym, ap, subst, arith}
-use Rattle.std.specs.Prelude.{◌≤◌, ◌<◌, ◌&&◌, nat_lt, All, map}
+use Rattle.std.specs.Prelude.{◌&&◌, nat_lt}
 use Rattle.std.specs.List.{list_all}
-use Rattle.std.specs.Map.{keys_of, remove_entry, set_value}
+use Rattle.std.specs.Map.{remove_entry, set_value}
 use Rattle.std.specs.BTreeMap.{insert_entry, is_at}
 use Rattle.std.specs.Ordering.{match_ordering, nat_cmp}
 use Rattle.std.specs.declared.cmp.Ordering.{Ordering}
 use Rattle.std.specs.declared.cmp.Ordering.TheVariants.{Less, Equal, Greater}
 use Rattle.std.proofs.lemmas.Bool.{and_parts, eqb-true, ltb-true, lt-ltb}
-use Rattle.std.proofs.lemmas.List.Elements.{All-head, All-tail}
-use Rattle.std.proofs.lemmas.List.Folds.{list_all-map}
+use Rattle.std.proofs.lemmas.List.Folds.{list_all-append, list_all-map}
 use Rattle.oa_model.specs.Limits.{greatest_object_number}
 use Rattle.oa_array.specs.declared.fault.ArrayFault.TheVariants as arrays
 use Rattle.oa_table.specs.declared.event.Event.{Event}
@@ -21,7 +20,7 @@ use Rattle.oa_table.specs.Elements.{with_element_put, redimensioned_value}
 use Rattle.oa_table.specs.Events.{applied, changed_if_live, created, on_object, released_if_live, with_object}
 use Rattle.oa_table.specs.Objects.{any_locked, with_change, with_put}
 use Rattle.oa_table.specs.Outcomes.{mapped}
-use Rattle.oa_table.specs.Parts.{AreParts, ordered_object, table_of, with_entries}
+use Rattle.oa_table.specs.Parts.{CanBeLast, with_last}
 use Rattle.oa_table.specs.Tables.{ObjectValue, TableValue, object_at, unlocked_entry, unlocked_table}
 use Rattle.oa_image.specs.Tables.{is_numbered, is_used}
 
@@ -57,12 +56,6 @@ module _ {K X : Type 0} (p : K → Bool) where
       by : (b : Bool) → good (set_value test es w) ≡ good es → good (cond b ((e.0, w) ∷ es) (e ∷ set_value test es w)) ≡ good (e ∷ es)
       by true h = refl
       by false h = ap (λ (b : Bool). p e.0 && b) h
-
-  good_entries : (cmp : K → K → Ordering) (there es : List (K × X)) → good there ≡ true → good es ≡ true → good (with_entries cmp there es) ≡ true
-  good_entries cmp there [] all more = all
-  good_entries cmp there (e ∷ es) all more =
-      let parts = and_parts (p e.0) (good es) more in
-      good_entries cmp (insert_entry cmp there e.0 e.1) es (good_inserted cmp there e.0 e.1 all parts.0) parts.1
 
 good_weaker : {K X : Type 0} (p q : K → Bool) → ((k : K) → p k ≡ true → q k ≡ true) → (es : List (K × X)) → good p es ≡ true
     → good q es ≡ true
@@ -142,16 +135,9 @@ numbers_stay event old new h e = subst (λ (r : Result TableValue TableFault). I
 pub unlocked_numbers : (t : TableValue) → is_numbered (unlocked_table t) ≡ is_numbered t
 unlocked_numbers t = ap (λ (b : Bool). nat_lt 0 t.next && b) (list_all-map (is_used t.next) unlocked_entry t.objects)
 
--- ---- the parts of a table
-
-all_used : (next : ℕ) (objects : List (ℕ × ObjectValue)) → All (λ number. (1 ≤ number) × (number < next)) (keys_of objects)
-    → good (used next) objects ≡ true
-all_used next [] all = refl
-all_used next (o ∷ objects) all =
-    let first = All-head (λ number. (1 ≤ number) × (number < next)) o.0 (keys_of objects) all in
-    rw (lt-ltb 0 o.0 (omega (arith, first.0)), lt-ltb o.0 next first.1, all_used next objects (All-tail (λ number. (1 ≤ number) × (number < next)) o.0 (keys_of objects) all)) refl
-
-pub parts_are_numbered : (next : ℕ) (objects : List (ℕ × ObjectValue)) → AreParts next objects → is_numbered (table_of next objects) ≡ true
-parts_are_numbered next objects parts =
-    let all : good (used next) (map ordered_object objects) ≡ true = rw (list_all-map (λ (e : ℕ × ObjectValue). used next e.0) ordered_object objects) (all_used next objects parts.numbers) in
-    rw (lt-ltb 0 next (omega (arith, parts.positive)), good_entries (used next) nat_cmp [] (map ordered_object objects) refl all) refl
+-- one object more, behind the others
+pub pushed_numbers_stay : (number : ℕ) (object : ObjectValue) (t : TableValue) → CanBeLast number object t → IsNumbered t → IsNumbered (with_last number object t)
+pushed_numbers_stay number object t can h =
+    let parts = and_parts (ltb 0 t.next) (list_all (is_used t.next) t.objects) h in
+    let here : used t.next number ≡ true = rw (lt-ltb 0 number (omega (arith, can.positive)), lt-ltb number t.next can.used) refl in
+    rw (parts.0, list_all-append (is_used t.next) t.objects ((number, object) ∷ []), parts.1, here) refl

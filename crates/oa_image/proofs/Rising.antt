@@ -1,5 +1,5 @@
--- Walks over lists that should rise, and what a list has that does.
-use Rattle.std.proofs.Common.{◌≡◌, ℕ, zero, suc, ◌<◌, ◌≤◌, Bool, true, false, cond, List, [], ◌∷◌, length, get_or, drop, map, refl, arith}
+-- Lists that rise.
+use Rattle.std.proofs.Common.{◌≡◌, suc, ◌-◌, Bool, true, false, cond, List, [], ◌∷◌, ◌++◌, length, slice_get, map, Some, refl, ap, arith}
 use Rattle.std.specs.List.{AllByRecursion}
 use Rattle.std.specs.List.Sorted.{IsStrictlySortedBy}
 use Rattle.std.specs.Map.{keys_of}
@@ -7,32 +7,8 @@ use Rattle.std.specs.Cmp.{IsTotalOrder}
 use Rattle.std.specs.Ordering.{is_lt}
 use Rattle.std.specs.declared.cmp.Ordering.{Ordering}
 use Rattle.std.specs.declared.cmp.Ordering.TheVariants.{Less, Equal, Greater}
-use Rattle.oa_layout.specs.Formats.{rising}
-
-pub drop_zero : {A : Type 0} (xs : List A) → drop 0 xs ≡ xs
-drop_zero xs = refl
-
-pub step : {A : Type 0} (before : A → A → Bool) (xs : List A) (i : ℕ) (d : A) → suc i < length xs
-    → before (get_or xs i d) (get_or xs (suc i) d) ≡ true → rising before (drop (suc i) xs) ≡ rising before (drop i xs)
-step before [] i d lt e = absurd (omega (arith, lt))
-step before (x ∷ []) i d lt e = absurd (omega (arith, lt))
-step before (x ∷ y ∷ xs) zero d lt e = rw e refl
-step before (x ∷ y ∷ xs) (suc i) d lt e = step before (y ∷ xs) i d (omega (arith, lt)) e
-
-pub fall : {A : Type 0} (before : A → A → Bool) (xs : List A) (i : ℕ) (d : A) → suc i < length xs
-    → before (get_or xs i d) (get_or xs (suc i) d) ≡ false → rising before (drop i xs) ≡ false
-fall before [] i d lt e = absurd (omega (arith, lt))
-fall before (x ∷ []) i d lt e = absurd (omega (arith, lt))
-fall before (x ∷ y ∷ xs) zero d lt e = rw e refl
-fall before (x ∷ y ∷ xs) (suc i) d lt e = fall before (y ∷ xs) i d (omega (arith, lt)) e
-
-pub last : {A : Type 0} (before : A → A → Bool) (xs : List A) (i : ℕ) → length xs ≤ suc i → rising before (drop i xs) ≡ true
-last before [] zero lt = refl
-last before [] (suc i) lt = refl
-last before (x ∷ []) zero lt = refl
-last before (x ∷ []) (suc i) lt = last before [] i (omega arith)
-last before (x ∷ y ∷ xs) zero lt = absurd (omega (arith, lt))
-last before (x ∷ y ∷ xs) (suc i) lt = last before (y ∷ xs) i (omega (arith, lt))
+use Rattle.oa_layout.specs.Formats.{rising, same_content}
+use Rattle.oa_image.specs.Reader.{is_behind}
 
 less : (o : Ordering) → is_lt o ≡ true → o ≡ Less
 less Less e = refl
@@ -42,6 +18,28 @@ less Greater e = absurd cc
 both : (b c : Bool) → cond b c false ≡ true → (b ≡ true) × (c ≡ true)
 both true c e = (refl, e)
 both false c e = absurd cc
+
+-- one more, behind the last
+pub joined : {A : Type 0} (before : A → A → Bool) (xs : List A) (x : A) → rising before xs ≡ true → is_behind before xs x ≡ true
+    → rising before (xs ++ x ∷ []) ≡ true
+joined before [] x r b = refl
+joined before (y ∷ []) x r b = rw b refl
+joined before (y ∷ z ∷ xs) x r b = let p = both (before y z) (rising before (z ∷ xs)) r in rw p.0 (joined before (z ∷ xs) x p.1 b)
+
+pub apart : {A : Type 0} (before : A → A → Bool) (xs : List A) (x : A) (ys : List A) → rising before (xs ++ x ∷ ys) ≡ true
+    → is_behind before xs x ≡ true
+apart before [] x ys r = refl
+apart before (y ∷ []) x ys r = (both (before y x) (rising before (x ∷ ys)) r).0
+apart before (y ∷ z ∷ xs) x ys r = apart before (z ∷ xs) x ys (both (before y z) (rising before (z ∷ xs ++ x ∷ ys)) r).1
+
+-- the last one is the one before it
+pub last_one : {A : Type 0} (before : A → A → Bool) (xs : List A) (l x : A) → Some l ≡ slice_get xs (length xs - 1) → before l x ≡ is_behind before xs x
+last_one before [] l x e = absurd cc
+last_one before (y ∷ []) l x e = ap (λ z. before z x) (same_content l y e)
+last_one before (y ∷ z ∷ ys) l x e =
+    let one : length (y ∷ z ∷ ys) - 1 ≡ suc (length ys) = omega arith in
+    let two : length (z ∷ ys) - 1 ≡ length ys = omega arith in
+    last_one before (z ∷ ys) l x (rw two (rw one at e))
 
 above_all : {K : Type 0} (cmp : K → K → Ordering) (total : IsTotalOrder cmp) (k l : K) (ks : List K) → cmp k l ≡ Less
     → AllByRecursion (λ j. cmp l j ≡ Less) ks → AllByRecursion (λ j. cmp k j ≡ Less) ks

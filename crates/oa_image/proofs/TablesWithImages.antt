@@ -1,29 +1,20 @@
 -- What is true of a table that has an image.
-use Rattle.std.proofs.Common.{◌≡◌, ℕ, ◌<◌, ◌≤◌, true, ltb, List, [], ◌∷◌, map, refl, sym, ◌∙◌}
-use Rattle.std.specs.Prelude.{IfOk, Result, Ok, Err}
-use Rattle.std.specs.List.{AllByRecursion, flat_map, list_all}
-use Rattle.std.specs.List.Sorted.{IsStrictlySortedBy}
-use Rattle.std.specs.Map.{keys_of, values_of}
-use Rattle.std.specs.Ordering.{nat_cmp}
-use Rattle.std.proofs.lemmas.Bool.{ltb-true, and_parts}
-use Rattle.std.proofs.lemmas.Cmp.{nat_cmp_total}
-use Rattle.std.proofs.lemmas.List.Elements.{All-from_recursion}
+use Rattle.std.proofs.Common.{◌≡◌, ℕ, ◌^◌, ◌<◌, true, List, [], ◌∷◌, length, map, refl, sym, ◌∙◌}
+use Rattle.std.specs.List.{AllByRecursion, flat_map}
+use Rattle.std.specs.Map.{values_of}
 use Rattle.std.proofs.lemmas.List.{length-map}
-use Rattle.std.proofs.lemmas.Map.Keys.{IsDistinct-from_sorted}
 use Rattle.oa_variant.specs.declared.variant.Variant.{Variant}
 use Rattle.oa_variant.specs.declared.variant.Variant.TheVariants as variants
 use Rattle.oa_table.specs.Elements.{locks_of}
-use Rattle.oa_table.specs.Parts.{AreParts, IsObject, table_of}
-use Rattle.oa_table.specs.Places.{PlaceValue, place_cmp, places_total}
+use Rattle.oa_table.specs.Places.{PlaceValue}
 use Rattle.oa_table.specs.Tables.{ObjectValue, TableValue, unlocked_cell, unlocked_entry, unlocked_table}
-use Rattle.oa_table.proofs.Ordered.{table_stays}
-use Rattle.oa_layout.specs.Formats.{next_by, made_where, coded, counted, only, times, tagged, case}
+use Rattle.oa_layout.specs.Formats.{raw, next_by, made_where, coded, counted, only, rising, times, tagged, case}
 use Rattle.oa_layout.specs.Arrays.{array_of}
+use Rattle.oa_layout.specs.Numbers.{u32, guid}
 use Rattle.oa_layout.specs.Variants.{content, value}
 use Rattle.oa_layout.proofs.Conditions.{same_unlocked}
 use Rattle.oa_layout.proofs.Exact.{one_value}
-use Rattle.oa_image.specs.Tables.{cell, cells, object, objects, is_used, table}
-use Rattle.oa_image.proofs.Rising.{sorted}
+use Rattle.oa_image.specs.Tables.{before, cell, cells, is_numbered, object, objects, older, table}
 
 -- a value that has an image has no locks
 pub no_locks : (v : Variant) → value.Is v → locks_of v ≡ 0
@@ -31,59 +22,42 @@ unfolding value content tagged case array_of made_where
 no_locks (variants.One s) h = refl
 no_locks (variants.Array a) h = h.1.1.1
 
-each_value : (es : List (PlaceValue × Variant)) → AllByRecursion cell.Is es → AllByRecursion (λ v. locks_of v ≡ 0) (values_of es)
+pub each_value : (es : List (PlaceValue × Variant)) → AllByRecursion cell.Is es → AllByRecursion (λ v. locks_of v ≡ 0) (values_of es)
 unfolding cell next_by
 each_value [] h = tt
 each_value (e ∷ es) h = (no_locks e.1 h.0.1, each_value es h.1)
 
-abbrev CellsSorted : ObjectValue → Type 0
-CellsSorted o = IsStrictlySortedBy place_cmp (keys_of o.cells)
+-- what an object has that has an image
+pub record ObjectParts (o : ℕ × ObjectValue) : Type 0 where
+  pub number : o.0 < 2 ^ 32
+  pub class : length o.1.class ≡ 16
+  pub few : length o.1.cells < 2 ^ 32
+  pub all : AllByRecursion cell.Is o.1.cells
+  pub rises : rising before o.1.cells ≡ true
 
-cells_sorted : (o : ℕ × ObjectValue) → object.Is o → CellsSorted o.1
-unfolding object cells only counted coded made_where next_by
-cells_sorted o h = sorted place_cmp places_total o.1.cells h.1.1.1
+pub object_parts : (o : ℕ × ObjectValue) → object.Is o → ObjectParts o
+unfolding object cells only counted coded made_where next_by u32 guid times raw
+object_parts o h = record { number = h.0; class = h.1.0; few = h.1.1.0.0; all = h.1.1.0.1; rises = h.1.1.1 }
 
-is_object : (o : ℕ × ObjectValue) → object.Is o → IsObject o.1
-unfolding object cells only counted coded made_where next_by
-is_object o h = record {
-  distinct = IsDistinct-from_sorted place_cmp (keys_of o.1.cells) (cells_sorted o h);
-  unlocked = All-from_recursion (λ v. locks_of v ≡ 0) (values_of o.1.cells) (each_value o.1.cells h.1.1.0.1);
-}
+pub is_object : (o : ℕ × ObjectValue) → ObjectParts o → object.Is o
+unfolding object cells only counted coded made_where next_by u32 guid times raw
+is_object o p = (p.number, (p.class, ((p.few, p.all), p.rises)))
 
-each_object : (os : List (ℕ × ObjectValue)) → AllByRecursion object.Is os → AllByRecursion IsObject (values_of os)
-each_object [] h = tt
-each_object (o ∷ os) h = (is_object o h.0, each_object os h.1)
+-- and a table
+pub record TableParts (t : TableValue) : Type 0 where
+  pub next : t.next < 2 ^ 32
+  pub few : length t.objects < 2 ^ 32
+  pub all : AllByRecursion object.Is t.objects
+  pub rises : rising older t.objects ≡ true
+  pub numbered : is_numbered t ≡ true
 
-each_sorted : (os : List (ℕ × ObjectValue)) → AllByRecursion object.Is os → AllByRecursion CellsSorted (values_of os)
-each_sorted [] h = tt
-each_sorted (o ∷ os) h = (cells_sorted o h.0, each_sorted os h.1)
+pub table_parts : (t : TableValue) → table.Is t → TableParts t
+unfolding table objects only counted coded made_where next_by u32 times raw
+table_parts t h = record { next = h.0.0; few = h.0.1.0.0; all = h.0.1.0.1; rises = h.0.1.1; numbered = h.1 }
 
-each_number : (next : ℕ) (os : List (ℕ × ObjectValue)) → list_all (is_used next) os ≡ true
-    → AllByRecursion (λ n. (1 ≤ n) × (n < next)) (keys_of os)
-each_number next [] e = tt
-each_number next (o ∷ os) e =
-    let one = and_parts (is_used next o) (list_all (is_used next) os) e in
-    let two = and_parts (ltb 0 o.0) (ltb o.0 next) one.0 in
-    ((ltb-true 0 o.0 two.0, ltb-true o.0 next two.1), each_number next os one.1)
-
-pub are_parts : (t : TableValue) → table.Is t → AreParts t.next t.objects
-unfolding table objects only counted coded made_where next_by
-are_parts t h =
-    let numbered = and_parts (ltb 0 t.next) (list_all (is_used t.next) t.objects) h.1 in
-    record {
-      positive = ltb-true 0 t.next numbered.0;
-      numbers = All-from_recursion (λ n. (1 ≤ n) × (n < t.next)) (keys_of t.objects) (each_number t.next t.objects numbered.1);
-      distinct = IsDistinct-from_sorted nat_cmp (keys_of t.objects) (sorted nat_cmp nat_cmp_total t.objects h.0.1.1);
-      each = All-from_recursion IsObject (values_of t.objects) (each_object t.objects h.0.1.0.1);
-    }
-
-pub stays : (t : TableValue) → table.Is t → table_of t.next t.objects ≡ t
-unfolding table objects only counted coded made_where next_by
-stays t h = table_stays t.next t.objects (sorted nat_cmp nat_cmp_total t.objects h.0.1.1) (each_sorted t.objects h.0.1.0.1)
-
-pub same_answer : {A E : Type 0} {x y : A} (r : Result A E) → x ≡ y → IfOk r (λ t. t ≡ x) → IfOk r (λ t. t ≡ y)
-same_answer (Ok t) e h = h ∙ e
-same_answer (Err f) e h = tt
+pub is_table : (t : TableValue) → TableParts t → table.Is t
+unfolding table objects only counted coded made_where next_by u32 times raw
+is_table t p = ((p.next, ((p.few, p.all), p.rises)), p.numbered)
 
 -- ---- images hold no locks
 

@@ -1,6 +1,5 @@
 -- The table of a bank has no locks.
 use Rattle.std.proofs.Common.{◌≡◌, ℕ, List, [], ◌∷◌, map, Result, Ok, Err, refl, sym, ap, subst, ◌∙◌}
-use Rattle.std.proofs.lemmas.List.Elements.{recursion_from_All}
 use Rattle.std.specs.List.{AllByRecursion}
 use Rattle.std.specs.Map.{values_of}
 use Rattle.oa_array.specs.Arrays.{with_locks}
@@ -11,14 +10,13 @@ use Rattle.oa_table.specs.declared.event.Event.{Event}
 use Rattle.oa_table.specs.declared.fault.TableFault.{TableFault}
 use Rattle.oa_table.specs.Elements.{locks_of}
 use Rattle.oa_table.specs.Events.{applied}
-use Rattle.oa_table.specs.Parts.{IsObject}
 use Rattle.oa_table.specs.Places.{PlaceValue}
 use Rattle.oa_table.specs.Tables.{ObjectValue, TableValue, unlocked_cell, unlocked_entry, unlocked_table}
 use Rattle.oa_table.proofs.Unlocked.{event_follows}
 use Rattle.oa_image.specs.Events.{event}
-use Rattle.oa_image.specs.Tables.{table}
+use Rattle.oa_image.specs.Tables.{object, table}
 use Rattle.oa_image.proofs.Unlocked.{brings_none}
-use Rattle.oa_image.proofs.TablesWithImages.{are_parts}
+use Rattle.oa_image.proofs.TablesWithImages.{each_value, object_parts, table_parts}
 use Rattle.oa_journal.specs.Replays.{Replays, ReplaysAll, applied_all, followed}
 use Rattle.oa_journal.specs.declared.shape.Shape.{Shape}
 use Rattle.oa_journal.specs.Bank.{IsBank}
@@ -34,17 +32,17 @@ cells_stay (cell ∷ cells) h =
     let rest = cells_stay cells h.1 in
     λ i. (cell.0, here i) ∷ rest i
 
-objects_stay : (objects : List (ℕ × ObjectValue)) → AllByRecursion IsObject (values_of objects) → map unlocked_entry objects ≡ objects
+objects_stay : (objects : List (ℕ × ObjectValue)) → AllByRecursion object.Is objects → map unlocked_entry objects ≡ objects
 objects_stay [] h = refl
 objects_stay (o ∷ os) h =
-    let here = cells_stay o.1.cells (recursion_from_All (λ v. locks_of v ≡ 0) (values_of o.1.cells) h.0.unlocked) in
+    let here = cells_stay o.1.cells (each_value o.1.cells (object_parts o h.0).all) in
     let rest = objects_stay os h.1 in
     λ i. (o.0, record { class = o.1.class; cells = here i }) ∷ rest i
 
 -- a table that has an image
 pub image_unlocked : (t : TableValue) → table.Is t → unlocked_table t ≡ t
 image_unlocked t h =
-    let all = objects_stay t.objects (recursion_from_All IsObject (values_of t.objects) (are_parts t h).each) in
+    let all = objects_stay t.objects (table_parts t h).all in
     λ i. record { next = t.next; objects = all i }
 
 abbrev made : TableValue → Result TableValue TableFault

@@ -1,51 +1,31 @@
--- Entries that stand in the order of their keys stay as they are.
-use Rattle.std.proofs.Common.{◌≡◌, List, [], ◌∷◌, ◌++◌, map, ℕ, refl, sym, ap, ◌∙◌, subst, append_assoc, append-nil}
-use Rattle.std.specs.List.{AllByRecursion}
-use Rattle.std.specs.List.Sorted.{IsStrictlySortedBy}
+-- An entry whose key is above all others goes last.
+use Rattle.std.proofs.Common.{◌≡◌, ◌+◌, ◌<◌, ℕ, eqb, false, List, [], ◌∷◌, ◌++◌, refl, ap, arith}
+use Rattle.std.specs.Prelude.{All}
 use Rattle.std.specs.Map.{keys_of, values_of}
 use Rattle.std.specs.BTreeMap.{insert_entry}
-use Rattle.std.specs.Cmp.{IsTotalOrder}
-use Rattle.std.specs.Ordering.{nat_cmp, ordering_reverse}
-use Rattle.std.specs.declared.cmp.Ordering.{Ordering}
-use Rattle.std.specs.declared.cmp.Ordering.TheVariants.{Less, Greater}
-use Rattle.std.proofs.lemmas.Cmp.{nat_cmp_total}
-use Rattle.oa_table.specs.Parts.{in_order, ordered_object, table_of, with_entries}
-use Rattle.oa_table.specs.Places.{place_cmp, places_total}
-use Rattle.oa_table.specs.Tables.{ObjectValue}
+use Rattle.std.specs.Ordering.{nat_cmp}
+use Rattle.std.specs.declared.cmp.Ordering.TheVariants.{Greater}
+use Rattle.std.proofs.lemmas.Bool.{eqb-true, false_from_ne_true, le-ltb}
+use Rattle.std.proofs.lemmas.List.{map-append}
+use Rattle.std.proofs.lemmas.List.Elements.{All-head, All-tail}
+use Rattle.std.proofs.lemmas.List.Sums.{sum_by-append}
+use Rattle.oa_table.specs.Parts.{with_last}
+use Rattle.oa_table.specs.Sizes.{object_size, table_size}
+use Rattle.oa_table.specs.Tables.{ObjectValue, TableValue}
 
-above : {K : Type 0} (cmp : K → K → Ordering) → IsTotalOrder cmp → (k f : K) → cmp f k ≡ Less → cmp k f ≡ Greater
-above cmp total k f h = total.antisymm k f ∙ ap ordering_reverse h
+above : (k f : ℕ) → f < k → nat_cmp k f ≡ Greater
+above k f lt =
+    let other : eqb k f ≡ false = false_from_ne_true (eqb k f) (λ e. let same = eqb-true k f e in absurd (omega (arith, lt, same))) in
+    rw (le-ltb k f (omega (arith, lt)), other) refl
 
-module _ {K X : Type 0} (cmp : K → K → Ordering) (total : IsTotalOrder cmp) where
-  -- what holds of all keys holds of the one between
-  at_key : (P : K → Type 0) (front : List (K × X)) (e : K × X) (es : List (K × X)) → AllByRecursion P (keys_of (front ++ e ∷ es)) → P e.0
-  at_key P [] e es h = h.0
-  at_key P (f ∷ fs) e es h = at_key P fs e es h.1
+pub goes_last : {X : Type 0} (es : List (ℕ × X)) (k : ℕ) (x : X) → All (λ other. other < k) (keys_of es) → insert_entry nat_cmp es k x ≡ es ++ (k, x) ∷ []
+goes_last [] k x h = refl
+goes_last (e ∷ es) k x h =
+    rw (above k e.0 (All-head (λ other. other < k) e.0 (keys_of es) h)) (ap (λ tail. e ∷ tail) (goes_last es k x (All-tail (λ other. other < k) e.0 (keys_of es) h)))
 
-  -- an entry above all others goes last
-  goes_last : (front : List (K × X)) (e : K × X) (es : List (K × X)) → IsStrictlySortedBy cmp (keys_of (front ++ e ∷ es)) → insert_entry cmp front e.0 e.1 ≡ front ++ e ∷ []
-  unfolding IsStrictlySortedBy
-  goes_last [] e es h = refl
-  goes_last (f ∷ fs) e es h = rw (above cmp total e.0 f.0 (at_key (λ k. cmp f.0 k ≡ Less) fs e es h.0)) (ap (λ tail. f ∷ tail) (goes_last fs e es h.1))
-
-  go_last : (front es : List (K × X)) → IsStrictlySortedBy cmp (keys_of (front ++ es)) → with_entries cmp front es ≡ front ++ es
-  go_last front [] h = sym (append-nil front)
-  go_last front (e ∷ es) h =
-      let more : (front ++ e ∷ []) ++ es ≡ front ++ e ∷ es = append_assoc front (e ∷ []) es in
-      rw (goes_last front e es h) (go_last (front ++ e ∷ []) es (subst (λ all. IsStrictlySortedBy cmp (keys_of all)) (sym more) h) ∙ more)
-
-  pub in_order_stays : (es : List (K × X)) → IsStrictlySortedBy cmp (keys_of es) → in_order cmp es ≡ es
-  in_order_stays es h = go_last [] es h
-
-abbrev CellsOrdered : ObjectValue → Type 0
-CellsOrdered object = IsStrictlySortedBy place_cmp (keys_of object.cells)
-
-objects_stay : (objects : List (ℕ × ObjectValue)) → AllByRecursion CellsOrdered (values_of objects) → map ordered_object objects ≡ objects
-objects_stay [] h = refl
-objects_stay (o ∷ os) h = rw (in_order_stays place_cmp places_total o.1.cells h.0) (ap (λ tail. o ∷ tail) (objects_stay os h.1))
-
-pub table_stays : (next : ℕ) (objects : List (ℕ × ObjectValue)) → IsStrictlySortedBy nat_cmp (keys_of objects) → AllByRecursion CellsOrdered (values_of objects)
-    → table_of next objects ≡ record { next = next; objects = objects }
-table_stays next objects sorted each =
-    let same : map ordered_object objects ≡ objects = objects_stay objects each in
-    rw (same, in_order_stays nat_cmp nat_cmp_total objects sorted) refl
+-- and takes as many bytes more as it has
+pub last_adds : (number : ℕ) (object : ObjectValue) (table : TableValue) → table_size (with_last number object table) ≡ table_size table + object_size object
+unfolding table_size
+last_adds number object table =
+    let parts : values_of (table.objects ++ (number, object) ∷ []) ≡ values_of table.objects ++ object ∷ [] = map-append (λ (e : ℕ × ObjectValue). e.1) table.objects ((number, object) ∷ []) in
+    rw parts (omega (arith, sum_by-append object_size (values_of table.objects) (object ∷ [])))

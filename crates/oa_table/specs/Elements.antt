@@ -3,7 +3,7 @@ use Rattle.std.specs.Prelude.{ℕ, ◌+◌, ◌-◌, ◌==◌, nat_lt, ℤ, Bool
 use Rattle.std.specs.Prelude.{Ok, Err}
 use Rattle.oa_model.specs.Limits.{max_cells, max_cell_locks}
 use Rattle.oa_model.specs.declared.bound.Bound.{Bound}
-use Rattle.oa_array.specs.Arrays.{redimensioned, with_cell, with_first, with_locks}
+use Rattle.oa_array.specs.Arrays.{ArrayValue, redimensioned, with_cell, with_first, with_locks}
 use Rattle.oa_array.specs.Boxes.{box_size}
 use Rattle.oa_array.specs.Within.{in_bounds}
 use Rattle.oa_array.specs.declared.fault.ArrayFault.{ArrayFault}
@@ -31,14 +31,16 @@ is_locked value = not (locks_of value == 0)
 abbrev pub replaced_value : Variant → Variant → Result Variant TableFault
 replaced_value value old = if locks_of old == 0 then Ok value else Err (Array arrays.IsLocked)
 
+-- an element within the bounds is set: it has to be of the array's type
+abbrev pub with_typed_element : List ℤ → Scalar → ArrayValue Scalar → Result Variant TableFault
+with_typed_element index element a =
+    if fits_type element a.elem then Ok (AnArray (with_cell a index element)) else Err (Array arrays.TypeMismatch)
+
 -- an element is set: the index list has to lie in the bounds, and then the element to be of the array's type
 abbrev pub with_element_put : List ℤ → Scalar → Variant → Result Variant TableFault
 with_element_put index element (One s) = Err NotArray
 with_element_put index element (AnArray a) =
-    if in_bounds a.bounds index
-    then (if fits_type element a.elem then Ok (AnArray (with_cell a index element))
-    else Err (Array arrays.TypeMismatch))
-    else Err (Array arrays.BadIndex)
+    if in_bounds a.bounds index then with_typed_element index element a else Err (Array arrays.BadIndex)
 
 -- the first bound is replaced: there must be no lock, and then not too many elements
 abbrev pub redimensioned_value : Bound → Variant → Result Variant TableFault

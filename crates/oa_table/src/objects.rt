@@ -1,5 +1,5 @@
 //! The objects of a table, and their changes.
-ghost use Rattle.std.specs.Prelude.{◌≡◌, ◌≤◌, ◌+◌, length, Ok, IfOk, IfErr, OnOk};
+ghost use Rattle.std.specs.Prelude.{◌≡◌, ◌<◌, ◌≤◌, ◌+◌, All, length, Ok, IfOk, IfErr, OnOk, OnErr};
 ghost use Rattle.std.specs.List.Sorted.{IsStrictlySortedBy};
 ghost use Rattle.std.specs.Map.{keys_of};
 ghost use Rattle.std.specs.Option.{option_map};
@@ -9,14 +9,13 @@ ghost use Rattle.oa_table.specs.Events.{BringsNoLocks, applied};
 ghost use Rattle.oa_table.specs.Locks.{locked_in, locks_at, with_lock, without_lock};
 ghost use Rattle.oa_table.specs.Memory.{MayWantMemory};
 ghost use Rattle.oa_table.specs.Outcomes.{CountsLocks, Does};
-ghost use Rattle.oa_table.specs.Parts.{table_of};
+ghost use Rattle.oa_table.specs.Parts.{table_with_next, with_last};
 ghost use Rattle.oa_table.specs.Sizes.{largest_cell, table_size};
-ghost use Rattle.oa_table.specs.Tables.{first_table, object_at};
+ghost use Rattle.oa_table.specs.Tables.{object_at};
 
 use crate::difference::Difference;
-use crate::parts::ordered_objects;
 use crate::value::Room;
-use crate::{CellName, Event, LiveObject, Object, TableFault};
+use crate::{CellName, Event, LiveObject, TableFault};
 use oa_array::{ArrayFault, Indices};
 use oa_model::{Bound, GREATEST_OBJECT_NUMBER};
 use oa_ordered::{Iter, OrderedMap};
@@ -47,31 +46,25 @@ fn near(number: u32) -> usize {
 }
 
 impl Objects {
-    /// The table at first: no objects, and the next number is 1. Takes no memory.
-    pub(crate) fn new(alloc: Global) -> Objects
-        ensures { result ≡ first_table }
+    /// No objects, and this next number. Takes no memory.
+    pub(crate) fn with_next(alloc: Global, next: u32) -> Objects
+        ensures { result ≡ table_with_next next }
     {
         Objects {
             alloc,
-            next: 1,
+            next,
             objects: OrderedMap::new(alloc),
         }
     }
 
-    /// The objects of a next number and of this list, in order of their numbers and each with its cells in order.
-    pub(crate) fn from_parts(
-        alloc: Global,
-        next: u32,
-        objects: Vec<Object>,
-    ) -> Result<Objects, AllocError>
-        ensures { IfOk result (λ table. table ≡ table_of next objects.items) }
+    /// Puts an object behind all others. Where no memory is found, nothing changes.
+    pub(crate) fn push(&mut self, number: u32, object: LiveObject) -> Result<(), AllocError>
+        requires { All (λ other. other < number) (keys_of self.old.objects) }
+        ensures pushed { OnOk result (self.new ≡ with_last number object self.old) }
+        ensures err { OnErr result (self.new ≡ self.old) }
     {
-        let objects = ordered_objects(alloc, objects)?;
-        Ok(Objects {
-            alloc,
-            next,
-            objects,
-        })
+        self.objects.insert(number, object)?;
+        Ok(())
     }
 
     /// The number of the next object; above the greatest one where the numbers are used up.

@@ -1,5 +1,5 @@
 //! The table of objects.
-ghost use Rattle.std.specs.Prelude.{◌≡◌, ◌<◌, ◌≤◌, ℕ, List, length, Ok, IfOk, IfErr, OnOk, MatchOption};
+ghost use Rattle.std.specs.Prelude.{◌≡◌, ◌≤◌, ℕ, List, length, Ok, IfOk, IfErr, OnOk, OnErr};
 ghost use Rattle.std.specs.List.Sorted.{IsStrictlySortedBy};
 ghost use Rattle.std.specs.Map.{keys_of};
 ghost use Rattle.std.specs.Option.{option_map};
@@ -10,7 +10,7 @@ ghost use Rattle.oa_table.specs.Events.{BringsNoLocks, applied};
 ghost use Rattle.oa_table.specs.Locks.{locked_in, locks_at, with_lock, without_lock};
 ghost use Rattle.oa_table.specs.Memory.{MayWantMemory};
 ghost use Rattle.oa_table.specs.Outcomes.{CountsLocks, Does};
-ghost use Rattle.oa_table.specs.Parts.{AreParts, table_of};
+ghost use Rattle.oa_table.specs.Parts.{CanBeLast, table_with_next, with_last};
 ghost use Rattle.oa_table.specs.Sizes as sizes;
 ghost use Rattle.oa_table.specs.Sizes.{largest_image, size_in, table_size};
 ghost use Rattle.oa_table.specs.Tables.{cell_in, class_in, first_table, object_at};
@@ -19,10 +19,10 @@ use crate::difference::Difference;
 use crate::objects::Objects;
 use crate::size::{place_size, value_size};
 use crate::value::Room;
-use crate::{CellName, Event, LiveObject, Object, TableFault};
+use crate::{CellName, Event, LiveObject, Place, TableFault};
 use oa_array::Indices;
 use oa_model::{Bound, GREATEST_OBJECT_NUMBER, MAX_CELLS, MAX_DIMENSIONS, MAX_TEXT_BYTES};
-use oa_ordered::Iter;
+use oa_ordered::{Iter, OrderedMap};
 use oa_variant::{Scalar, Variant};
 use std::alloc::{AllocError, Global};
 use std::marker::Model;
@@ -62,23 +62,40 @@ impl Table {
     pub fn new(alloc: Global) -> Table
         ensures { result ≡ first_table }
     {
+        Table::with_next(alloc, 1)
+    }
+
+    /// A table without objects that has this next number, from 1 on. Takes no memory.
+    pub fn with_next(alloc: Global, next: u32) -> Table
+        requires { 1 ≤ next }
+        ensures { result ≡ table_with_next next }
+    {
         Table {
-            objects: Objects::new(alloc),
+            objects: Objects::with_next(alloc, next),
             size: 8,
         }
     }
 
-    /// The table of a next number and these objects. The list may have any order. Numbers are from 1 to below the next one and no
-    /// number stands twice, and in no object does a place stand twice or an array have locks. Err where no memory is found.
-    pub fn from_parts(alloc: Global, next: u32, objects: Vec<Object>) -> Result<Table, AllocError>
-        requires { AreParts next objects.items }
-        ensures { IfOk result (λ table. table ≡ table_of next objects.items) }
+    /// Puts an object behind all others: its number is above theirs and below the next one, and none of its cells has locks. Err where no
+    /// memory is found, or the image would have 2^63 bytes or more: then nothing changes.
+    pub fn push(
+        &mut self,
+        number: u32,
+        class: Uuid,
+        cells: OrderedMap<Place, Variant>,
+    ) -> Result<(), AllocError>
+        requires { CanBeLast number (record { class = class; cells = cells }) self.old }
+        ensures pushed { OnOk result (self.new ≡ with_last number (record { class = class; cells = cells }) self.old) }
+        ensures err { OnErr result (self.new ≡ self.old) }
     {
-        let objects = Objects::from_parts(alloc, next, objects)?;
-        match counted(&objects) {
-            Some(size) => Ok(Table { objects, size }),
-            None => Err(AllocError),
+        let object = LiveObject::of_cells(class, cells);
+        let size = self.size as u128 + object.size();
+        if size > LARGEST_IMAGE as u128 {
+            return Err(AllocError);
         }
+        self.objects.push(number, object)?;
+        self.size = size as u64;
+        Ok(())
     }
 
     /// The number of the next object; above the greatest one where the numbers are used up.
@@ -387,21 +404,4 @@ impl Table {
     {
         self.objects.unlock(name)
     }
-}
-
-/// How many bytes the image of the objects has, together with what stands before them; None where no memory holds so many.
-#[tactic(auto, unfolding(crate::specs::Sizes::table_size))]
-fn counted(objects: &Objects) -> Option<u64>
-    ensures { MatchOption result (largest_image < table_size objects.now)
-        (λ size. (size ≡ table_size objects.now) × (size ≤ largest_image)) }
-{
-    let mut size = 8;
-    'objects: for (_number, object) in objects.objects() {
-        let total = size as u128 + object.size();
-        if total > LARGEST_IMAGE as u128 {
-            return None;
-        }
-        size = total as u64;
-    }
-    Some(size)
 }

@@ -108,6 +108,5 @@ fn changes(alloc: Global) -> Option<[bool; 4]> {
 #[test]
 fn a_table_is_changed_by_calls(rt: HostRuntime) {
     laws::locks_change_no_event();
-    laws::parts_in_order_stay();
     expect(&rt, "changes", changes(rt.alloc()) == Some([true; 4]));
 }

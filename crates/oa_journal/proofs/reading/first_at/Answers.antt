@@ -12,7 +12,7 @@ use Rattle.oa_journal.proofs.reading.first_at.Goals as goal
 
 pub returns-in_err-told-clause-damaged : goal.returns-in_err-told-clause-damaged
 returns-in_err-told-clause-damaged g c at e h =
-    let p = err_from_is_err_and c.from_residual-in_err-told.result c.from_residual-in_err-told.ensures.1 in
+    let p = err_from_is_err_and c.from_residual.result c.from_residual.ensures.1 in
     let is : c.in_err-told.field-0.0 ≡ banks.Damaged at = cc (rw (p.1, p.2) at e) in
     let damaged = c.in_err-told.ensures.damaged at (ap (λ (x : BankFault). Err x) is) in inl (damaged.0, damaged.1 h)
 
@@ -26,8 +26,8 @@ returns-in_err-first-clause-damaged g c at e h =
     let l = c.in_ok-told.told.library in
     let s = c.in_ok-told.told.snapshot in
     let place = ap (λ (k : ℕ). c.args.body + k) c.from.ensures in
-    let no = subst (λ (k : ℕ). HasNoImage (g.D.Disk.contents c.head_of.new.disk) k s) place (damaged.1 h) in
-    let stays = subst (λ (d : List ℕ). HasNoImage d (c.args.body + l) s) (c.head_of.ensures.after.reads before).contents_stay no in
+    let image = subst (λ (k : ℕ). HasNoImage (g.D.Disk.contents c.head_of.new.disk) k s) place (damaged.1 h) in
+    let stays = subst (λ (d : List ℕ). HasNoImage d (c.args.body + l) s) (c.head_of.ensures.after.reads before).contents_stay image in
     inr (
       l,
       damaged.0 ∙ place,

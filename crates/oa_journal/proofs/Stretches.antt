@@ -1,15 +1,11 @@
 -- A snapshot that is read in stretches.
-use Rattle.std.proofs.Common.{◌≡◌, ℕ, suc, ◌+◌, ◌-◌, ◌*◌, ◌<◌, ◌≤◌, IsTrue, List, [], ◌++◌, length, Result, Ok, refl, subst, sym, ap, ◌∙◌, arith}
+use Rattle.std.proofs.Common.{◌≡◌, ℕ, suc, ◌+◌, ◌-◌, ◌*◌, ◌<◌, ◌≤◌, IsTrue, List, Ok, refl, arith}
 use Rattle.std.specs.Int.{div_ceil}
 use Rattle.std.proofs.lemmas.Grind.{div_ceil_times}
-use Rattle.std.proofs.lemmas.List.{length-append}
-use Rattle.oa_disk.specs.Disk.{HasBytesAt}
 use Rattle.oa_disk.specs.Moments.{started}
 use Rattle.oa_disk.specs.declared.disk.Disk.{Ghosts}
-use Rattle.oa_journal.specs.declared.bank.BankFault.{BankFault}
 use Rattle.oa_journal.specs.Reads.{AfterReads}
-use Rattle.oa_journal.specs.Snapshots.{stretch_bytes, PassesStretch}
-use Rattle.oa_journal.proofs.Laying.{holds_both}
+use Rattle.oa_journal.specs.Snapshots.{stretch_bytes}
 use Rattle.oa_journal.proofs.ReadOn.{reads_ok, reads_then}
 
 -- So many bytes were read in stretches, each of them by one call: but the last one, each is as long as a stretch at least.

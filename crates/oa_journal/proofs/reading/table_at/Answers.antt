@@ -1,10 +1,8 @@
-use Rattle.std.proofs.Common.{◌≡◌, ◌∙◌, ◌+◌, ◌-◌, ◌<◌, inl, inr, ap, subst, sym, Err, ℕ, List, arith}
-use Rattle.std.proofs.lemmas.Result.{err_from_is_err_and, IfOk-weaker}
+use Rattle.std.proofs.Common.{◌+◌, ◌-◌, ◌<◌, inr, subst, ℕ, List, arith}
+use Rattle.std.proofs.lemmas.Result.{IfOk-weaker}
 use Rattle.oa_journal.specs.Bank.{from_place, AreGroups}
 use Rattle.oa_journal.specs.Damages.{StopsAt}
 use Rattle.oa_journal.specs.Shapes.{body_bytes}
-use Rattle.oa_journal.specs.declared.bank.BankFault.{BankFault}
-use Rattle.oa_journal.specs.declared.bank.BankFault.TheVariants as banks
 use Rattle.oa_journal.proofs.Damages.{behind_library, library_long}
 use Rattle.oa_journal.proofs.ReadOn.{reads_then}
 use Rattle.oa_journal.proofs.reading.table_at.Goals as goal

@@ -1,4 +1,4 @@
-use Rattle.std.proofs.Common.{◌≡◌, ◌+◌, ◌-◌, ◌≤◌, ◌++◌, ℕ, IsTrue, [], length}
+use Rattle.std.proofs.Common.{◌≡◌, ◌+◌, ◌-◌, ◌++◌, IsTrue, [], length}
 use Rattle.oa_disk.specs.Disk.{HasBytesAt}
 use Rattle.oa_image.specs.Tables.{table, table_image}
 use Rattle.oa_table.specs.Tables.{TableValue}

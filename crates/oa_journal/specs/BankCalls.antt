@@ -85,7 +85,8 @@ pub record ReadsBank {D : Type 0} (g : Ghosts D) (before after : Bank) (old new 
 
 -- The bank's table was read, after its groups: it is that of the library that the bank begins with. The bank knows its
 -- closed gate, and else is as it was.
-pub record ReadsTable {D : Type 0} (g : Ghosts D) (before after : Bank) (old new : D) (table : TableValue) : Type 0 where
+pub record ReadsTable {D : Type 0} (g : Ghosts D) (before after : Bank) (old new : D)
+    (table : TableValue) : Type 0 where
   pub found : IsTrue (g.is_honest new) → (library : List ℕ) → HasLibrary before.shape
       (from_place before.head (g.contents old)) (from_place before.body (g.contents old)) library
       → IsBank before.shape (from_place before.head (g.contents old)) (from_place before.body (g.contents old))

@@ -107,6 +107,11 @@ pub length-first : length (table_image first_table) ≡ 8
 unfolding table objects only counted coded made_where next_by times u32 raw
 length-first = refl
 
+-- an image has a next number and a count at least
+pub image_long : (t : TableValue) → 8 ≤ length (table_image t)
+unfolding table objects only counted coded made_where next_by times u32 raw
+image_long t = omega arith
+
 -- a bank that was just written: its head at one place, its body at another
 pub front_bank : (shape : Shape) (at place : ℕ) (disk library : List ℕ) (now : TableValue) → IsShape shape → table.Is now
     → first_gate library now < body_bytes shape

@@ -67,29 +67,32 @@ one_library shape head body library other one two =
     same_bytes body 0 library other heads.library_same one.text two.text
 
 -- what stands behind a library that it begins with
-pub behind_library : (shape : Shape) (head body : ℕ → ℕ) (library : List ℕ) (l s : ℕ) (first now : TableValue) (groups : List (List ℕ)) (gate : ℕ)
-    → HasLibrary shape head body library → HasSnapshot shape head body l s first → AreGroups body (l + s) groups gate
-    → ReplaysAll groups first now → gate < body_bytes shape → IsBank shape head body library now gate × (length library ≡ l)
-behind_library shape head body library l s first now groups gate has snapshot all makes inside =
-    let heads = one_head head shape (length library) has.snapshot shape l s has.has snapshot.has in
-    let at : l + s ≡ length library + length (table_image first) = omega (arith, heads.library_same, snapshot.long) in
-    (
+module _ (shape : Shape) (head body : ℕ → ℕ) (library : List ℕ) (l s : ℕ) (first : TableValue) (has : HasLibrary shape head body library)
+    (snapshot : HasSnapshot shape head body l s first) where
+  -- it is as long as the head of the snapshot tells
+  pub library_long : length library ≡ l
+  library_long = (one_head head shape (length library) has.snapshot shape l s has.has snapshot.has).library_same
+
+  pub behind_library : (now : TableValue) (groups : List (List ℕ)) (gate : ℕ) → AreGroups body (l + s) groups gate
+      → ReplaysAll groups first now → gate < body_bytes shape → IsBank shape head body library now gate
+  behind_library now groups gate all makes inside =
+      let long = sym snapshot.long in
+      let same = (one_head head shape (length library) has.snapshot shape l s has.has snapshot.has).snapshot_same in
+      let at : l + s ≡ length library + length (table_image first) = omega (arith, library_long, snapshot.long) in
       record {
         known = has.has.known;
         first = first;
         is = snapshot.is;
         groups = groups;
-        header = subst (λ (k : ℕ). Shows head 0 (header_of shape (length library) k)) (heads.snapshot_same ∙ sym snapshot.long) has.has.header;
+        header = subst (λ (k : ℕ). Shows head 0 (header_of shape (length library) k)) (same ∙ long) has.has.header;
         parts = record {
           text = has.text;
-          image = subst (λ (k : ℕ). Shows body k (table_image first)) (sym heads.library_same) snapshot.image;
+          image = subst (λ (k : ℕ). Shows body k (table_image first)) (sym library_long) snapshot.image;
           behind = subst (λ (k : ℕ). AreGroups body k groups gate) at all;
           inside = inside;
         };
         makes = makes;
-      },
-      heads.library_same,
-    )
+      }
 
 -- the lengths of its parts are those of any head that it has
 pub bank_lengths : (shape : Shape) (head body : ℕ → ℕ) (library : List ℕ) (now : TableValue) (gate l s : ℕ) → HasHeader shape head l s

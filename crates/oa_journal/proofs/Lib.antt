@@ -12,4 +12,5 @@ mod ReadOn
 mod Sealing
 mod Shapes
 mod Slices
+mod Stretches
 pub mod Unique

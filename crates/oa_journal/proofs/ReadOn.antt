@@ -1,7 +1,11 @@
 -- Reads, one run behind the other.
-use Rattle.std.proofs.Common.{◌≡◌, ℕ, ◌+◌, ◌≤◌, Result, Ok, OnOk, IfErr, ◌∙◌, subst, arith}
+use Rattle.std.proofs.Common.{◌≡◌, ℕ, ◌+◌, ◌≤◌, IsTrue, true, Result, Ok, Err, OnOk, IfErr, ap, ◌∙◌, subst, arith}
 use Rattle.oa_disk.specs.declared.disk.Disk.{Ghosts}
+use Rattle.oa_journal.specs.declared.bank.Bank.{Bank}
 use Rattle.oa_journal.specs.declared.bank.BankFault.{BankFault}
+use Rattle.oa_journal.specs.declared.bank.BankFault.TheVariants.{Damaged, Device, Memory}
+use Rattle.oa_journal.specs.Append.{IsAt}
+use Rattle.oa_journal.specs.BankCalls.{RefusesBank}
 use Rattle.oa_journal.specs.Reads.{AfterReads, reads_on}
 use Rattle.oa_journal.specs.Replies.{IsCaused}
 
@@ -38,4 +42,21 @@ module _ {D : Type 0} (g : Ghosts D) {old : D} where
     device = λ fault is. absurd cc;
     cause = tt;
     most = all.most;
+  }
+
+  -- a bank that was not read is as it was before the run, whose damage follows of that of the last call
+  pub refused_then : {mid new : D} {S T : Type 0} {before same after : Bank} (damage all : ℕ → Type 0) (fault : BankFault) → same ≡ before
+      → g.failures_of mid ≡ g.failures_of old → ((at : ℕ) → IsTrue (g.is_honest new) → fault ≡ Damaged at → damage at → all at)
+      → RefusesBank {T = S} g damage same after mid new (Err fault) → RefusesBank {T = T} g all before after old new (Err fault)
+  refused_then {mid} {new} {S} {T} {before} {same} {after} damage all fault is unfailed follows refused = record {
+    damaged = λ at e.
+        let told : fault ≡ Damaged at = cc in
+        let one = refused.damaged at (ap (λ (x : BankFault). Err x) told) in
+        (one.0 ∙ is, λ h. follows at h told (one.1 h));
+    memory = λ e. let told : fault ≡ Memory = cc in refused.memory (ap (λ (x : BankFault). Err x) told) ∙ is;
+    device = λ why e.
+        let told : fault ≡ Device why = cc in
+        let one = refused.device why (ap (λ (x : BankFault). Err x) told) in
+        (subst (λ (b : Bank). IsAt b.shape b.head b.body b.gate true after) is one.0, one.1);
+    cause = subst (λ (n : ℕ). IsCaused n (g.failures_of new) fault) unfailed refused.cause;
   }

@@ -83,19 +83,21 @@ pub record ReadsBank {D : Type 0} (g : Ghosts D) (before after : Bank) (old new 
   -- at most four calls, and one for two bytes of snapshot and groups
   pub calls : IsTrue (g.is_honest new) → g.moment new + length library ≤ g.moment old + (8 + after.gate)
 
--- The table of a bank was read, after its groups, and not its library: so it is of any library that the bank begins
--- with. It knows its closed gate, and else is as it was.
+-- The bank's table was read, after its groups: it is that of the library that the bank begins with. The bank knows its
+-- closed gate, and else is as it was.
 pub record ReadsTable {D : Type 0} (g : Ghosts D) (before after : Bank) (old new : D)
     (table : TableValue) : Type 0 where
-  -- at most three calls, and one for two bytes of snapshot and groups
   pub found : IsTrue (g.is_honest new) → (library : List ℕ) → HasLibrary before.shape
       (from_place before.head (g.contents old)) (from_place before.body (g.contents old)) library
       → IsBank before.shape (from_place before.head (g.contents old)) (from_place before.body (g.contents old))
       library table after.gate
-      × (g.moment new + length library ≤ g.moment old + (6 + after.gate))
   pub numbered : is_numbered table ≡ true
   pub unlocked : unlocked_table table ≡ table
   pub bank : IsAt before.shape before.head before.body after.gate before.stopped after
+  -- at most two calls, and one for two bytes of snapshot and groups
+  pub calls : IsTrue (g.is_honest new) → (library : List ℕ) → HasLibrary before.shape
+      (from_place before.head (g.contents old)) (from_place before.body (g.contents old)) library
+      → g.moment new + length library ≤ g.moment old + (4 + after.gate)
 
 -- The head of a bank stands at this place, and the disk has room for two such banks.
 pub record FindsHead {D : Type 0} (g : Ghosts D) (place : ℕ) (old new : D) (head : Head) : Type 0 where

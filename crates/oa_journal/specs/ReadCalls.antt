@@ -63,23 +63,15 @@ pub record FindsGroups {D : Type 0} (g : Ghosts D) (body size from : ℕ) (first
   pub inside : gate < size
   pub calls : IsTrue (g.is_honest new) → g.moment new + from ≤ g.moment old + (2 + gate)
 
--- The bank of that head and that body has this library and this table, and its closed gate stands there: at most four
+-- The table of the bank of that head and that body, whichever library it begins with, and its closed gate: at most two
 -- calls, and one for two bytes of snapshot and groups.
-pub record FindsBank {D : Type 0} (g : Ghosts D) (shape : Shape) (head body : ℕ) (old new : D) (library : List ℕ)
-    (table : TableValue) (gate : ℕ) : Type 0 where
-  pub found : IsTrue (g.is_honest new)
-      → IsBank shape (from_place head (g.contents old)) (from_place body (g.contents old)) library table gate
-  pub stored : IsStored table
-  pub inside : gate < body_bytes shape
-  pub calls : IsTrue (g.is_honest new) → g.moment new + length library ≤ g.moment old + (8 + gate)
-
--- The same of a bank whose library is not read: so it is of any library that it begins with. At most three calls, and
--- one for two bytes of snapshot and groups.
 pub record FindsTable {D : Type 0} (g : Ghosts D) (shape : Shape) (head body : ℕ) (old new : D) (table : TableValue)
     (gate : ℕ) : Type 0 where
   pub found : IsTrue (g.is_honest new) → (library : List ℕ)
       → HasLibrary shape (from_place head (g.contents old)) (from_place body (g.contents old)) library
       → IsBank shape (from_place head (g.contents old)) (from_place body (g.contents old)) library table gate
-      × (g.moment new + length library ≤ g.moment old + (6 + gate))
   pub stored : IsStored table
   pub inside : gate < body_bytes shape
+  pub calls : IsTrue (g.is_honest new) → (library : List ℕ)
+      → HasLibrary shape (from_place head (g.contents old)) (from_place body (g.contents old)) library
+      → g.moment new + length library ≤ g.moment old + (4 + gate)

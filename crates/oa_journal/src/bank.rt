@@ -13,7 +13,7 @@ ghost use Rattle.oa_journal.specs.Shapes.{body_bytes, IsShape};
 use crate::Shape;
 use crate::batch::{append_group, lay_out};
 use crate::layout::{BodyBytes, header_bytes};
-use crate::reading::{bank_at, library_at, table_at};
+use crate::reading::{library_at, table_at};
 use oa_disk::{DeviceFault, Disk};
 use oa_image::laws::is_table;
 use oa_table::Table;
@@ -191,8 +191,40 @@ impl Bank {
         read
     }
 
-    /// Reads the bank: its library, and its table after its groups, through this buffer, which is given back with all its bytes. From then on
-    /// the bank knows where its closed gate stands. After `Device` it has stopped.
+    /// Reads the bank's table after its groups, through this buffer, which is given back with all its bytes. The library is not looked at.
+    /// From then on the bank knows where its closed gate stands. After `Device` it has stopped.
+    pub fn read_table<D: Disk>(
+        &mut self,
+        alloc: Global,
+        disk: &mut D,
+        buffer: Vec<u8>,
+    ) -> Result<(Table, Vec<u8>), BankFault>
+        requires some { 5 ≤ length buffer.items }
+        requires lies { LiesWithin (D.size_of disk.old) self.old }
+
+        ensures found { IfOk result (λ r. ReadsTable D.Disk self.old self.new disk.old disk.new r.0) }
+        ensures buffer { IfOk result (λ r. length r.1.items ≡ length buffer.items) }
+        // `Damaged` with the place on the disk of the first part that fails.
+        ensures refused { RefusesBank D.Disk (IsDamagedBank self.old.shape self.old.head self.old.body (D.contents disk.old)) self.old
+            self.new disk.old disk.new result }
+        ensures reads { IsTrue (D.is_honest disk.new) → OnlyReads D.contents D.image D.moment D.image_since disk.old disk.new }
+        ensures after { AfterCalls D.Disk disk.old disk.new result }
+        // at most four calls, and one for two bytes of the body, whatever is answered
+        ensures most { IsTrue (D.is_honest disk.new) → D.moment disk.new ≤ D.moment disk.old + (8 + body_bytes self.old.shape) }
+    {
+        match table_at(alloc, disk, self.shape, self.head, self.body, buffer) {
+            Ok((table, gate, buffer)) => {
+                self.gate = gate;
+                Ok((table, buffer))
+            }
+            Err(fault) => {
+                self.stop_after(fault);
+                Err(fault)
+            }
+        }
+    }
+
+    /// Reads the bank: its library, and then its table.
     pub fn read_all<D: Disk>(
         &mut self,
         alloc: Global,
@@ -212,46 +244,9 @@ impl Bank {
         // at most six calls, and one for two bytes of the body, whatever is answered
         ensures most { IsTrue (D.is_honest disk.new) → D.moment disk.new ≤ D.moment disk.old + (12 + body_bytes self.old.shape) }
     {
-        match bank_at(alloc, disk, self.shape, self.head, self.body, buffer) {
-            Ok((library, table, gate, buffer)) => {
-                self.gate = gate;
-                Ok((library, table, buffer))
-            }
-            Err(fault) => {
-                self.stop_after(fault);
-                Err(fault)
-            }
-        }
-    }
-
-    /// Reads the bank's table after its groups, through this buffer, which is given back with all its bytes; the library is not looked at.
-    /// From then on the bank knows where its closed gate stands. After `Device` it has stopped.
-    pub fn read_table<D: Disk>(
-        &mut self,
-        alloc: Global,
-        disk: &mut D,
-        buffer: Vec<u8>,
-    ) -> Result<(Table, Vec<u8>), BankFault>
-        requires some { 5 ≤ length buffer.items }
-        requires lies { LiesWithin (D.size_of disk.old) self.old }
-
-        ensures found { IfOk result (λ r. ReadsTable D.Disk self.old self.new disk.old disk.new r.0) }
-        ensures buffer { IfOk result (λ r. length r.1.items ≡ length buffer.items) }
-        // `Damaged` with the place on the disk of the first part that fails.
-        ensures refused { RefusesBank D.Disk (IsDamagedBank self.old.shape self.old.head self.old.body (D.contents disk.old)) self.old
-            self.new disk.old disk.new result }
-        ensures reads { IsTrue (D.is_honest disk.new) → OnlyReads D.contents D.image D.moment D.image_since disk.old disk.new }
-        ensures after { AfterCalls D.Disk disk.old disk.new result }
-        // at most five calls, and one for two bytes of the body, whatever is answered
-        ensures most { IsTrue (D.is_honest disk.new) → D.moment disk.new ≤ D.moment disk.old + (10 + body_bytes self.old.shape) }
-    {
-        let read = table_at(alloc, disk, self.shape, self.head, self.body, buffer);
-        if let Err(fault) = read {
-            self.stop_after(fault);
-        }
-        let (table, closed, buffer) = read?;
-        self.gate = closed;
-        Ok((table, buffer))
+        let library = self.read_library(alloc, disk)?;
+        let (table, buffer) = self.read_table(alloc, disk, buffer)?;
+        Ok((library, table, buffer))
     }
 
     /// After a call that the device has failed, the bank has stopped.

@@ -16,6 +16,7 @@ pub mod laws;
 mod layout;
 mod reading;
 mod shape;
+mod snapshot;
 
 pub use bank::{AppendFault, Bank, BankFault};
 pub use head::{Head, read_head};

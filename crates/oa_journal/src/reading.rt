@@ -6,7 +6,7 @@ ghost use Rattle.oa_journal.specs.declared.bank.BankFault.{BankFault};
 ghost use Rattle.oa_journal.specs.Bank.{from_place, IsGroupAt, HasHeader, HasLibrary};
 ghost use Rattle.oa_journal.specs.Damages.{HasNoHeader, HasSnapshot, IsDamagedBank, IsNoGroup, StopsAt};
 ghost use Rattle.oa_journal.specs.BankCalls.{BodyWithin, PartsWithin};
-ghost use Rattle.oa_journal.specs.ReadCalls.{FindsBank, FindsGroup, FindsGroups, FindsTable, IsAhead, IsStored};
+ghost use Rattle.oa_journal.specs.ReadCalls.{FindsGroup, FindsGroups, FindsTable, IsAhead, IsStored};
 ghost use Rattle.oa_journal.specs.ReadCalls.{PassesGroup, StaysAhead, StaysStored};
 ghost use Rattle.oa_journal.specs.Reads.{AfterReads};
 ghost use Rattle.oa_journal.specs.Shapes.{body_bytes, IsShape};
@@ -14,9 +14,10 @@ ghost use Rattle.oa_journal.specs.Shapes.{body_bytes, IsShape};
 use crate::ahead::DiskAhead;
 use crate::groups::replay;
 use crate::head::{Head, head_at};
+use crate::snapshot::read_snapshot;
 use crate::{BankFault, Shape};
 use oa_disk::Disk;
-use oa_image::{ImageFault, read_table};
+use oa_image::ImageFault;
 use oa_table::Table;
 use std::alloc::{AllocError, Global};
 
@@ -183,16 +184,13 @@ fn first_at<D: Disk>(
     ensures damaged { (at : ℕ) → IsErrOf result (BankFault.Damaged at)
         → IsTrue (D.is_honest disk.new) → IsDamagedBank shape head body (D.contents disk.old) at }
 
-    ensures after { AfterReads D.Disk 4 disk.old disk.new result }
+    ensures calls { IfOk result (λ r. IsTrue (D.is_honest disk.new) → D.moment disk.new ≤ D.moment disk.old + (2 + r.0.snapshot)) }
+    ensures after { AfterReads D.Disk (3 + body_bytes shape) disk.old disk.new result }
 {
     let told = head_of(disk, shape, head)?;
     let at = body + u64::from(told.library);
-    let bytes = read_part(alloc, disk, at, told.snapshot as usize)?;
-    match read_table(alloc, &bytes) {
-        Ok(first) => Ok((told, first)),
-        Err(ImageFault::Damaged(_)) => Err(BankFault::Damaged(at)),
-        Err(ImageFault::Memory) => Err(BankFault::Memory),
-    }
+    let first = read_snapshot(alloc, disk, at, told.snapshot)?;
+    Ok((told, first))
 }
 
 /// The bytes of the group behind the open gate at that place of a body. The next gate stands 5 bytes and the group's length further on.
@@ -300,7 +298,7 @@ fn read_groups<D: Disk>(
 }
 
 /// The table of the bank whose head and body stand at these places of a disk, and where in the body its closed gate stands. The library is
-/// not read.
+/// not looked at.
 pub(crate) fn table_at<D: Disk>(
     alloc: Global,
     disk: &mut D,
@@ -317,38 +315,10 @@ pub(crate) fn table_at<D: Disk>(
     ensures damaged { (at : ℕ) → IsErrOf result (BankFault.Damaged at)
         → IsTrue (D.is_honest disk.new) → IsDamagedBank shape head body (D.contents disk.old) at }
 
-    ensures after { AfterReads D.Disk (10 + body_bytes shape) disk.old disk.new result }
+    ensures after { AfterReads D.Disk (8 + body_bytes shape) disk.old disk.new result }
 {
     let (told, first) = first_at(alloc, disk, shape, head, body)?;
-    let from = told.library + told.snapshot;
-    let (table, gate, buffer) =
-        read_groups(alloc, disk, body, shape.body_bytes(), from, first, buffer)?;
-    Ok((table, gate, buffer))
-}
-
-/// The library and the table of the bank whose head and body stand at these places of a disk, and where in the body its closed gate
-/// stands.
-pub(crate) fn bank_at<D: Disk>(
-    alloc: Global,
-    disk: &mut D,
-    shape: Shape,
-    head: u64,
-    body: u64,
-    buffer: Vec<u8>,
-) -> Result<(Vec<u8>, Table, u32, Vec<u8>), BankFault>
-    requires lies { PartsWithin (D.size_of disk.old) head body (body_bytes shape) }
-    requires some { 5 ≤ length buffer.items }
-
-    ensures found { IfOk result (λ r. FindsBank D.Disk shape head body disk.old disk.new r.0.items r.1 r.2) }
-    ensures buffer { IfOk result (λ r. length r.3.items ≡ length buffer.items) }
-    ensures damaged { (at : ℕ) → IsErrOf result (BankFault.Damaged at)
-        → IsTrue (D.is_honest disk.new) → IsDamagedBank shape head body (D.contents disk.old) at }
-
-    ensures after { AfterReads D.Disk (12 + body_bytes shape) disk.old disk.new result }
-{
-    let (told, first) = first_at(alloc, disk, shape, head, body)?;
-    let library = read_part(alloc, disk, body, told.library as usize)?;
-    let (table, gate, buffer) = read_groups(
+    read_groups(
         alloc,
         disk,
         body,
@@ -356,6 +326,5 @@ pub(crate) fn bank_at<D: Disk>(
         told.library + told.snapshot,
         first,
         buffer,
-    )?;
-    Ok((library, table, gate, buffer))
+    )
 }

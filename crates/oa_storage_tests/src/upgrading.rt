@@ -109,14 +109,14 @@ fn stopped_inspecting(alloc: Global) -> Option<(u64, u64)> {
     stopped(alloc, &disk)
 }
 
-/// Of the thirteen calls of an upgrade eight are those of an inspection: a sync and reads of the first byte, the selector, the head, its parts and the
-/// groups. Behind them come a head, a body, a sync, the selector and a sync.
+/// Of the fourteen calls of an upgrade nine are those of an inspection: a sync and reads of the first byte, the selector, the head
+/// three times, its parts and the groups. Behind them come a head, a body, a sync, the selector and a sync.
 #[test]
 fn an_upgrade_is_stopped_at_each_moment(rt: HostRuntime) {
-    assert_eq!(rt; stopped_upgrading(rt.alloc()), Some((26, 0)));
+    assert_eq!(rt; stopped_upgrading(rt.alloc()), Some((28, 0)));
 }
 
 #[test]
 fn an_inspection_is_stopped_at_each_moment(rt: HostRuntime) {
-    assert_eq!(rt; stopped_inspecting(rt.alloc()), Some((16, 0)));
+    assert_eq!(rt; stopped_inspecting(rt.alloc()), Some((18, 0)));
 }

@@ -5,9 +5,11 @@ use Rattle.oa_disk.specs.Disk.{Only}
 use Rattle.oa_disk.specs.declared.disk.Disk.{Ghosts}
 use Rattle.oa_image.specs.Tables.{is_numbered}
 use Rattle.oa_journal.specs.Append.{IsAt}
-use Rattle.oa_journal.specs.Bank.{HasHead}
-use Rattle.oa_journal.specs.Shapes.{disk_bytes, IsShape}
+use Rattle.oa_journal.specs.Bank.{from_place, HasHead, IsBank}
+use Rattle.oa_journal.specs.ReadCalls.{IsStored}
+use Rattle.oa_journal.specs.Shapes.{body_bytes, disk_bytes, IsShape}
 use Rattle.oa_journal.specs.declared.head.Head.{Head}
+use Rattle.oa_journal.specs.declared.shape.Shape.{Shape}
 use Rattle.oa_journal.specs.declared.shape.Shape.TheVariants.{Two}
 use Rattle.oa_store.specs.Calls.{piece_bytes}
 use Rattle.oa_store.specs.declared.fault.FindFault.{FindFault}
@@ -56,6 +58,16 @@ pub record RefusesChosen {D : Type 0} (g : Ghosts D) (old new : D) (fault : Find
   pub cause : IsCaused (g.failures_of old) (g.failures_of new) (of_finding fault)
   pub tells : IsTrue (g.is_honest new) → DeviceTells (g.contents old) (g.image old) (g.image new) (of_finding fault)
 
+-- The bank of that head and that body has this library and this table, and its closed gate stands there: at most four
+-- calls, and one for two bytes of snapshot and groups.
+pub record FindsBank {D : Type 0} (g : Ghosts D) (shape : Shape) (head body : ℕ) (old new : D) (library : List ℕ)
+    (table : TableValue) (gate : ℕ) : Type 0 where
+  pub found : IsTrue (g.is_honest new)
+      → IsBank shape (from_place head (g.contents old)) (from_place body (g.contents old)) library table gate
+  pub stored : IsStored table
+  pub inside : gate < body_bytes shape
+  pub calls : IsTrue (g.is_honest new) → g.moment new + length library ≤ g.moment old + (8 + gate)
+
 -- The store of this library that a disk has was found, in format 2. Nothing is pending.
 pub record Finds {D : Type 0} (g : Ghosts D) (library : List ℕ) (old new : D) (f : Found) : Type 0 where
   -- what the contents are a store of
@@ -69,8 +81,8 @@ pub record Finds {D : Type 0} (g : Ghosts D) (library : List ℕ) (old new : D) 
   pub room : disk_bytes f.bank.shape ≤ g.size_of old
   pub synced : IsTrue (g.is_honest new) → Only (g.contents old) (g.image new)
   pub contents : IsTrue (g.is_honest new) → g.contents new ≡ g.contents old
-  -- at most nine calls, and one for two bytes of snapshot and groups: the library is read once
-  pub calls : IsTrue (g.is_honest new) → g.moment new + length library ≤ g.moment old + (18 + f.bank.gate)
+  -- at most eight calls, and one for two bytes of snapshot and groups: the library is read once
+  pub calls : IsTrue (g.is_honest new) → g.moment new + length library ≤ g.moment old + (16 + f.bank.gate)
 
 -- What the refusal of a disk says, whose library has to be the one that is wanted.
 pub record Refuses {D : Type 0} (g : Ghosts D) (wanted : Option (List ℕ)) (old new : D)

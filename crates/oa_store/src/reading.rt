@@ -5,11 +5,10 @@ ghost use Rattle.oa_model.specs.Limits.{max_library_bytes};
 ghost use Rattle.oa_disk.specs.After.{AfterCalls};
 ghost use Rattle.oa_journal.specs.Append.{IsAt};
 ghost use Rattle.oa_journal.specs.Damages.{IsDamagedBank};
-ghost use Rattle.oa_journal.specs.ReadCalls.{FindsBank};
 ghost use Rattle.oa_journal.specs.Reads.{AfterReads, WritesNothing};
 ghost use Rattle.oa_journal.specs.Shapes.{body_bytes, IsShape};
 ghost use Rattle.oa_journal.specs.declared.bank.BankFault.{BankFault};
-ghost use Rattle.oa_store.specs.Openings.{Finds, FindsAny, Refuses, RefusesAny};
+ghost use Rattle.oa_store.specs.Openings.{Finds, FindsAny, FindsBank, Refuses, RefusesAny};
 ghost use Rattle.oa_store.specs.Stores.{body_place, head_place, BankWithin};
 
 use crate::OpenFault;

@@ -123,17 +123,17 @@ returns-clause-found g c =
     let items = c.in_ok-text.text.items in
     let text = sym c.deref.ensures.value ∙ c.if-not-same.ensures.0 refl in
     let at1 = subst (λ (b : Bank). IsAt shape head body (body_bytes shape - 1) false b) (sym c.in_ok-text.ensures.bank) c.bank_of-bank.ensures in
-    let read = λ (h : IsTrue (g.D.Disk.is_honest c.read_table.new.disk)).
+    let has = λ (h : IsTrue (g.D.Disk.is_honest c.read_table.new.disk)).
     let h2 = c.read_table.ensures.after.honest h in
     let there = subst (λ (d : List ℕ). HasLibrary bank.shape (from_place bank.head d) (from_place bank.body d) items) (sym (c.read_library.ensures.reads h2).contents_stay) (c.in_ok-text.ensures.found h2) in
-    c.in_ok-table.ensures.found.found h items (subst (λ (b : Bank). HasLibrary b.shape (from_place b.head mid) (from_place b.body mid) items) (sym c.in_ok-text.ensures.bank) there) in
+    subst (λ (b : Bank). HasLibrary b.shape (from_place b.head mid) (from_place b.body mid) items) (sym c.in_ok-text.ensures.bank) there in
     record {
       store = λ h.
           let h2 = c.read_table.ensures.after.honest h in
           let h1 = c.read_library.ensures.after.honest h2 in
           let found = c.in_ok-found.ensures.found.found h1 in
           let stay = (c.read_library.ensures.reads h2).contents_stay ∙ c.in_ok-found.ensures.found.contents h1 in
-          let its = carried (λ s x y. IsBank s x y items c.in_ok-table.table c.read_table.new.self.gate) c.read_library.new.self shape head body (body_bytes shape - 1) false mid contents at1 stay (read h).0 in
+          let its = carried (λ s x y. IsBank s x y items c.in_ok-table.table c.read_table.new.self.gate) c.read_library.new.self shape head body (body_bytes shape - 1) false mid contents at1 stay (c.in_ok-table.ensures.found.found h items (has h)) in
           let store : IsStoreAt shape chosen c.read_table.new.self.gate items c.in_ok-table.table contents = record { head = found.0; room = found.1.room; bank = its } in
           let same = subst (λ (l : List ℕ). IsStoreAt shape chosen c.read_table.new.self.gate l c.in_ok-table.table contents) text store in
           subst (λ (s : Shape). IsStoreAt s chosen c.read_table.new.self.gate c.args.library.now c.in_ok-table.table contents) (sym (c.in_ok-table.ensures.found.bank.shape_is ∙ at1.shape_is)) same;
@@ -148,5 +148,5 @@ returns-clause-found g c =
       contents = search rules;
       calls = λ h.
           let h2 = c.read_table.ensures.after.honest h in
-          omega (arith, ap length text, c.in_ok-found.ensures.calls (c.read_library.ensures.after.honest h2), c.in_ok-text.ensures.calls h2, (read h).1);
+          omega (arith, ap length text, c.in_ok-found.ensures.calls (c.read_library.ensures.after.honest h2), c.in_ok-text.ensures.calls h2, c.in_ok-table.ensures.found.calls h items (has h));
     }

@@ -1,0 +1,114 @@
+//! The snapshot of a bank, read in stretches: what is resident beside the table is a stretch, or twice the largest cell.
+ghost use Rattle.std.specs.Prelude.{◌≡◌, ◌+◌, ◌*◌, ◌^◌, ◌<◌, ◌≤◌, ◌++◌, ℕ, IsTrue, [], length, OnOk, IfOk, IsErrOf};
+ghost use Rattle.std.specs.Int.{div_ceil};
+ghost use Rattle.oa_journal.specs.declared.bank.BankFault.{BankFault};
+ghost use Rattle.oa_image.specs.Tables.{table, table_image};
+ghost use Rattle.oa_journal.specs.BankCalls.{BodyWithin};
+ghost use Rattle.oa_journal.specs.Reads.{AfterReads};
+ghost use Rattle.oa_journal.specs.Snapshots.{stretch_bytes, FindsSnapshot, HasNoImage, PassesStretch, ReadsBehind};
+ghost use Rattle.oa_table.specs.Tables.{TableValue};
+
+use crate::BankFault;
+use oa_disk::Disk;
+use oa_image::TableReader;
+use oa_table::Table;
+use std::alloc::Global;
+
+/// How many bytes are read at once, where no part of the image is longer.
+const STRETCH: usize = 65_536;
+
+/// How many bytes are read behind those of a window, of so many that are left: as many as it has, and a stretch at least.
+fn stretch(held: usize, left: usize) -> usize
+    ensures most { result ≤ left }
+    ensures least { result < left → stretch_bytes ≤ result }
+    ensures some { 0 < left → 0 < result }
+{
+    held.max(STRETCH).min(left)
+}
+
+/// Reads so many bytes of a disk from that place on behind those of a window.
+fn read_behind<D: Disk>(
+    disk: &mut D,
+    at: u64,
+    window: &mut Vec<u8>,
+    count: usize,
+) -> Result<(), BankFault>
+    requires inside { at + count ≤ D.size_of disk.old }
+    requires few { length window.old.items + count < 2 ^ 32 }
+
+    ensures behind { OnOk result (ReadsBehind D.Disk at count window.old.items window.new.items disk.old disk.new) }
+    ensures undamaged { (place : ℕ) → IsErrOf result (BankFault.Damaged place) → ⊥ }
+
+    ensures after { AfterReads D.Disk 2 disk.old disk.new result }
+{
+    let held = window.len();
+    window.resize(held + count, 0)?;
+    disk.read_at(at, &mut window[held..])?;
+    Ok(())
+}
+
+/// Lets a reader take what it can of a window, which keeps the rest.
+fn hand_over(reader: &mut TableReader, window: &mut Vec<u8>) -> Result<(), BankFault>
+    ensures all { OnOk result (reader.new ++ window.new.items ≡ reader.old ++ window.old.items) }
+    ensures whole { OnOk result ((first : TableValue) → table.Is first → reader.old ++ window.old.items ≡ table_image first
+        → window.new.items ≡ []) }
+    ensures memory { (fault : BankFault) → IsErrOf result fault → fault ≡ BankFault.Memory }
+{
+    let taken = reader.take(window)?;
+    window.drain(..taken);
+    Ok(())
+}
+
+/// Reads a stretch of what is left in front of an end of a disk behind a window, of which a reader then takes what it can. Answers how
+/// many bytes are left.
+fn read_stretch<D: Disk>(
+    disk: &mut D,
+    end: u64,
+    left: usize,
+    window: &mut Vec<u8>,
+    reader: &mut TableReader,
+) -> Result<usize, BankFault>
+    requires some { 0 < left }
+    requires before { left ≤ end }
+    requires inside { end ≤ D.size_of disk.old }
+    requires few { length window.old.items + left < 2 ^ 32 }
+
+    ensures passes { IfOk result (λ next. PassesStretch D.Disk end left (reader.old ++ window.old.items) reader.new window.new.items
+        disk.old disk.new next) }
+    ensures undamaged { (place : ℕ) → IsErrOf result (BankFault.Damaged place) → ⊥ }
+
+    ensures after { AfterReads D.Disk 2 disk.old disk.new result }
+{
+    let count = stretch(window.len(), left);
+    read_behind(disk, end - left as u64, window, count)?;
+    hand_over(reader, window)?;
+    Ok(left - count)
+}
+
+/// The table whose image stands at that place of a disk and has so many bytes.
+pub(crate) fn read_snapshot<D: Disk>(
+    alloc: Global,
+    disk: &mut D,
+    at: u64,
+    count: u32,
+) -> Result<Table, BankFault>
+    requires lies { BodyWithin (D.size_of disk.old) at count }
+
+    ensures found { IfOk result (λ first. FindsSnapshot D.Disk at count disk.old disk.new first) }
+    ensures damaged { (place : ℕ) → IsErrOf result (BankFault.Damaged place)
+        → (place ≡ at) × (IsTrue (D.is_honest disk.new) → HasNoImage (D.contents disk.old) at count) }
+
+    ensures after { AfterReads D.Disk (2 * div_ceil count stretch_bytes) disk.old disk.new result }
+{
+    let end = at + u64::from(count);
+    let mut left = count as usize;
+    let mut window = Vec::new(alloc);
+    let mut reader = TableReader::new(alloc);
+    'stretches: while left > 0 {
+        left = read_stretch(disk, end, left, &mut window, &mut reader)?;
+    }
+    if !window.is_empty() {
+        return Err(BankFault::Damaged(at));
+    }
+    reader.finish().ok_or(BankFault::Damaged(at))
+}

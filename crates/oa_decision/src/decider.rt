@@ -3,11 +3,12 @@ ghost use Rattle.std.specs.Prelude.{◌≡◌, IfOk, IsOk};
 ghost use Rattle.oa_decision.specs.Decisions.{ChangesNoLocks, Decides};
 ghost use Rattle.oa_decision.specs.Decided.{DecidingTakesMemory, decided};
 ghost use Rattle.oa_decision.specs.Queries.{answered, told};
+ghost use Rattle.oa_record.specs.declared.request.Request.TheVariants as requests;
 
 use crate::decision::{Decision, Undecided};
 use crate::fields::Fields;
 use oa_model::HResult;
-use oa_record::{ByCall, ByNumber, Query, Request};
+use oa_record::{ByCall, ByNumber, Call, Query, Request};
 use oa_table::Table;
 use oa_typelib::Library;
 use std::alloc::{AllocError, Global};
@@ -69,12 +70,9 @@ impl<'a> Decider<'a> {
     {
         match request {
             Request::Create { class } => self.creation(class),
-            Request::ByNumber(ByNumber::Release, object) => Ok(self.ending(object)),
-            Request::ByNumber(ByNumber::TypeInfo, index) => self.information(index),
+            Request::ByNumber(kind, number) => self.decide_number(kind, number),
             Request::GetIds(call) => self.look_up(call),
-            Request::ByCall(ByCall::Invoke, call) => self.invocation(call),
-            Request::ByCall(ByCall::Lock, call) => self.locking(call),
-            Request::ByCall(ByCall::Unlock, call) => self.unlocking(call),
+            Request::ByCall(kind, call) => self.decide_call(kind, call),
             Request::GetElement { call, indices } => self.element_got(call, indices),
             Request::PutElement {
                 call,
@@ -83,6 +81,29 @@ impl<'a> Decider<'a> {
             } => self.element_put(call, indices, value),
             Request::Redimension { call, bound } => self.redimension(call, bound),
             Request::Query(query) => self.answered(query),
+        }
+    }
+
+    /// The same of what is asked by a number.
+    fn decide_number(&self, kind: ByNumber, number: u32) -> Result<Decision, Undecided>
+        ensures decided { Decides (decided self.now (requests.ByNumber kind number)) (DecidingTakesMemory self.now (requests.ByNumber kind number)) result }
+        ensures unlocked { IfOk result ChangesNoLocks }
+    {
+        match kind {
+            ByNumber::Release => Ok(self.ending(number)),
+            ByNumber::TypeInfo => self.information(number),
+        }
+    }
+
+    /// The same of what is asked by a call.
+    fn decide_call(&self, kind: ByCall, call: Call) -> Result<Decision, Undecided>
+        ensures decided { Decides (decided self.now (requests.ByCall kind call)) (DecidingTakesMemory self.now (requests.ByCall kind call)) result }
+        ensures unlocked { IfOk result ChangesNoLocks }
+    {
+        match kind {
+            ByCall::Invoke => self.invocation(call),
+            ByCall::Lock => self.locking(call),
+            ByCall::Unlock => self.unlocking(call),
         }
     }
 

@@ -72,7 +72,7 @@ fn changes_lock(request: &Request) -> bool
     ensures { result ≡ changes_lock request.now }
 {
     match request {
-        Request::ByCall(ByCall::Lock | ByCall::Unlock, _) => true,
+        Request::ByCall(kind, _) => is_lock(Opcode::ByCall(*kind)),
         _ => false,
     }
 }

@@ -7,7 +7,7 @@ use Rattle.oa_table.specs.Tables.{TableValue}
 
 -- how many bytes of a snapshot are read at once, where no part of it is longer
 abbrev pub stretch_bytes : ℕ
-stretch_bytes = 65536
+stretch_bytes = 131072
 
 -- Behind the bytes that were there stand so many of a disk.
 pub record ReadsBehind {D : Type 0} (g : Ghosts D) (at count : ℕ) (before after : List ℕ) (old new : D) : Type 0 where

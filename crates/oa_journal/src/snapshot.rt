@@ -14,8 +14,8 @@ use oa_image::TableReader;
 use oa_table::Table;
 use std::alloc::Global;
 
-/// How many bytes are read at once, where no part of the image is longer.
-const STRETCH: usize = 65_536;
+/// How many bytes are read at once, where no part of the image is longer. A block of so many goes back to the system when it is freed.
+const STRETCH: usize = 131_072;
 
 /// How many bytes are read behind those of a window, of so many that are left: as many as it has, and a stretch at least.
 fn stretch(held: usize, left: usize) -> usize

@@ -38,12 +38,9 @@ abbrev pub ignored : ℕ → Form
 ignored n place bytes = length bytes ≡ padding n place + n
 
 -- n bytes at a multiple of n, the lowest first, which stand for the number x
-pub record Unit_is (n x : ℕ) (place : ℕ) (bytes : List ℕ) : Type 0 where
+pub record unit (n x : ℕ) (place : ℕ) (bytes : List ℕ) : Type 0 where
   pub len : length bytes ≡ padding n place + n
   pub value : little_number n (drop (padding n place) bytes) ≡ x
-
-abbrev pub unit : ℕ → ℕ → Form
-unit n x = Unit_is n x
 
 -- these very bytes
 abbrev pub exactly : List ℕ → Form
@@ -54,20 +51,14 @@ abbrev pub any : ℕ → Form
 any n place bytes = length bytes ≡ n
 
 -- a value that a stretch stands for, and what is said of it and of what follows
-pub record With_is {A : Type 0} (F G : A → ℕ → List ℕ → Type 0) (place : ℕ) (bytes : List ℕ) : Type 0 where
+pub record with {A : Type 0} (F G : A → ℕ → List ℕ → Type 0) (place : ℕ) (bytes : List ℕ) : Type 0 where
   pub value : A
   pub form : Then (F value) (G value) place bytes
 
-abbrev pub with : {A : Type 0} → (A → Form) → (A → Form) → Form
-with F G = With_is F G
-
 -- no bytes, and a fact
-pub record Given_is (P : Type 0) (place : ℕ) (bytes : List ℕ) : Type 0 where
+pub record given (P : Type 0) (place : ℕ) (bytes : List ℕ) : Type 0 where
   pub fact : P
   pub none : bytes ≡ []
-
-abbrev pub given : Type 0 → Form
-given P = Given_is P
 
 -- a unique pointer that is set, or is null (C706 14.3.12)
 abbrev pub referent : Bool → Form
@@ -86,11 +77,8 @@ pairwise F [] (y ∷ ys) = given ⊥
 pairwise F (x ∷ xs) [] = given ⊥
 
 -- the value that make gives of a value that a stretch stands for
-pub record Made_is {A C : Type 0} (make : A → C) (F : A → ℕ → List ℕ → Type 0) (c : C) (place : ℕ)
+pub record made {A C : Type 0} (make : A → C) (F : A → ℕ → List ℕ → Type 0) (c : C) (place : ℕ)
     (bytes : List ℕ) : Type 0 where
   pub value : A
   pub is : make value ≡ c
   pub form : F value place bytes
-
-abbrev pub made : {A C : Type 0} → (A → C) → (A → Form) → C → Form
-made make F c = Made_is make F c

@@ -27,30 +27,21 @@ abbrev pub nothing : Form
 nothing words = words ≡ []
 
 -- no words, and a fact
-pub record Given_is (P : Type 0) (words : List Word) : Type 0 where
+pub record given (P : Type 0) (words : List Word) : Type 0 where
   pub fact : P
   pub none : words ≡ []
 
-abbrev pub given : Type 0 → Form
-given P = Given_is P
-
 -- one word that passes a test
-pub record This_is (test : Word → Bool) (words : List Word) : Type 0 where
+pub record this (test : Word → Bool) (words : List Word) : Type 0 where
   pub word : Word
   pub parts : words ≡ word ∷ []
   pub is : test word ≡ true
 
-abbrev pub this : (Word → Bool) → Form
-this test = This_is test
-
 -- one word, and what it stands for
-pub record One_is {A : Type 0} (meaning : Word → Option A) (x : A) (words : List Word) : Type 0 where
+pub record one {A : Type 0} (meaning : Word → Option A) (x : A) (words : List Word) : Type 0 where
   pub word : Word
   pub parts : words ≡ word ∷ []
   pub is : meaning word ≡ Some x
-
-abbrev pub one : {A : Type 0} → (Word → Option A) → A → Form
-one meaning x = One_is meaning x
 
 -- a stretch, or none
 abbrev pub optional : Form → Form
@@ -65,12 +56,9 @@ abbrev pub where_is : Type 0 → Form → Form
 where_is P F words = P × F words
 
 -- a value that a stretch stands for, and what is said of it and of what follows
-pub record With_is {A : Type 0} (F G : A → List Word → Type 0) (words : List Word) : Type 0 where
+pub record with {A : Type 0} (F G : A → List Word → Type 0) (words : List Word) : Type 0 where
   pub value : A
   pub form : Then (F value) (G value) words
-
-abbrev pub with : {A : Type 0} → (A → Form) → (A → Form) → Form
-with F G = With_is F G
 
 -- The texts of a list and of what ends it. A state s says what came before; each item has its form by the state and
 -- changes the state, after an item a word may stand that passes `apart` of it, and the end has its form by the last
@@ -81,14 +69,10 @@ listed F grow apart E s [] b = E s b
 listed F grow apart E s (x ∷ xs) b = F s x ▸ optional (this (apart x)) ▸ listed F grow apart E (grow s x) xs b
 
 -- the same, of which only the end's value counts
-pub record Gathered_is {S A B : Type 0} (F : S → A → List Word → Type 0) (grow : S → A → S) (apart : A → Word → Bool)
+pub record gathered {S A B : Type 0} (F : S → A → List Word → Type 0) (grow : S → A → S) (apart : A → Word → Bool)
     (E : S → B → List Word → Type 0) (s : S) (b : B) (words : List Word) : Type 0 where
   pub all : List A
   pub form : listed F grow apart E s all b words
-
-abbrev pub gathered : {S A B : Type 0} → (S → A → Form) → (S → A → S) → (A → Word → Bool) → (S → B → Form) → S → B
-    → Form
-gathered F grow apart E s b = Gathered_is F grow apart E s b
 
 -- the words begin with front and the first of left; or are front alone, where nothing is left
 abbrev pub BeginsWithWords : List Word → List Word → List Word → Type 0

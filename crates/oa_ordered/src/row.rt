@@ -99,6 +99,16 @@ impl<K, V> Row<K, V> {
         }
     }
 
+    /// A row without entries, and with room for so many where that is found.
+    pub(crate) fn with_room(alloc: Global, many: usize) -> Row<K, V>
+        ensures { result ≡ [] }
+    {
+        match Vec::with_capacity(alloc, many) {
+            Ok(entries) => Row { entries },
+            Err(_) => Row::new(alloc),
+        }
+    }
+
     /// The row of these entries, with no place to spare.
     pub(crate) fn of_entries(entries: Vec<(K, V)>) -> Row<K, V>
         ensures { result ≡ entries.items }

@@ -13,6 +13,10 @@ pub(crate) const FULL: usize = 64;
 /// How many entries of a full row stay in it where it is split.
 pub(crate) const HALF: usize = FULL / 2;
 
+/// Behind so many rows one is begun with room for a full one: they are full where keys rise, so that at most an eighth is spare. One that grew
+/// by eighths, while the values of its entries are made, would leave a hole at each step.
+const MANY: usize = 8;
+
 /// A place in rows: the row, and the place in it.
 #[derive(Clone, Copy)]
 pub(crate) struct Place {
@@ -142,7 +146,7 @@ fn begin_row<K: Drop, V: Drop>(
     if make_room(rows).is_err() {
         return Err(AllocFailed { value: entry });
     }
-    let mut row = Row::new(alloc);
+    let mut row = Row::with_room(alloc, if rows.len() < MANY { 0 } else { FULL });
     row.insert(0, entry)?;
     rows.push_reserved(row);
     Ok(())

@@ -12,9 +12,9 @@ use Rattle.std.specs.declared.cmp.Ordering.{Ordering}
 use Rattle.std.specs.declared.cmp.Ordering.TheVariants.{Less, Equal, Greater}
 use Rattle.std.proofs.lemmas.Map.{keys-set_value, length-set_value}
 use Rattle.oa_ordered.specs.Rows.{IsOrdered}
-use Rattle.oa_ordered.specs.Forms.{IsFilled, IsMap, entries_of}
-use Rattle.oa_ordered.specs.declared.form.Form.{Form}
-use Rattle.oa_ordered.specs.declared.form.Form.TheVariants.{One}
+use Rattle.oa_ordered.specs.Roots.{IsFilled, IsMap, entries_of}
+use Rattle.oa_ordered.specs.declared.root.Root.{Root}
+use Rattle.oa_ordered.specs.declared.root.Root.TheVariants.{One}
 use Rattle.oa_ordered.proofs.Keys.{above_of, ordered_with}
 use Rattle.oa_ordered.proofs.Split.{lookup_gap}
 
@@ -115,17 +115,17 @@ module _ {K X : Type 0} (cmp : K → K → Ordering) (total : IsTotalOrder cmp) 
       by_case true rest absent = absurd (some_is_not_none e.1 (Some e.1) refl absent)
       by_case false rest absent = ap (λ all. e ∷ all) (rest absent)
 
-  -- a map, in another form behind a call
-  module _ (form new : Form K X) (len : ℕ) (map : IsMap cmp form len) (filled : IsFilled new) where
-    pub map_set : (w : X) → entries_of new ≡ set_value (is_at (cmp key)) (entries_of form) w → IsMap cmp new len
+  -- a map, in another root behind a call
+  module _ (root new : Root K X) (len : ℕ) (map : IsMap cmp root len) (filled : IsFilled new) where
+    pub map_set : (w : X) → entries_of new ≡ set_value (is_at (cmp key)) (entries_of root) w → IsMap cmp new len
     map_set w is = record {
-      ordered = subst (IsStrictlySortedBy cmp) (sym (ap keys_of is ∙ keys-set_value (is_at (cmp key)) (entries_of form) w)) map.ordered;
+      ordered = subst (IsStrictlySortedBy cmp) (sym (ap keys_of is ∙ keys-set_value (is_at (cmp key)) (entries_of root) w)) map.ordered;
       filled = filled;
-      count = map.count ∙ sym (ap length is ∙ length-set_value (is_at (cmp key)) (entries_of form) w);
+      count = map.count ∙ sym (ap length is ∙ length-set_value (is_at (cmp key)) (entries_of root) w);
       few = map.few;
     }
 
-    pub map_same : entries_of new ≡ entries_of form → IsMap cmp new len
+    pub map_same : entries_of new ≡ entries_of root → IsMap cmp new len
     map_same is = record {
       ordered = subst (IsOrdered cmp) (sym is) map.ordered;
       filled = filled;
@@ -133,27 +133,27 @@ module _ {K X : Type 0} (cmp : K → K → Ordering) (total : IsTotalOrder cmp) 
       few = map.few;
     }
 
-    pub map_changed : (v x : X) → entries_of new ≡ insert_entry cmp (entries_of form) key v → lookup (is_at (cmp key)) (entries_of form) ≡ Some x → IsMap cmp new len
+    pub map_changed : (v x : X) → entries_of new ≡ insert_entry cmp (entries_of root) key v → lookup (is_at (cmp key)) (entries_of root) ≡ Some x → IsMap cmp new len
     map_changed v x is there = record {
-      ordered = subst (IsOrdered cmp) (sym is) (insert_ordered (entries_of form) v map.ordered);
+      ordered = subst (IsOrdered cmp) (sym is) (insert_ordered (entries_of root) v map.ordered);
       filled = filled;
-      count = map.count ∙ sym (ap length is ∙ insert_same (entries_of form) v x map.ordered there);
+      count = map.count ∙ sym (ap length is ∙ insert_same (entries_of root) v x map.ordered there);
       few = map.few;
     }
 
-    pub map_inserted : (v : X) → len < 2 ^ 63 - 1 → entries_of new ≡ insert_entry cmp (entries_of form) key v → lookup (is_at (cmp key)) (entries_of form) ≡ None → IsMap cmp new (len + 1)
+    pub map_inserted : (v : X) → len < 2 ^ 63 - 1 → entries_of new ≡ insert_entry cmp (entries_of root) key v → lookup (is_at (cmp key)) (entries_of root) ≡ None → IsMap cmp new (len + 1)
     map_inserted v most is absent = record {
-      ordered = subst (IsOrdered cmp) (sym is) (insert_ordered (entries_of form) v map.ordered);
+      ordered = subst (IsOrdered cmp) (sym is) (insert_ordered (entries_of root) v map.ordered);
       filled = filled;
-      count = omega (arith, map.count, ap length is, insert_more (entries_of form) v absent);
+      count = omega (arith, map.count, ap length is, insert_more (entries_of root) v absent);
       few = omega (arith, map.few, most);
     }
 
-    pub map_removed : (x : X) → entries_of new ≡ remove_entry (is_at (cmp key)) (entries_of form) → lookup (is_at (cmp key)) (entries_of form) ≡ Some x → IsMap cmp new (len - 1)
+    pub map_removed : (x : X) → entries_of new ≡ remove_entry (is_at (cmp key)) (entries_of root) → lookup (is_at (cmp key)) (entries_of root) ≡ Some x → IsMap cmp new (len - 1)
     map_removed x is there = record {
-      ordered = subst (IsOrdered cmp) (sym is) (remove_ordered (entries_of form) map.ordered);
+      ordered = subst (IsOrdered cmp) (sym is) (remove_ordered (entries_of root) map.ordered);
       filled = filled;
-      count = omega (arith, map.count, ap length is, remove_less (entries_of form) x there);
+      count = omega (arith, map.count, ap length is, remove_less (entries_of root) x there);
       few = omega (arith, map.few);
     }
 

@@ -6,7 +6,7 @@ use Rattle.std.specs.Borrow.{LendsSo, Fml, RattleType, MutBor}
 use Rattle.std.specs.BTreeMap.{is_at}
 use Rattle.std.specs.Map.{set_value}
 use Rattle.oa_ordered.specs.contracts.map.OrderedMap.{the_row}
-use Rattle.oa_ordered.specs.contracts.block.Block as block
+use Rattle.oa_ordered.specs.contracts.branch.Branch as branch
 
 -- what a clause has as K.Ord
 abbrev pub OrdMembers : Type 0 → Type 0
@@ -19,8 +19,8 @@ lends_get K V o m key r =
     LendsSo (the_row K V (record { cmp = o.cmp }) (record { eq = o.eq }) (record { partial_cmp = o.partial_cmp })) V m r
     (λ n w. n ≡ set_value (is_at (o.cmp key)) m.now w) (λ n. n ≡ m.now)
 
--- the same of a block
-abbrev pub lends_in_block : (K V : RattleType) (o : OrdMembers K.Denot) → MutBor (List (K.Denot × V.Denot)) → K.Denot
+-- the same of a branch
+abbrev pub lends_in_branch : (K V : RattleType) (o : OrdMembers K.Denot) → MutBor (List (K.Denot × V.Denot)) → K.Denot
     → Option (MutBor V.Denot) → Fml
-lends_in_block K V o m key r =
-    LendsSo (block.the_row K V) V m r (λ n w. n ≡ set_value (is_at (o.cmp key)) m.now w) (λ n. n ≡ m.now)
+lends_in_branch K V o m key r =
+    LendsSo (branch.the_row K V) V m r (λ n w. n ≡ set_value (is_at (o.cmp key)) m.now w) (λ n. n ≡ m.now)

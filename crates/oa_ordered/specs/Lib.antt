@@ -1,4 +1,4 @@
 pub mod Rows
-pub mod Forms
+pub mod Roots
 pub mod Lending
 pub mod Lends

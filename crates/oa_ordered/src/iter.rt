@@ -4,7 +4,7 @@ ghost use Rattle.std.specs.Iterator.{at_most};
 ghost use Rattle.std.specs.Map.Iter.{TakesFirst, deref_pair};
 ghost use Rattle.oa_ordered.specs.Rows.{AreFilled, joined};
 
-use crate::block::Block;
+use crate::branch::Branch;
 use crate::row::Row;
 use std::iter::{ExactSizeIterator, Iterator};
 use std::marker::Model;
@@ -14,7 +14,7 @@ use std::marker::Model;
 pub struct Iter<'a, K, V> {
     entries: &'a [(K, V)],
     rows: &'a [Row<K, V>],
-    blocks: &'a [Block<K, V>],
+    branches: &'a [Branch<K, V>],
     left: usize,
 }
 
@@ -24,50 +24,50 @@ impl<'a, K, V> Model for Iter<'a, K, V> {
 
     ghost Value = { List (K × V) };
 
-    ghost view = { λ i. i.entries.now ++ (joined i.rows.now ++ joined i.blocks.now) };
+    ghost view = { λ i. i.entries.now ++ (joined i.rows.now ++ joined i.branches.now) };
 
-    ghost invariant = { λ i. AreFilled i.rows.now × AreFilled i.blocks.now
-        × (i.left ≡ length (i.entries.now ++ (joined i.rows.now ++ joined i.blocks.now))) };
+    ghost invariant = { λ i. AreFilled i.rows.now × AreFilled i.branches.now
+        × (i.left ≡ length (i.entries.now ++ (joined i.rows.now ++ joined i.branches.now))) };
 }
 
 impl<'a, K, V> Iter<'a, K, V> {
-    /// Those of entries, and then those of blocks, so many together.
+    /// Those of entries, and then those of branches, so many together.
     pub(crate) fn new(
         entries: &'a [(K, V)],
-        blocks: &'a [Block<K, V>],
+        branches: &'a [Branch<K, V>],
         len: usize,
     ) -> Iter<'a, K, V>
-        requires filled { AreFilled blocks.now }
-        requires count { len ≡ length (entries.now ++ joined blocks.now) }
-        ensures { result ≡ entries.now ++ joined blocks.now }
+        requires filled { AreFilled branches.now }
+        requires count { len ≡ length (entries.now ++ joined branches.now) }
+        ensures { result ≡ entries.now ++ joined branches.now }
     {
         Iter {
             entries,
             rows: &[],
-            blocks,
+            branches,
             left: len,
         }
     }
 }
 
-/// The first of rows and of those of blocks, with the others.
+/// The first of rows and of those of branches, with the others.
 fn next_row<'a, K, V>(
     rows: &'a [Row<K, V>],
-    blocks: &'a [Block<K, V>],
-) -> (&'a [(K, V)], &'a [Row<K, V>], &'a [Block<K, V>])
-    requires some { 0 < length (joined rows.now ++ joined blocks.now) }
+    branches: &'a [Branch<K, V>],
+) -> (&'a [(K, V)], &'a [Row<K, V>], &'a [Branch<K, V>])
+    requires some { 0 < length (joined rows.now ++ joined branches.now) }
     requires rows { AreFilled rows.now }
-    requires blocks { AreFilled blocks.now }
-    ensures entries { result.0.now ++ (joined result.1.now ++ joined result.2.now) ≡ joined rows.now ++ joined blocks.now }
+    requires branches { AreFilled branches.now }
+    ensures entries { result.0.now ++ (joined result.1.now ++ joined result.2.now) ≡ joined rows.now ++ joined branches.now }
     ensures first { 0 < length result.0.now }
     ensures rows { AreFilled result.1.now }
-    ensures blocks { AreFilled result.2.now }
+    ensures branches { AreFilled result.2.now }
 {
     if rows.is_empty() {
-        let next = blocks[0].rows();
-        return (next[0].as_slice(), &next[1..], &blocks[1..]);
+        let next = branches[0].rows();
+        return (next[0].as_slice(), &next[1..], &branches[1..]);
     }
-    (rows[0].as_slice(), &rows[1..], blocks)
+    (rows[0].as_slice(), &rows[1..], branches)
 }
 
 impl<'a, K, V> Iterator for Iter<'a, K, V> {
@@ -83,10 +83,10 @@ impl<'a, K, V> Iterator for Iter<'a, K, V> {
         }
         self.left -= 1;
         if self.entries.is_empty() {
-            let (entries, rows, blocks) = next_row(self.rows, self.blocks);
+            let (entries, rows, branches) = next_row(self.rows, self.branches);
             self.entries = entries;
             self.rows = rows;
-            self.blocks = blocks;
+            self.branches = branches;
         }
         let entry = &self.entries[0];
         self.entries = &self.entries[1..];

@@ -6,11 +6,11 @@
 //! What stands on it: oa_table keeps objects and cells in it, oa_share its clients; oa_image makes such maps of what a store has.
 #![tactic(auto)]
 
-mod block;
-mod blocks;
-mod form;
+mod branch;
+mod branches;
 mod iter;
 mod map;
+mod root;
 mod row;
 mod rows;
 

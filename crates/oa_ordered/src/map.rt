@@ -6,9 +6,9 @@ ghost use Rattle.std.specs.Map.{keys_of, lookup, remove_entry};
 ghost use Rattle.std.specs.BTreeMap.{insert_entry, is_at};
 ghost use Rattle.std.specs.List.Sorted.{IsStrictlySortedBy};
 
-use crate::blocks::{BLOCK_ENTRIES, block_for};
-use crate::form::Form;
+use crate::branches::{BRANCH_ENTRIES, branch_for};
 use crate::iter::Iter;
+use crate::root::Root;
 use crate::row::{Row, place_in_near};
 use std::alloc::{AllocError, AllocFailed, Global};
 use std::iter::IntoIterator;
@@ -19,26 +19,26 @@ const MOST: usize = usize::MAX / 2;
 
 /// A map that is kept in the order of its keys.
 ///
-/// Its entries lie in rows of up to 64, each an allocation of its own with few places to spare, and the rows in blocks of up to 128; a row
-/// or a block that finds no memory to be split gets longer. A look-up halves the blocks, then one of them and then a row of it; a new entry
-/// moves those behind it in its row, and where that is split the rows behind it in its block. Up to 64 entries stand in one row, which
+/// Its entries lie in rows of up to 64, each an allocation of its own with few places to spare, and the rows in branches of up to 128; a row
+/// or a branch that finds no memory to be split gets longer. A look-up halves the branches, then one of them and then a row of it; a new entry
+/// moves those behind it in its row, and where that is split the rows behind it in its branch. Up to 64 entries stand in one row, which
 /// lies in the map itself. An insert looks behind the last entry first.
 #[derive(Drop)]
 pub struct OrderedMap<K: Ord, V> {
     alloc: Global,
-    form: Form<K, V>,
+    root: Root<K, V>,
     len: usize,
 }
 
 impl<K: Ord, V> Model for OrderedMap<K, V> {
     ghost use Rattle.std.specs.Prelude.{List};
-    ghost use Rattle.oa_ordered.specs.Forms.{IsMap, entries_of};
+    ghost use Rattle.oa_ordered.specs.Roots.{IsMap, entries_of};
 
     ghost Value = { List (K × V) };
 
-    ghost view = { λ m. entries_of m.form };
+    ghost view = { λ m. entries_of m.root };
 
-    ghost invariant = { λ m. IsMap K.cmp m.form m.len };
+    ghost invariant = { λ m. IsMap K.cmp m.root m.len };
 }
 
 impl<K: Ord, V> OrderedMap<K, V> {
@@ -50,7 +50,7 @@ impl<K: Ord, V> OrderedMap<K, V> {
     {
         OrderedMap {
             alloc,
-            form: Form::One(Row::new(alloc)),
+            root: Root::One(Row::new(alloc)),
             len: 0,
         }
     }
@@ -68,8 +68,8 @@ impl<K: Ord, V> OrderedMap<K, V> {
         if len > MOST {
             return Err(AllocError);
         }
-        let form = Form::of_entries(alloc, entries)?;
-        Ok(OrderedMap { alloc, form, len })
+        let root = Root::of_entries(alloc, entries)?;
+        Ok(OrderedMap { alloc, root, len })
     }
 
     /// How many entries there are.
@@ -93,17 +93,17 @@ impl<K: Ord, V> OrderedMap<K, V> {
     pub fn get_near(&self, key: &K, near: usize) -> Option<&V>
         ensures { option_copied result ≡ lookup (is_at (K.cmp key.now)) self.now }
     {
-        match &self.form {
-            Form::One(row) => match place_in_near(row.as_slice(), key, near) {
+        match &self.root {
+            Root::One(row) => match place_in_near(row.as_slice(), key, near) {
                 Ok(at) => Some(&row.as_slice()[at].1),
                 Err(_) => None,
             },
-            Form::Many(blocks) => {
-                let block = block_for(blocks, key, near / BLOCK_ENTRIES);
-                if block == blocks.len() {
+            Root::Many(branches) => {
+                let branch = branch_for(branches, key, near / BRANCH_ENTRIES);
+                if branch == branches.len() {
                     return None;
                 }
-                blocks[block].get_near(key, near % BLOCK_ENTRIES)
+                branches[branch].get_near(key, near % BRANCH_ENTRIES)
             }
         }
     }
@@ -121,17 +121,17 @@ impl<K: Ord, V> OrderedMap<K, V> {
         ensures* writes_back { sem 𝓛 (lends_get K.row V.row K.Ord self.entry key.now result) }
         ensures value { option_copied_mut result ≡ lookup (is_at (K.cmp key.now)) self.old }
     {
-        match &mut self.form {
-            Form::One(row) => match place_in_near(row.as_slice(), key, near) {
+        match &mut self.root {
+            Root::One(row) => match place_in_near(row.as_slice(), key, near) {
                 Ok(at) => Some(row.value_mut(at)),
                 Err(_) => None,
             },
-            Form::Many(blocks) => {
-                let block = block_for(blocks, key, near / BLOCK_ENTRIES);
-                if block == blocks.len() {
+            Root::Many(branches) => {
+                let branch = branch_for(branches, key, near / BRANCH_ENTRIES);
+                if branch == branches.len() {
                     return None;
                 }
-                blocks[block].get_mut_near(key, near % BLOCK_ENTRIES)
+                branches[branch].get_mut_near(key, near % BRANCH_ENTRIES)
             }
         }
     }
@@ -153,7 +153,7 @@ impl<K: Ord, V> OrderedMap<K, V> {
                 value: (key, value),
             });
         }
-        let old = self.form.insert(self.alloc, key, value)?;
+        let old = self.root.insert(self.alloc, key, value)?;
         if old.is_none() {
             self.len += 1;
         }
@@ -179,7 +179,7 @@ impl<K: Ord, V> OrderedMap<K, V> {
         ensures value { result ≡ lookup (is_at (K.cmp key.now)) self.old }
         ensures entries { self.new ≡ remove_entry (is_at (K.cmp key.now)) self.old }
     {
-        let value = self.form.remove(key)?;
+        let value = self.root.remove(key)?;
         self.len -= 1;
         Some(value)
     }
@@ -190,9 +190,9 @@ impl<K: Ord, V> OrderedMap<K, V> {
         ensures ordered { IsStrictlySortedBy K.cmp (keys_of self.now) }
         ensures fits { length self.now < 2 ^ 63 }
     {
-        match &self.form {
-            Form::One(row) => Iter::new(row.as_slice(), &[], self.len),
-            Form::Many(blocks) => Iter::new(&[], blocks, self.len),
+        match &self.root {
+            Root::One(row) => Iter::new(row.as_slice(), &[], self.len),
+            Root::Many(branches) => Iter::new(&[], branches, self.len),
         }
     }
 }

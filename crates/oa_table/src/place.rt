@@ -21,12 +21,12 @@ use uuid::Uuid;
 #[derive(Drop)]
 pub struct Place {
     interface: Uuid,
-    member: Member,
+    member: MemberKey,
 }
 
 /// A member with what it was called with. The DISPID stands beside the tag, in one word.
 #[derive(Drop)]
-enum Member {
+enum MemberKey {
     /// No argument.
     Bare(i32),
     /// One argument.
@@ -46,19 +46,19 @@ impl Model for Place {
     ghost invariant = { λ p. IsPlace (record { interface = p.interface; dispid = dispid_in p.member; key = key_in p.member }) };
 }
 
-impl Member {
+impl MemberKey {
     /// The member that was called with a list of arguments. Takes no memory.
-    fn of_key(dispid: i32, key: Vec<Scalar>) -> Member
+    fn of_key(dispid: i32, key: Vec<Scalar>) -> MemberKey
         ensures dispid { dispid_in result ≡ dispid }
         ensures key { key_in result ≡ key.items }
     {
         if key.len() > 1 {
-            return Member::Many(dispid, key);
+            return MemberKey::Many(dispid, key);
         }
         let mut key = key;
         match key.pop() {
-            Some(argument) => Member::One(dispid, argument),
-            None => Member::Bare(dispid),
+            Some(argument) => MemberKey::One(dispid, argument),
+            None => MemberKey::Bare(dispid),
         }
     }
 
@@ -66,9 +66,9 @@ impl Member {
         ensures { result ≡ dispid_in self.now }
     {
         match self {
-            Member::Bare(dispid) => *dispid,
-            Member::One(dispid, _) => *dispid,
-            Member::Many(dispid, _) => *dispid,
+            MemberKey::Bare(dispid) => *dispid,
+            MemberKey::One(dispid, _) => *dispid,
+            MemberKey::Many(dispid, _) => *dispid,
         }
     }
 
@@ -76,18 +76,18 @@ impl Member {
         ensures { result.now ≡ key_in self.now }
     {
         match self {
-            Member::Bare(_) => &[],
-            Member::One(_, argument) => from_ref(argument),
-            Member::Many(_, key) => key.as_slice(),
+            MemberKey::Bare(_) => &[],
+            MemberKey::One(_, argument) => from_ref(argument),
+            MemberKey::Many(_, key) => key.as_slice(),
         }
     }
 
     /// By DISPID, then by arguments. Of two without any, as most are, no lists are compared.
-    fn order(&self, other: &Member) -> Ordering
+    fn order(&self, other: &MemberKey) -> Ordering
         ensures { result ≡ then_cmp (on dispid_in int_cmp) (on key_in key_cmp) self.now other.now }
     {
-        if let Member::Bare(dispid) = self {
-            if let Member::Bare(other) = other {
+        if let MemberKey::Bare(dispid) = self {
+            if let MemberKey::Bare(other) = other {
                 return dispid.cmp(other);
             }
         }
@@ -106,7 +106,7 @@ impl Place {
         let _ = interface.as_bytes();
         Place {
             interface,
-            member: Member::of_key(dispid, key),
+            member: MemberKey::of_key(dispid, key),
         }
     }
 

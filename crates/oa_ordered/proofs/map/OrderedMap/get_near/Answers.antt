@@ -2,8 +2,8 @@ use Rattle.std.proofs.Common.{◌≡◌, ◌∙◌, ◌<◌, length, slice_index
 use Rattle.std.specs.Map.{lookup}
 use Rattle.std.specs.BTreeMap.{is_at}
 use Rattle.oa_ordered.specs.Rows.{IsOrdered, IsRowFor, joined}
-use Rattle.oa_ordered.specs.Forms.{IsMap, entries_of}
-use Rattle.oa_ordered.specs.declared.form.Form.TheVariants.{Many}
+use Rattle.oa_ordered.specs.Roots.{IsMap, entries_of}
+use Rattle.oa_ordered.specs.declared.root.Root.TheVariants.{Many}
 use Rattle.oa_ordered.proofs.Around.{lookup_in}
 use Rattle.oa_ordered.proofs.InRow.{row_absent, row_lookup}
 use Rattle.oa_ordered.proofs.Joined.{row_is}
@@ -25,23 +25,23 @@ returns-in-Err g c =
 
 pub get_near-requires : goal.get_near-requires
 get_near-requires g c =
-    let blocks = c.in-Many.blocks.items in
-    let block = c.block_for-block.result in
-    let map : IsMap g.K.Ord.cmp (Many c.in-Many.blocks) c.self.inside.len = subst (λ f. IsMap g.K.Ord.cmp f c.self.inside.len) c.in-Many.is c.self.invariant in
-    let of : IsRowFor g.K.Ord.cmp c.args.key.now blocks block = subst (λ all. IsRowFor g.K.Ord.cmp c.args.key.now all block) c.deref.ensures.value c.block_for-block.ensures in
-    let lt : block < length blocks = omega (arith, of.place, c.len.ensures, c.if-block-len.false) in
+    let branches = c.in-Many.branches.items in
+    let branch = c.branch_for-branch.result in
+    let map : IsMap g.K.Ord.cmp (Many c.in-Many.branches) c.self.inside.len = subst (λ f. IsMap g.K.Ord.cmp f c.self.inside.len) c.in-Many.is c.self.invariant in
+    let of : IsRowFor g.K.Ord.cmp c.args.key.now branches branch = subst (λ all. IsRowFor g.K.Ord.cmp c.args.key.now all branch) c.deref.ensures.value c.branch_for-branch.ensures in
+    let lt : branch < length branches = omega (arith, of.place, c.len.ensures, c.if-branch-len.false) in
     let read = c.index.result.now in
-    let same = row_is blocks block read read lt c.index.ensures in
-    subst (IsOrdered g.K.Ord.cmp) (sym same) (row_ordered g.K.Ord.cmp g.met.K.Ord.total c.args.key.now blocks map.ordered block lt)
+    let same = row_is branches branch read read lt c.index.ensures in
+    subst (IsOrdered g.K.Ord.cmp) (sym same) (row_ordered g.K.Ord.cmp g.met.K.Ord.total c.args.key.now branches map.ordered branch lt)
 
-pub returns-else-block-len : goal.returns-else-block-len
-returns-else-block-len g c =
-    let blocks = c.in-Many.blocks.items in
-    let block = c.block_for-block.result in
-    let map : IsMap g.K.Ord.cmp (Many c.in-Many.blocks) c.self.inside.len = subst (λ f. IsMap g.K.Ord.cmp f c.self.inside.len) c.in-Many.is c.self.invariant in
-    let of : IsRowFor g.K.Ord.cmp c.args.key.now blocks block = subst (λ all. IsRowFor g.K.Ord.cmp c.args.key.now all block) c.deref.ensures.value c.block_for-block.ensures in
-    let lt : block < length blocks = omega (arith, of.place, c.len.ensures, c.if-block-len.false) in
+pub returns-else-branch-len : goal.returns-else-branch-len
+returns-else-branch-len g c =
+    let branches = c.in-Many.branches.items in
+    let branch = c.branch_for-branch.result in
+    let map : IsMap g.K.Ord.cmp (Many c.in-Many.branches) c.self.inside.len = subst (λ f. IsMap g.K.Ord.cmp f c.self.inside.len) c.in-Many.is c.self.invariant in
+    let of : IsRowFor g.K.Ord.cmp c.args.key.now branches branch = subst (λ all. IsRowFor g.K.Ord.cmp c.args.key.now all branch) c.deref.ensures.value c.branch_for-branch.ensures in
+    let lt : branch < length branches = omega (arith, of.place, c.len.ensures, c.if-branch-len.false) in
     let read = c.index.result.now in
-    let same = row_is blocks block read read lt c.index.ensures in
-    let all : c.args.self.now ≡ joined blocks = sym c.self.view_is ∙ ap entries_of c.in-Many.is in
-    rw all (c.get_near.ensures ∙ (ap (lookup (is_at (g.K.Ord.cmp c.args.key.now))) same ∙ sym (lookup_in g.K.Ord.cmp c.args.key.now blocks block lt of)))
+    let same = row_is branches branch read read lt c.index.ensures in
+    let all : c.args.self.now ≡ joined branches = sym c.self.view_is ∙ ap entries_of c.in-Many.is in
+    rw all (c.get_near.ensures ∙ (ap (lookup (is_at (g.K.Ord.cmp c.args.key.now))) same ∙ sym (lookup_in g.K.Ord.cmp c.args.key.now branches branch lt of)))

@@ -1,0 +1,13 @@
+use Rattle.std.proofs.Common.{◌≡◌, ◌++◌, length}
+use Rattle.std.specs.Prelude.{reverse}
+use Rattle.oa_ordered.specs.Rows.{AreFilled, joined}
+use Rattle.oa_ordered.proofs.branches.branches_of.Given as goal
+
+abbrev pub invariant-rows : goal.invariant-rows
+invariant-rows g l = record {
+  same : l.left ++ joined (reverse l.branches.items) ≡ joined l.fn.rows.items;
+  filled : AreFilled (reverse l.branches.items);
+}
+
+abbrev pub decreases-rows : goal.decreases-rows
+decreases-rows g l = length l.left

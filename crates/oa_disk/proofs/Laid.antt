@@ -28,7 +28,7 @@ zero_at (suc n) (suc i) = zero_at n i
 no_call : (size : ℕ) → AllInside size []
 no_call size k at count is = absurd (cc)
 
-none_whole : (size : ℕ) → IsHistory size (layered size [] [])
+pub none_whole : (size : ℕ) → IsHistory size (layered size [] [])
 unfolding zeros
 none_whole size = record {
   bytes_of_first = zeros_bytes size;

@@ -2,6 +2,7 @@ mod Calls
 mod Entered
 mod Folders
 mod Laid
+mod Lengthened
 mod Noted
 pub mod Ranges
 mod Recorded

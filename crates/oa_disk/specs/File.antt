@@ -1,8 +1,11 @@
 -- What a FileDisk shows.
-use Rattle.std.specs.Prelude.{◌≡◌, ℕ}
+use Rattle.std.specs.Prelude.{◌≡◌, ◌-◌, ◌++◌, ℕ, IsTrue}
+use Rattle.oa_disk.specs.Disk.{NothingPending}
+use Rattle.oa_disk.specs.declared.disk.Disk.{Ghosts}
 use Rattle.oa_disk.specs.declared.file.FileDisk.{FileDisk}
 use Rattle.oa_disk.specs.declared.record.Record.{Record}
 use Rattle.oa_disk.specs.Record.{beginning}
+use Rattle.oa_disk.specs.Replay.{zeros}
 
 abbrev pub file_size : FileDisk → ℕ
 file_size disk = disk.size
@@ -23,3 +26,12 @@ pub record HasMetNoCall (held : ℕ → ℕ) (disk : FileDisk) : Type 0 where
 pub record IsZeros (size : ℕ) (disk : FileDisk) : Type 0 where
   pub bytes : disk.size ≡ size
   pub zeros : HasMetNoCall (λ _. 0) disk
+
+-- A disk before its first call, made of another. It is as honest as that one, no call has failed, and a crash leaves
+-- what a read gives: what the other held, where no call of that one had failed, and zeros behind it up to that size.
+pub record GoesOnFrom {D : Type 0} (g : Ghosts D) (size : ℕ) (old new : D) : Type 0 where
+  pub honest : g.is_honest new ≡ g.is_honest old
+  pub failures : g.failures_of new ≡ 0
+  pub settled : NothingPending g.contents g.image new
+  pub holds : IsTrue (g.is_honest old) → g.failures_of old ≡ 0
+      → g.contents new ≡ g.contents old ++ zeros (size - g.size_of old)

@@ -31,7 +31,7 @@ pub struct FileDisk {
 
 impl FileDisk {
     ghost use Rattle.oa_disk.specs.After.{BeginsHonest};
-    ghost use Rattle.oa_disk.specs.File.{file_size, failures_of, record_of, HasMetNoCall, IsZeros};
+    ghost use Rattle.oa_disk.specs.File.{file_size, failures_of, record_of, GoesOnFrom, HasMetNoCall, IsZeros};
 
     /// Opens a file that is there for reading and writing, and not for appending, as `over` does. There is a beginning from which all that
     /// is said of the disk is true: what the file held. (`over` says it of each beginning: beside a path no caller can hand on a value that
@@ -79,21 +79,27 @@ impl FileDisk {
     }
 
     /// The same file, lengthened to so many bytes where it is shorter, by zeros, which take their room on the device at once; all that was
-    /// written to it is brought there. It is locked throughout. Where that fails, the error is the system's, and the file, which is let go,
-    /// has its length of before, if that can be set. A stop leaves one that is shorter than asked.
+    /// written to it is brought there. It is locked throughout. The disk begins with what this one holds, and is as honest. Where that
+    /// fails, the error is the system's, and the file, which is let go, has its length of before, if that can be set. A stop leaves one that
+    /// is shorter than asked.
     pub fn lengthen(self, size: u64) -> io::Result<FileDisk>
         ensures kept { IfOk result (λ disk. size ≤ file_size self → file_size disk ≡ file_size self) }
         ensures lengthened { IfOk result (λ disk. file_size self ≤ size → file_size disk ≡ size) }
-        ensures begins { IfOk result (BeginsHonest ⟦<FileDisk as Disk>⟧) }
+        ensures goes_on { IfOk result (GoesOnFrom ⟦<FileDisk as Disk>⟧ size self) }
     {
         let old = self.size;
+        let history = self.history.lengthened(&size);
         let file = self.file;
         if let Err(error) = add_zeros(&file, old, size) {
             let _ = file.set_len(old);
             return Err(error);
         }
-        let long = if old < size { size } else { old };
-        Ok(FileDisk::begin(file, long))
+        Ok(FileDisk {
+            file,
+            size: if old < size { size } else { old },
+            failures: 0,
+            history,
+        })
     }
 
     /// A file of which this is the beginning.

@@ -22,12 +22,19 @@ impl Model for Record {
 }
 
 impl Record {
-    ghost use Rattle.oa_disk.specs.Record.{beginning, noted};
+    ghost use Rattle.oa_disk.specs.Record.{beginning, lengthened, noted};
 
     /// A file of that size, with this byte at each place, and no call.
     pub(crate) fn beginning(_size: &u64) -> Record
         ghost held: { ℕ → ℕ }
         ensures { result ≡ beginning held _size.now }
+    {
+        Record {}
+    }
+
+    /// A file of that size, which holds at first what this one holds now, and zeros behind it. It is as honest.
+    pub(crate) fn lengthened(&self, _size: &u64) -> Record
+        ensures { result ≡ lengthened self.now _size.now }
     {
         Record {}
     }

@@ -1,8 +1,7 @@
 -- A snapshot that is read in stretches.
-use Rattle.std.proofs.Common.{◌≡◌, ℕ, suc, ◌+◌, ◌-◌, ◌*◌, ◌<◌, ◌≤◌, IsTrue, List, Ok, refl, arith}
+use Rattle.std.proofs.Common.{◌≡◌, ℕ, suc, ◌+◌, ◌-◌, ◌*◌, ◌<◌, ◌≤◌, IsTrue, List, Ok, arith}
 use Rattle.std.specs.Int.{div_ceil}
 use Rattle.std.proofs.lemmas.Grind.{div_ceil_times}
-use Rattle.oa_disk.specs.Moments.{started}
 use Rattle.oa_disk.specs.declared.disk.Disk.{Ghosts}
 use Rattle.oa_journal.specs.Reads.{AfterReads}
 use Rattle.oa_journal.specs.Snapshots.{stretch_bytes}
@@ -16,25 +15,6 @@ pub record HasRead {D : Type 0} (g : Ghosts D) (old new : D) (passed left : ℕ)
   pub after : AfterReads {T = Unit {0}} g (2 * calls) old new (Ok tt)
 
 module _ {D : Type 0} (g : Ghosts D) where
-  -- before the first call
-  pub none_read : (old : D) (left : ℕ) → ((c : List ℕ) → IsTrue (g.is_honest old) → g.image_since old (g.moment old) c → g.image old c)
-      → HasRead g old old 0 left
-  none_read old left only = record {
-    calls = 0;
-    few = omega arith;
-    full = λ some. omega arith;
-    after = record {
-      reads = λ h. record {
-        contents_stay = refl;
-        writes_nothing = record { images = λ c is. is; moments = started g.moment g.image_since old (g.image old) (λ c left. only c h left) };
-      };
-      calls = record { size = refl; honest = λ h. h; failures = omega arith; once = omega arith; unfailed = refl };
-      device = λ fault is. absurd cc;
-      cause = tt;
-      most = λ h. omega arith;
-    };
-  }
-
   -- a stretch more
   pub one_read : {old mid new : D} {T : Type 0} {x : T} (passed left next to : ℕ) → HasRead g old mid passed left → 0 < left
       → AfterReads g 2 mid new (Ok x) → next < left → (0 < next → next + stretch_bytes ≤ left) → to ≡ passed + (left - next) → HasRead g old new to next
@@ -48,8 +28,5 @@ module _ {D : Type 0} (g : Ghosts D) where
       }
 
 -- two bytes pay for a call, and each stretch but the last one is longer
-pub few_stretches : (n : ℕ) → 2 * div_ceil n stretch_bytes ≤ 1 + n
-few_stretches n = let calls = (div_ceil_times n stretch_bytes (omega arith)).1 in omega (arith, calls)
-
 pub fewer_stretches : (n : ℕ) → 2 ≤ n → 2 * div_ceil n stretch_bytes ≤ n
 fewer_stretches n some = let calls = (div_ceil_times n stretch_bytes (omega arith)).1 in omega (arith, calls, some)

@@ -94,10 +94,11 @@ impl FileDisk {
             let _ = file.set_len(old);
             return Err(error);
         }
+        let failures = 0;
         Ok(FileDisk {
             file,
             size: if old < size { size } else { old },
-            failures: 0,
+            failures,
             history,
         })
     }

@@ -1,5 +1,5 @@
 //! The objects of a table.
-ghost use Rattle.std.specs.Prelude.{◌≡◌, ◌≤◌, ◌+◌, [], None, Ok, IfOk, IfErr, OnOk};
+ghost use Rattle.std.specs.Prelude.{◌≡◌, ◌≤◌, ◌+◌, [], None, Ok, IfOk, IfErr, IsOk, OnErr, OnOk};
 ghost use Rattle.std.specs.List.Sorted.{IsStrictlySortedBy};
 ghost use Rattle.std.specs.Map.{keys_of};
 ghost use Rattle.std.specs.Option.{option_map};
@@ -8,7 +8,7 @@ ghost use Rattle.oa_table.specs.Elements.{with_element_put, locked_value, redime
 ghost use Rattle.oa_table.specs.Objects.{any_locked, locks_of_cell, with_change, with_put};
 ghost use Rattle.oa_table.specs.Outcomes.{CountsLocks, Does};
 ghost use Rattle.oa_table.specs.Places.{place_cmp};
-ghost use Rattle.oa_table.specs.Sizes.{largest_cell, largest_object, object_size, size_due};
+ghost use Rattle.oa_table.specs.Sizes.{largest_cell, largest_image, largest_object, object_size, size_due};
 ghost use Rattle.oa_table.specs.Tables.{cell_at};
 
 use crate::difference::{Difference, element_difference, no_difference, redim_difference};
@@ -190,12 +190,15 @@ impl LiveObject {
         value: Variant,
         room: Room,
     ) -> Result<Difference, Variant>
+        requires { (room.size ≤ largest_image) × (room.most ≤ largest_image) }
         ensures done { OnOk result (with_put place.now value self.old ≡ Ok self.new) }
         ensures size { IfOk result (λ change. object_size self.new + change.gone ≡ object_size self.old + change.come) }
         ensures small { IfOk result (λ change. change.come ≤ largest_cell) }
-        ensures within { IfOk result (λ change. change.come ≤ change.gone + room.growth) }
+        ensures within { IfOk result (λ change. room.size + change.come ≤ room.most + change.gone) }
         ensures longest { OnOk result (value_size value ≤ room.longest) }
         ensures back { IfErr result (λ back. (back ≡ value) × (self.new ≡ self.old)) }
+        ensures refused { let due = with_put place.now value self.old in OnErr result (IsOk due → value_size value ≤ room.longest
+            → room.size + size_due object_size due self.old ≤ room.most + object_size self.old → cell_at place.now self.old.cells ≡ None) }
     {
         self.places_rise();
         let Some(old) = self.cells.get_mut(place) else {

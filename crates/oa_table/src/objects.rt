@@ -1,5 +1,5 @@
 //! The objects of a table, and their changes.
-ghost use Rattle.std.specs.Prelude.{◌≡◌, ◌<◌, ◌≤◌, ◌+◌, All, length, Ok, IfOk, IfErr, OnOk, OnErr};
+ghost use Rattle.std.specs.Prelude.{◌≡◌, ◌<◌, ◌≤◌, ◌+◌, All, length, None, Ok, IfOk, IfErr, IsOk, OnOk, OnErr};
 ghost use Rattle.std.specs.List.Sorted.{IsStrictlySortedBy};
 ghost use Rattle.std.specs.Map.{keys_of};
 ghost use Rattle.std.specs.Option.{option_map};
@@ -10,8 +10,8 @@ ghost use Rattle.oa_table.specs.Locks.{locked_in, locks_at, with_lock, without_l
 ghost use Rattle.oa_table.specs.Memory.{MayWantMemory};
 ghost use Rattle.oa_table.specs.Outcomes.{CountsLocks, Does};
 ghost use Rattle.oa_table.specs.Parts.{table_with_next, with_last};
-ghost use Rattle.oa_table.specs.Sizes.{largest_cell, table_size};
-ghost use Rattle.oa_table.specs.Tables.{object_at};
+ghost use Rattle.oa_table.specs.Sizes.{largest_cell, largest_image, size_after, table_size};
+ghost use Rattle.oa_table.specs.Tables.{cell_in, object_at};
 
 use crate::difference::Difference;
 use crate::value::Room;
@@ -223,12 +223,16 @@ impl Objects {
         value: Variant,
         room: Room,
     ) -> Result<Difference, Variant>
+        requires { (room.size ≤ largest_image) × (room.most ≤ largest_image) }
         ensures done { OnOk result (applied (Event.Put name.now value) self.old ≡ Ok self.new) }
         ensures size { IfOk result (λ change. table_size self.new + change.gone ≡ table_size self.old + change.come) }
         ensures small { IfOk result (λ change. change.come ≤ largest_cell) }
-        ensures within { IfOk result (λ change. change.come ≤ change.gone + room.growth) }
+        ensures within { IfOk result (λ change. room.size + change.come ≤ room.most + change.gone) }
         ensures longest { OnOk result (value_size value ≤ room.longest) }
         ensures back { IfErr result (λ back. (back ≡ value) × (self.new ≡ self.old)) }
+        ensures refused { let event = Event.Put name.now value in OnErr result (IsOk (applied event self.old)
+            → value_size value ≤ room.longest → room.size + size_after event self.old ≤ room.most + table_size self.old
+            → cell_in name.now.place (object_at name.now.object self.old) ≡ None) }
     {
         let Some(found) = self.objects.get_mut_near(&name.object, near(name.object)) else {
             return Err(value);

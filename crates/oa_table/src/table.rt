@@ -1,5 +1,5 @@
 //! The table of objects.
-ghost use Rattle.std.specs.Prelude.{◌≡◌, ◌≤◌, ℕ, List, length, Ok, IfOk, IfErr, OnOk, OnErr};
+ghost use Rattle.std.specs.Prelude.{◌≡◌, ◌≤◌, ℕ, List, length, None, Ok, IfOk, IfErr, IsOk, OnOk, OnErr};
 ghost use Rattle.std.specs.List.Sorted.{IsStrictlySortedBy};
 ghost use Rattle.std.specs.Map.{keys_of};
 ghost use Rattle.std.specs.Option.{option_map};
@@ -334,13 +334,13 @@ impl Table {
         ensures longest { OnOk result (value_size value ≤ longest) }
         ensures most { OnOk result (table_size self.new ≤ most) }
         ensures back { IfErr result (λ back. (back ≡ value) × (self.new ≡ self.old)) }
+        ensures refused { let event = Event.Put name.now value in OnErr result (IsOk (applied event self.old) → value_size value ≤ longest
+            → sizes.size_after event self.old ≤ most → cell_in name.now.place (object_at name.now.object self.old) ≡ None) }
     {
-        if self.size > most {
-            return Err(value);
-        }
         let room = Room {
             longest,
-            growth: most - self.size,
+            size: self.size,
+            most,
         };
         match self.objects.put_again(name, value, room) {
             Ok(Difference { gone, come }) => {

@@ -1,10 +1,11 @@
 //! Changes of the value in a cell.
-ghost use Rattle.std.specs.Prelude.{◌≡◌, ◌≤◌, ◌+◌, Ok, IfOk, IfErr, OnOk};
+ghost use Rattle.std.specs.Prelude.{◌≡◌, ◌≤◌, ◌+◌, Ok, IfOk, IfErr, OnErr, OnOk};
 ghost use Rattle.oa_variant.specs.declared.variant.Variant.TheVariants as variants;
 ghost use Rattle.oa_layout.specs.Lengths.{max_value_image, value_size};
 ghost use Rattle.oa_table.specs.Elements.{with_element_put, locked_value, locks_of, of_array, redimensioned_value, released_value};
 ghost use Rattle.oa_table.specs.Elements.{replaced_value};
 ghost use Rattle.oa_table.specs.Outcomes.{CountsLocks, Does};
+ghost use Rattle.oa_table.specs.Sizes.{largest_image};
 
 use crate::TableFault;
 use crate::difference::Difference;
@@ -44,11 +45,13 @@ pub(crate) fn replace(
     Ok(Difference { gone, come })
 }
 
-/// How far a value may be replaced: how many bytes the new one has in an image at most, and by how many the image may grow.
+/// How far a value may be replaced: how many bytes the new one has in an image at most, how many the image has now, and how many it may
+/// have then.
 #[derive(Clone, Copy)]
 pub(crate) struct Room {
     pub longest: u64,
-    pub growth: u64,
+    pub size: u64,
+    pub most: u64,
 }
 
 /// Replaces a value by one for which there is room, unless its array is locked, and answers the same. Else hands the new value back.
@@ -57,17 +60,20 @@ pub(crate) fn replace_within(
     value: Variant,
     room: Room,
 ) -> Result<Difference, Variant>
+    requires { (room.size ≤ largest_image) × (room.most ≤ largest_image) }
     ensures done { OnOk result (replaced_value value old.old ≡ Ok old.new) }
     ensures set { OnOk result (old.new ≡ value) }
     ensures gone { IfOk result (λ change. change.gone ≡ value_size old.old) }
     ensures come { IfOk result (λ change. change.come ≡ value_size value) }
     ensures small { IfOk result (λ change. change.come ≤ max_value_image) }
     ensures longest { IfOk result (λ change. change.come ≤ room.longest) }
-    ensures within { IfOk result (λ change. change.come ≤ change.gone + room.growth) }
+    ensures within { IfOk result (λ change. room.size + change.come ≤ room.most + change.gone) }
     ensures back { IfErr result (λ back. (back ≡ value) × (old.new ≡ old.old)) }
+    ensures refused { OnErr result (locks_of old.old ≡ 0 → value_size value ≤ room.longest
+        → room.size + value_size value ≤ room.most + value_size old.old → ⊥) }
 {
     let (gone, come) = (value_size(old), value_size(&value));
-    if locks_of(old) > 0 || come > room.longest || come > gone.saturating_add(room.growth) {
+    if locks_of(old) > 0 || come > room.longest || room.size + come > room.most + gone {
         return Err(value);
     }
     *old = value;

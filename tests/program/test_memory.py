@@ -21,6 +21,7 @@ from wire import oaut
 MEBIBYTE = 1_024  # KiB
 PAGES = 256  # KiB that may come and go without a growth of the program
 LARGE = 65_536
+OLD_FULL = 14_680_064  # bytes of the image of a table, the most that a server kept in format 1
 LITTLE = 32 * 2**20  # for a session that begins: a line has 8 MiB, a body 4
 STACK = 160 * 2**10
 # growths of TYPEINFO of each interface of the library, whose parts are made once
@@ -61,6 +62,25 @@ class Memory(Cases):
             self.tell(
                 f"{what}: at most 1.2 times that while the store opens", peak - nothing <= 1.2 * (taken - nothing) + PAGES, (peak - nothing, taken - nothing)
             )
+
+    def test_dumps_and_upgrades(self):
+        """They take what a server over the same objects does, and a part of the store: no image, no list of what is read, and no other table. An upgrade reads twice,
+        and where blocks are small the first reading leaves holes."""
+        for what, text, objects, most in (
+            ("longs of three parameters", full.keyed("long", 3), full.cells_by_key(300_000, 3), 1.6),
+            ("objects of three longs", full.keyed("long", 0), full.objects_of(65_536, 3), 1.2),
+            ("long texts", full.library(59, "BSTR"), {1: (CLASS, full.texts(OLD_FULL))}, 1.2),
+        ):
+            with tempfile.TemporaryDirectory(dir=fast_folder()) as room:
+                full.laid_objects(room, text, objects)
+                with full.Serving(room) as session:
+                    session.ask(wire.type_info(1, 0))
+                    taken = resident_of(session.child.pid)
+                dumped, _ = full.peak_of_run("dump", f"{room}/it.store")
+                full.laid_objects(room, text, objects, form=1)
+                upgraded, _ = full.peak_of_run("upgrade", f"{room}/it.store")
+            self.tell(f"{what}: a dump takes at most 1.2 times what a server over them does", dumped <= 1.2 * taken + PAGES, (dumped, taken))
+            self.tell(f"{what}: an upgrade takes at most {most} times that", upgraded <= most * taken + PAGES, (upgraded, taken))
 
     def test_a_session_in_little_memory(self):
         body = struct.pack("<I", 1) + oaut.ask_create(worked.ITEM)

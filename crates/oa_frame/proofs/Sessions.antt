@@ -2,6 +2,7 @@
 use Rattle.std.proofs.Common.{◌≡◌, ℕ, ◌+◌, ◌≤◌, true, false, List, [], ◌∷◌, ◌++◌, Option, Some, None, length, refl, sym, ap, ◌∙◌, subst}
 use Rattle.std.proofs.Common.{inl, inr, ◌⊎◌, arith, Bool, Result, Ok, Err}
 use Rattle.std.specs.List.{sum}
+use Rattle.std.specs.Result.{is_ok}
 use Rattle.std.proofs.lemmas.List.{append-nil, length-append}
 use Rattle.std.proofs.lemmas.List.Elements.{All-nil, All-push}
 use Rattle.std.proofs.lemmas.List.Sums.{sum_by-append}
@@ -20,7 +21,9 @@ use Rattle.std.proofs.lemmas.Bool.{false≢true}
 use Rattle.oa_frame.specs.Framings.{Frames, frames, is_read_fault}
 use Rattle.oa_frame.specs.Paces.{HasCause, Paced}
 use Rattle.oa_frame.specs.Sessions.{TurnOf, EndOf, BodiesTurned, Bodies, ReadTo, spelled_all, joined, last_reply, CallsReader, AllHaveLeft, HasLeft, WriterFails, Session}
-use Rattle.oa_frame.specs.Sessions.{HandsOn, Closes, AnswersBody, Finishes, PartsBefore, but_last, step, step_by}
+use Rattle.oa_frame.specs.Sessions.{HandsOn, Closes, AnswersApart, AnswersBody, AnswersBy, AnswersNext, Finishes, IsParted, but_last, step, step_by}
+use Rattle.oa_frame.specs.declared.session.Loss.{Loss}
+use Rattle.oa_frame.specs.declared.session.Loss.TheVariants as loss
 use Rattle.oa_frame.specs.Sessions.Halt.{Between, At, Undone}
 use Rattle.oa_frame.proofs.Left.{breaks_more, but_few, gone_is, kept_less, left_more, left_push, torn_is, writes_more}
 use Rattle.oa_frame.proofs.Spelled.{spelled_append, joined_more, latest_more}
@@ -223,10 +226,9 @@ module _ {S : Type 0} (f : Frames) (alone : List ℕ → Bool) (turn : TurnOf S)
   end_long held = ap length (end_spelled held) ∙ length-append (spelled_all f.spelled (joined h.handed)) (spelled_all f.spelled held)
 
   -- the writer failed in what was held before a body that comes alone
-  pub going_undone : (p q : Output) (new : S) (body : List ℕ) (e : Unwritten) → PartsBefore f alone ends (Err e) body p q mid new → Known (λ bytes rest. f.Next bytes body rest) i'.left i''.left → Paced false i' i'' → Writes o' p [] → length p.kept ≤ p.back
+  pub going_undone : (p q : Output) (new : S) (body : List ℕ) (e : Unwritten) → alone body ≡ true → (w : IsParted f ends (Err e) p q mid new) → Known (λ bytes rest. f.Next bytes body rest) i'.left i''.left → Paced false i' i'' → Writes o' p [] → length p.kept ≤ p.back
       → Session f alone turn ends last i i'' o q old new (record { requests = requests; why = WriteFault })
-  going_undone p q new body e (inr together) n pace v keeps = absurd (false≢true together.fine)
-  going_undone p q new body e (inl w) n pace v keeps =
+  going_undone p q new body e is w n pace v keeps =
       let put = same_lines o o' p _ h.lines v in
       let tears = tear o p q _ _ (spelled_all f.spelled (joined h.handed ++ w.held)) (end_spelled w.held) put w.put in
       record {
@@ -240,7 +242,7 @@ module _ {S : Type 0} (f : Frames) (alone : List ℕ → Bool) (turn : TurnOf S)
         ended = w.ended;
         count = h.count;
         read = known_undone f i.left i'.left i''.left h.bodies body h.read n;
-        can = w.is;
+        can = is;
         calls = calls_over requests i i' i'' pace.tries h.calls pace.clock;
         few = pace.most;
         cause = pace.cause;
@@ -317,40 +319,49 @@ pub record Stepped {S : Type 0} (f : Frames) (alone : List ℕ → Bool) (turn :
   pub answers : AnswersBody f (step alone turn ends) result body o q old new
   pub own : alone body ≡ true → behind result o q (spelled_all f.spelled answers.replies) answers.put + length (spelled_all f.spelled (but_last answers.replies)) ≤ length (spelled_all f.spelled answers.replies)
 
-pub stepped : {S : Type 0} (f : Frames) (alone : List ℕ → Bool) (turn : TurnOf S) (ends : EndOf S) (u : Unit {0}) (result : Result (Unit {0}) Unwritten) (body : List ℕ) (o p q : Output) (old mid new : S)
-    → ((a b c : S) (held own : List (List ℕ)) (body : List ℕ) → ends a held b → alone body ≡ true → turn b body own c → length own ≤ 1) → PartsBefore f alone ends (Ok u) body o p old mid → AnswersBody f turn result body p q mid new
+-- a body that comes alone, behind what was held
+stepped_apart : {S : Type 0} (f : Frames) (alone : List ℕ → Bool) (turn : TurnOf S) (ends : EndOf S) (result : Result (Unit {0}) Unwritten) (body : List ℕ) (o q : Output) (old new : S) → alone body ≡ true → AnswersApart f turn ends result body o q old new
     → Stepped f alone turn ends result body o q old new
-stepped f alone turn ends u (Ok v) body o p q old mid new one (inl a) b =
-    let few = one old mid new a.held b.replies body a.ended a.is b.turned in
-    let long = ap length (spelled_append f.spelled a.held b.replies) ∙ length-append (spelled_all f.spelled a.held) (spelled_all f.spelled b.replies) in
+stepped_apart f alone turn ends (Ok u) body o q old new is a =
+    let held = a.parted.held in
+    let own = a.own.answers in
+    let long = ap length (spelled_append f.spelled held own.replies) ∙ length-append (spelled_all f.spelled held) (spelled_all f.spelled own.replies) in
     record {
       answers = record {
-        replies = a.held ++ b.replies;
-        turned = stepped_by turn ends (alone body) old mid new body a.held b.replies a.is a.ended b.turned;
-        put = subst (Writes o q) (sym (spelled_append f.spelled a.held b.replies)) (writes_then o p q _ _ a.put.0 b.put);
+        replies = held ++ own.replies;
+        turned = stepped_by turn ends (alone body) old a.mid new body held own.replies is a.parted.ended own.turned;
+        put = subst (Writes o q) (sym (spelled_append f.spelled held own.replies)) (writes_then o a.between q _ _ a.parted.put.0 own.put);
       };
-      own = λ is. omega (arith, long, but_few f.spelled a.held b.replies few, gone_is p q _ b.put, ap length a.put.1.nothing);
+      own = λ _. omega (arith, long, but_few f.spelled held own.replies a.own.one, gone_is a.between q _ own.put, ap length a.parted.put.1.nothing);
     }
-stepped f alone turn ends u (Err e) body o p q old mid new one (inl a) b =
-    let few = one old mid new a.held b.replies body a.ended a.is b.turned in
-    let long = ap length (spelled_append f.spelled a.held b.replies) ∙ length-append (spelled_all f.spelled a.held) (spelled_all f.spelled b.replies) in
-    let tears = tear o p q _ _ (spelled_all f.spelled (a.held ++ b.replies)) (spelled_append f.spelled a.held b.replies) a.put.0 b.put in
+stepped_apart f alone turn ends (Err e) body o q old new is a =
+    let held = a.parted.held in
+    let own = a.own.answers in
+    let long = ap length (spelled_append f.spelled held own.replies) ∙ length-append (spelled_all f.spelled held) (spelled_all f.spelled own.replies) in
+    let tears = tear o a.between q _ _ (spelled_all f.spelled (held ++ own.replies)) (spelled_append f.spelled held own.replies) a.parted.put.0 own.put in
     record {
       answers = record {
-        replies = a.held ++ b.replies;
-        turned = stepped_by turn ends (alone body) old mid new body a.held b.replies a.is a.ended b.turned;
+        replies = held ++ own.replies;
+        turned = stepped_by turn ends (alone body) old a.mid new body held own.replies is a.parted.ended own.turned;
         put = tears.torn;
       };
-      own = λ is. omega (arith, long, but_few f.spelled a.held b.replies few, torn_is p q _ b.put, ap length a.put.1.nothing, ap length tears.same);
+      own = λ _. omega (arith, long, but_few f.spelled held own.replies a.own.one, torn_is a.between q _ own.put, ap length a.parted.put.1.nothing, ap length tears.same);
     }
-stepped f alone turn ends u result body o p q old mid new one (inr a) b = record {
-  answers = record {
-    replies = b.replies;
-    turned = together_by turn ends (alone body) old new body b.replies a.is (subst (λ from. turn from body b.replies new) a.same b.turned);
-    put = subst (λ from. Puts result from q (spelled_all f.spelled b.replies)) a.still b.put;
-  };
-  own = λ is. absurd (false≢true (sym a.is ∙ is));
+
+stepped_together : {S : Type 0} (f : Frames) (alone : List ℕ → Bool) (turn : TurnOf S) (ends : EndOf S) (result : Result (Unit {0}) Unwritten) (body : List ℕ) (o q : Output) (old new : S) → alone body ≡ false → AnswersBody f turn result body o q old new
+    → Stepped f alone turn ends result body o q old new
+stepped_together f alone turn ends result body o q old new is a = record {
+  answers = record { replies = a.replies; turned = together_by turn ends (alone body) old new body a.replies is a.turned; put = a.put };
+  own = λ alone_is. absurd (false≢true (sym is ∙ alone_is));
 }
+
+pub stepped : {S : Type 0} (f : Frames) (alone : List ℕ → Bool) (turn : TurnOf S) (ends : EndOf S) (result : Result (Unit {0}) Unwritten) (body : List ℕ) (o q : Output) (old new : S) → AnswersBy (alone body) f turn ends result body o q old new
+    → Stepped f alone turn ends result body o q old new
+stepped {S} f alone turn ends result body o q old new a = by (alone body) refl a
+  where
+    by : (b : Bool) → alone body ≡ b → AnswersBy b f turn ends result body o q old new → Stepped f alone turn ends result body o q old new
+    by true is a = stepped_apart f alone turn ends result body o q old new is a
+    by false is a = stepped_together f alone turn ends result body o q old new is a
 
 -- all was put and handed on, or not handed on
 pub writes_late : (a b c : Output) (xs : List ℕ) → Writes a b xs → Writes b c [] → Writes a c xs
@@ -389,7 +400,15 @@ pub no_call : (n : ℕ) → n ≡ later 0 n
 no_call n = omega arith
 
 -- what was held was put before a body that comes alone, and all was handed on, or the writer failed then
-pub parted_on : {S : Type 0} (f : Frames) (alone : List ℕ → Bool) (ends : EndOf S) (u : Unit {0}) (result : Result (Unit {0}) Unwritten) (body : List ℕ) (o p q : Output) (old new : S) → alone body ≡ true → Finishes f ends (Ok u) o p old new
-    → Delivers result p q → PartsBefore f alone ends result body o q old new
-parted_on f alone ends u (Ok v) body o p q old new is a d = inl (record { is = is; held = a.held; ended = a.ended; put = (writes_late o p q _ a.put d.0, d.1) })
-parted_on f alone ends u (Err e) body o p q old new is a d = inl (record { is = is; held = a.held; ended = a.ended; put = breaks_late o p q _ a.put d })
+pub parted_on : {S : Type 0} (f : Frames) (ends : EndOf S) (u : Unit {0}) (result : Result (Unit {0}) Unwritten) (o p q : Output) (old new : S) → Finishes f ends (Ok u) o p old new → Delivers result p q → IsParted f ends result o q old new
+parted_on f ends u (Ok v) o p q old new a d = record { held = a.held; ended = a.ended; put = (writes_late o p q _ a.put d.0, d.1) }
+parted_on f ends u (Err e) o p q old new a d = record { held = a.held; ended = a.ended; put = breaks_late o p q _ a.put d }
+
+-- a body that comes alone was answered behind what was held, or the writer failed in it
+pub next_apart : {S : Type 0} (f : Frames) (alone : List ℕ → Bool) (turn : TurnOf S) (ends : EndOf S) (put : Result (Unit {0}) Unwritten) (result : Result (Unit {0}) Loss) (body : List ℕ) (o q : Output) (old new : S)
+    → alone body ≡ true → is_ok result ≡ is_ok put → ((l : Loss) → result ≡ Err l → l ≡ loss.Answered) → AnswersApart f turn ends put body o q old new → AnswersNext f alone turn ends result body o q old new
+next_apart f alone turn ends (Ok u) (Ok v) body o q old new is same lost a = rw is a
+next_apart f alone turn ends (Err e) (Err loss.Answered) body o q old new is same lost a = (e, rw is a)
+next_apart f alone turn ends (Err e) (Err loss.Undone) body o q old new is same lost a = absurd (let h = lost loss.Undone refl in cc)
+next_apart f alone turn ends (Ok u) (Err l) body o q old new is same lost a = absurd (false≢true same)
+next_apart f alone turn ends (Err e) (Ok v) body o q old new is same lost a = absurd (false≢true (sym same))

@@ -1,6 +1,6 @@
 -- What a session over a reader and a writer read, answered and wrote, in any framing. (This project's choice.)
 use Rattle.std.specs.Prelude.{◌≡◌, ◌⊎◌, ℕ, ◌+◌, ◌≤◌, Bool, true, false, if◌then◌else◌, List, [], ◌∷◌, ◌++◌, length}
-use Rattle.std.specs.Prelude.{Result, Ok, Err, IsOk, ⊤}
+use Rattle.std.specs.Prelude.{Result, Ok, Err, ⊤}
 use Rattle.std.specs.List.{All, sum}
 use Rattle.std.specs.Io.KnownBytes.{Appends}
 use Rattle.oa_model.specs.Limits.{max_read_calls, max_records}
@@ -9,6 +9,8 @@ use Rattle.oa_stream.specs.Sink.{Output, Writes, Breaks, Puts, IsHandedOn}
 use Rattle.oa_stream.specs.declared.sink.Unwritten.{Unwritten}
 use Rattle.oa_frame.specs.declared.ends.End.{End}
 use Rattle.oa_frame.specs.declared.ends.End.TheVariants.{Closed, Cut, TooLong, BadHex, ReadFault, WriteFault}
+use Rattle.oa_frame.specs.declared.session.Loss.{Loss}
+use Rattle.oa_frame.specs.declared.session.Loss.TheVariants as loss
 use Rattle.oa_frame.specs.declared.session.Served.{Served}
 use Rattle.oa_frame.specs.Known.{Known}
 use Rattle.oa_frame.specs.Framings.{Frames, is_read_fault}
@@ -124,6 +126,13 @@ pub record AnswersBody {S : Type 0} (f : Frames) (turn : TurnOf S) (result : Res
   pub turned : turn old body replies new
   pub put : Puts result out out' (spelled_all f.spelled replies)
 
+-- so a body that comes alone, with its own reply at most
+pub record AnswersOwn {S : Type 0} (f : Frames) (turn : TurnOf S) (result : Result (Unit {0}) Unwritten)
+    (body : List ℕ)
+    (out out' : Output) (old new : S) : Type 0 where
+  pub answers : AnswersBody f turn result body out out' old new
+  pub one : length answers.replies ≤ 1
+
 -- the replies that were still held were put, or the writer failed in them
 pub record Finishes {S : Type 0} (f : Frames) (ends : EndOf S) (result : Result (Unit {0}) Unwritten)
     (out out' : Output) (old new : S) : Type 0 where
@@ -141,27 +150,40 @@ abbrev pub PutsOn : Result (Unit {0}) Unwritten → Output → Output → List �
 PutsOn (Ok u) out out' bytes = Writes out out' bytes × IsHandedOn out'
 PutsOn (Err e) out out' bytes = Breaks out out' bytes
 
+-- a state in which no reply is held, behind those that still were
+abbrev pub HasEnded : {S : Type 0} → EndOf S → S → Type 0
+HasEnded {S} ends state = (before : S) × (held : List (List ℕ)) × ends before held state
+
 -- before a body that comes alone: what was held has left, or the writer failed in it
-pub record IsParted {S : Type 0} (f : Frames) (alone : List ℕ → Bool) (ends : EndOf S)
-    (result : Result (Unit {0}) Unwritten) (body : List ℕ)
+pub record IsParted {S : Type 0} (f : Frames) (ends : EndOf S) (result : Result (Unit {0}) Unwritten)
     (out out' : Output) (old new : S) : Type 0 where
-  pub is : alone body ≡ true
   pub held : List (List ℕ)
   pub ended : ends old held new
   pub put : PutsOn result out out' (spelled_all f.spelled held)
 
--- before any other: nothing is done
-pub record IsTogether {S : Type 0} (alone : List ℕ → Bool) (result : Result (Unit {0}) Unwritten) (body : List ℕ)
+-- what was held has left, and behind it such a body was answered
+pub record AnswersApart {S : Type 0} (f : Frames) (turn : TurnOf S) (ends : EndOf S)
+    (result : Result (Unit {0}) Unwritten) (body : List ℕ)
     (out out' : Output) (old new : S) : Type 0 where
-  pub is : alone body ≡ false
-  pub fine : IsOk result
-  pub still : out' ≡ out
-  pub same : new ≡ old
+  pub mid : S
+  pub between : Output
+  pub parted : IsParted f ends (Ok tt) out between old mid
+  pub own : AnswersOwn f turn result body between out' mid new
 
-abbrev pub PartsBefore : {S : Type 0} → Frames → (List ℕ → Bool) → EndOf S → Result (Unit {0}) Unwritten → List ℕ
+abbrev pub AnswersBy : {S : Type 0} → Bool → Frames → TurnOf S → EndOf S → Result (Unit {0}) Unwritten → List ℕ
     → Output → Output → S → S → Type 0
-PartsBefore f alone ends result body out out' old new = IsParted f alone ends result body out out' old new
-    ⊎ IsTogether alone result body out out' old new
+AnswersBy true f turn ends result body out out' old new = AnswersApart f turn ends result body out out' old new
+AnswersBy false f turn ends result body out out' old new = AnswersBody f turn result body out out' old new
+
+-- a body was answered, whether it comes alone or not; or the writer failed in that, or before one that comes alone
+abbrev pub AnswersNext : {S : Type 0} → Frames → (List ℕ → Bool) → TurnOf S → EndOf S → Result (Unit {0}) Loss → List ℕ
+    → Output → Output → S → S → Type 0
+AnswersNext f alone turn ends (Ok u) body out out' old new =
+    AnswersBy (alone body) f turn ends (Ok u) body out out' old new
+AnswersNext f alone turn ends (Err loss.Answered) body out out' old new =
+    (e : Unwritten) × AnswersBy (alone body) f turn ends (Err e) body out out' old new
+AnswersNext f alone turn ends (Err loss.Undone) body out out' old new =
+    (alone body ≡ true) × ((e : Unwritten) × IsParted f ends (Err e) out out' old new)
 
 -- the bytes begin with the records of these bodies, and the rest follows them
 abbrev pub Bodies : Frames → List ℕ → List (List ℕ) → List ℕ → Type 0

@@ -5,8 +5,8 @@ ghost use Rattle.oa_stream.specs.Sink.{IsHandedOn, Puts};
 ghost use Rattle.oa_frame.specs.Beginnings.{AreUnbroken, HoldLongest};
 ghost use Rattle.oa_frame.specs.Framings.{Fits, body_of, frames};
 ghost use Rattle.oa_frame.specs.declared.framing.Read.TheVariants.{Body};
-ghost use Rattle.oa_frame.specs.Sessions.{Abandons, AnswersBody, Closes, Finishes, HandsOn};
-ghost use Rattle.oa_frame.specs.Sessions.{PartsBefore, Session, is_answered, last_reply, spelled_all, step};
+ghost use Rattle.oa_frame.specs.Sessions.{Abandons, AnswersBody, AnswersNext, AnswersOwn, Closes, Finishes, HandsOn};
+ghost use Rattle.oa_frame.specs.Sessions.{HasEnded, IsParted, Session, is_answered, last_reply, spelled_all, step};
 
 use crate::writing::put_reply;
 use crate::{End, Framing, Read, read_body};
@@ -33,7 +33,7 @@ pub trait Responder {
     fn comes_alone(&self, body: &[u8]) -> bool
         ensures { result ≡ alone body.now };
 
-    /// Answers one body, and writes the replies that are handed out at it in this framing.
+    /// Answers one body that does not come alone, and writes the replies that are handed out at it in this framing.
     fn respond<W: Sink>(
         &mut self,
         framing: Framing,
@@ -42,8 +42,23 @@ pub trait Responder {
     ) -> Result<(), Unwritten>
         requires ready { ready self.old }
         requires unbroken { (W.out writer.old).broken ≡ false }
-        requires apart { alone body.now ≡ true → IsHandedOn (W.out writer.old) }
+        requires together { alone body.now ≡ false }
         ensures answers { AnswersBody (frames framing) turn result body.now (W.out writer.old) (W.out writer.new) self.old self.new }
+        ensures ready { ready self.new };
+
+    /// Answers one body that comes alone, where none is held any more and all has left the writer, and writes its own reply, if any.
+    fn respond_alone<W: Sink>(
+        &mut self,
+        framing: Framing,
+        body: &[u8],
+        writer: &mut W,
+    ) -> Result<(), Unwritten>
+        requires ready { ready self.old }
+        requires unbroken { (W.out writer.old).broken ≡ false }
+        requires alone { alone body.now ≡ true }
+        requires ended { HasEnded ends self.old }
+        requires apart { IsHandedOn (W.out writer.old) }
+        ensures answers { AnswersOwn (frames framing) turn result body.now (W.out writer.old) (W.out writer.new) self.old self.new }
         ensures ready { ready self.new };
 
     /// No further body comes, or one that comes alone: writes the replies that are still held.
@@ -57,10 +72,15 @@ pub trait Responder {
     fn abandon(&mut self)
         requires ready { ready self.old }
         ensures { Abandons ends self.old self.new };
+}
 
-    /// Behind those that were held, a body that comes alone is answered with its own reply at most.
-    ghost one_reply: { (old mid new : Self) (held own : List (List ℕ)) (body : List ℕ) → ends old held mid → alone body ≡ true
-        → turn mid body own new → length own ≤ 1 };
+/// Where the writer failed.
+#[derive(Clone, Copy)]
+pub(crate) enum Loss {
+    /// In the answer.
+    Answered,
+    /// Before it: nothing was answered.
+    Undone,
 }
 
 /// How a session went.
@@ -98,20 +118,16 @@ pub fn serve<S: Responder, R: Source + Drop, W: Sink>(
         match read_body(framing, reader, writer, line, body, requests + 1) {
             Read::Body(count, is_ahead) => {
                 let bytes = body_in(reader, body, count, is_ahead);
-                match part_before(server, framing, bytes, writer) {
-                    Ok(()) => {}
-                    Err(_) => {
+                match answer(server, framing, bytes, writer) {
+                    Ok(()) => requests += 1,
+                    Err(Loss::Answered) => {
+                        server.abandon();
                         return Served {
-                            requests,
+                            requests: requests + 1,
                             why: End::WriteFault,
                         };
                     }
-                }
-                requests += 1;
-                match server.respond(framing, bytes, writer) {
-                    Ok(()) => {}
-                    Err(_) => {
-                        server.abandon();
+                    Err(Loss::Undone) => {
                         return Served {
                             requests,
                             why: End::WriteFault,
@@ -154,21 +170,42 @@ fn body_in<'a, R: Source + Drop>(
     }
 }
 
-/// Writes what is held and hands all on, where this body comes alone.
-fn part_before<S: Responder, W: Sink>(
+/// Answers a body, where it comes alone once what is held has left.
+fn answer<S: Responder, W: Sink>(
     server: &mut S,
     framing: Framing,
     body: &[u8],
     writer: &mut W,
+) -> Result<(), Loss>
+    requires ready { S.ready server.old }
+    requires unbroken { (W.out writer.old).broken ≡ false }
+    ensures answers { AnswersNext (frames framing) S.alone S.turn S.ends result body.now (W.out writer.old) (W.out writer.new) server.old server.new }
+    ensures ready { S.ready server.new }
+{
+    if server.comes_alone(body) {
+        if let Err(_) = part(server, framing, writer) {
+            return Err(Loss::Undone);
+        }
+        return server
+            .respond_alone(framing, body, writer)
+            .map_err(|_| Loss::Answered);
+    }
+    server
+        .respond(framing, body, writer)
+        .map_err(|_| Loss::Answered)
+}
+
+/// Writes what is held, and hands all on.
+fn part<S: Responder, W: Sink>(
+    server: &mut S,
+    framing: Framing,
+    writer: &mut W,
 ) -> Result<(), Unwritten>
     requires ready { S.ready server.old }
     requires unbroken { (W.out writer.old).broken ≡ false }
-    ensures parts { PartsBefore (frames framing) S.alone S.ends result body.now (W.out writer.old) (W.out writer.new) server.old server.new }
+    ensures parts { IsParted (frames framing) S.ends result (W.out writer.old) (W.out writer.new) server.old server.new }
     ensures ready { S.ready server.new }
 {
-    if !server.comes_alone(body) {
-        return Ok(());
-    }
     server.finish(framing, writer)?;
     writer.deliver()
 }

@@ -14,7 +14,7 @@ use Rattle.oa_stream.specs.declared.ahead.More.TheVariants as more
 use Rattle.oa_frame.specs.declared.ends.End.{End}
 use Rattle.oa_stream.specs.Sink.{Output, Writes, IsHandedOn}
 use Rattle.oa_stream.specs.declared.sink.Unwritten.{Unwritten}
-use Rattle.oa_share.specs.Answering.{AnswersClient, GivesUp, SharedTurn}
+use Rattle.oa_share.specs.Answering.{SharedTurn}
 use Rattle.oa_share.specs.Frames.{Broken, FramePlace, InHead, Within}
 use Rattle.oa_share.specs.Marks.{Now, Of, Owned, named}
 use Rattle.oa_share.specs.Steps.{EndsLowest, EndsWith, brought_last}
@@ -22,13 +22,13 @@ use Rattle.oa_share.specs.Readers.{Body, Brought, ClientState, Ends}
 use Rattle.oa_share.specs.Shared.{IsClients, Rises, SharedState, StopsAtUnknown, TakesApart, TakesSome, arrived, place_behind, reads_nothing}
 use Rattle.oa_share.specs.declared.streams.Arrival.{Arrival}
 use Rattle.oa_share.specs.declared.streams.Arrival.TheVariants as things
-use Rattle.oa_share.specs.Talking.{AllTurned, AnswersAsked, AnswersEnds, AnswersSingle, ClosesAll, EndsNext, FailsToTell, MovesOn, HasTold, IsEndOf, IsOver, IsUnwritten, LosesWriter, MakesNowBefore, ServesClients, TalksOn, TellsAll, ends_at, ends_in, input_end, one_ahead, parted, parting}
+use Rattle.oa_share.specs.Talking.{AllTurned, AnswersAsked, AnswersEnds, AnswersSingle, ClosesAll, EndsNext, FailsToTell, MovesOn, HasTold, IsEndOf, IsOver, IsUnwritten, LosesWriter, ServesClients, TalksOn, TellsAll, ends_at, ends_in, input_end, one_ahead, parted, parting}
 use Rattle.oa_share.specs.declared.serving.Loss.{Loss}
 use Rattle.oa_share.specs.declared.serving.Loss.TheVariants as loss
 use Rattle.oa_share.specs.declared.session_end.SessionEnd.{SessionEnd}
 use Rattle.oa_share.specs.declared.session_end.SessionEnd.TheVariants as over
 use Rattle.oa_share.proofs.Taking.{asks_then, nothing_asked, stops_none, stops_then}
-use Rattle.oa_share.proofs.Tellings.{as_ends, loses_once, loses_then, told_nothing, told_once, told_quiet, told_then}
+use Rattle.oa_share.proofs.Tellings.{as_ends, loses_then, told_nothing, told_quiet, told_then}
 
 -- ---- bodies that come alone
 pub parted_append : (alone : List ℕ → Bool) (ps qs : List (Owned Brought)) → parted alone (ps ++ qs) ≡ parted alone ps ++ parted alone qs
@@ -126,19 +126,15 @@ parted_body : (alone : List ℕ → Bool) (client : ℕ) (body : List ℕ) → p
 unfolding parted
 parted_body alone client body = refl
 
+-- a body that comes alone stands behind a *now*
+pub parted_alone : (alone : List ℕ → Bool) (client : ℕ) (body : List ℕ) → alone body ≡ true → parted alone (Of client (Body body) ∷ []) ≡ Now ∷ Of client (Body body) ∷ []
+parted_alone alone client body is = parted_body alone client body ∙ ap (λ (b : Bool). (if b then Now ∷ [] else []) ++ Of client (Body body) ∷ []) is
+
+-- before any other none is made
+pub parted_together : (alone : List ℕ → Bool) (client : ℕ) (body : List ℕ) → alone body ≡ false → parted alone (Of client (Body body) ∷ []) ≡ Of client (Body body) ∷ []
+parted_together alone client body is = parted_body alone client body ∙ ap (λ (b : Bool). (if b then Now ∷ [] else []) ++ Of client (Body body) ∷ []) is
+
 module _ {S : Type 0} (alone : List ℕ → Bool) (turn : SharedTurn S) where
-  pub body_told : (client : ℕ) (body : List ℕ) (u v : Unit {0}) (o p q : Output) (old mid new : S) → MakesNowBefore turn (alone body) (Ok u) o p old mid → AnswersClient turn (Ok v) (Of client (Body body)) p q mid new
-      → HasTold turn (parted alone (Of client (Body body) ∷ [])) o q old new
-  body_told client body u v o p q old mid new a b =
-      subst (λ l. HasTold turn l o q old new) (sym (parted_body alone client body))
-      (told_then turn (if alone body then Now ∷ [] else []) (Of client (Body body) ∷ []) o p q old mid new a.0 (told_once turn client (Body body) v p q mid new b))
-
-  pub body_lost : (client : ℕ) (body : List ℕ) (u : Unit {0}) (fault : Unwritten) (o p q : Output) (old mid after new : S) → length p.kept ≤ p.back → MakesNowBefore turn (alone body) (Ok u) o p old mid
-      → AnswersClient turn (Err fault) (Of client (Body body)) p q mid after → GivesUp turn after new → LosesWriter turn (parted alone (Of client (Body body) ∷ [])) [] o q old new
-  body_lost client body u fault o p q old mid after new keeps a b g =
-      subst (λ l. LosesWriter turn l [] o q old new) (sym (parted_body alone client body))
-      (loses_then turn (if alone body then Now ∷ [] else []) (Of client (Body body) ∷ []) [] o p q old mid new a.0 (loses_once turn client (Body body) fault p q mid after new keeps b g))
-
   -- ---- parts
   pub stays : (from : SharedState) → TakesApart from [] [] from
   stays from = nothing_asked from from refl (λ client. refl)

@@ -1,5 +1,5 @@
 -- What is handed out at one turn after another, and what is lost of it.
-use Rattle.std.proofs.Common.{◌≡◌, ℕ, ◌+◌, ◌≤◌, Bool, true, false, List, [], ◌∷◌, ◌++◌, length, Result, Ok, Err, IsErr, refl, sym, ap, ◌∙◌, subst, arith}
+use Rattle.std.proofs.Common.{◌≡◌, ℕ, ◌+◌, ◌≤◌, false, List, [], ◌∷◌, ◌++◌, length, Result, Ok, Err, IsErr, refl, sym, ap, ◌∙◌, subst, arith}
 use Rattle.std.proofs.lemmas.Bool.{false≢true}
 use Rattle.std.proofs.lemmas.List.{append-nil, append_assoc, length-append}
 use Rattle.oa_stream.specs.Sink.{Output, Writes, Breaks, Delivers, IsHandedOn}
@@ -9,7 +9,7 @@ use Rattle.oa_share.specs.Answering.{AnswersClient, GivesUp, SharedTurn}
 use Rattle.oa_share.specs.Marks.{Now, Of, Owned}
 use Rattle.oa_share.specs.Outgoing.{spelled_frames, spelled_told}
 use Rattle.oa_share.specs.Readers.{Brought}
-use Rattle.oa_share.specs.Talking.{AllTurned, HasLeftAtNow, HasTold, LosesWriter, MakesNow, MakesNowBefore, newest}
+use Rattle.oa_share.specs.Talking.{AllTurned, HasLeftAtNow, HasTold, LosesWriter, MakesNow, newest}
 
 -- how much has left a writer
 gone_is : (o q : Output) (bytes : List ℕ) (w : Writes o q bytes) → length w.gone + length q.kept ≡ length o.kept + length bytes
@@ -206,7 +206,3 @@ module _ {S : Type 0} (turn : SharedTurn S) where
   pub now_breaks : (result : Result (Unit {0}) Unwritten) (fault : Unwritten) (o q : Output) (old new : S) → IsErr result → length o.kept ≤ o.back → AnswersClient turn (Err fault) Now o q old new → MakesNow turn result o q old new
   now_breaks (Ok u) fault o q old new is keeps a = absurd (false≢true is)
   now_breaks (Err f) fault o q old new is keeps a = loses_now fault o q old new keeps a
-
-  pub now_together : (b : Bool) (o : Output) (state : S) → b ≡ false → o.broken ≡ false → MakesNowBefore turn b (Ok tt) o o state state
-  now_together false o state is h = (told_nothing o state h, λ e. absurd (false≢true e))
-  now_together true o state is h = absurd (false≢true (sym is))

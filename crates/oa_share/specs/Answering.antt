@@ -21,3 +21,7 @@ pub record AnswersClient {S : Type 0} (turn : SharedTurn S) (result : Result (Un
 pub record GivesUp {S : Type 0} (turn : SharedTurn S) (old new : S) : Type 0 where
   pub told : List (ℕ × List ℕ)
   pub turned : turn old Now told new
+
+-- a state in which nothing is held: *now* was made last
+abbrev pub IsBehindNow : {S : Type 0} → SharedTurn S → S → Type 0
+IsBehindNow {S} turn state = (before : S) × (told : List (ℕ × List ℕ)) × turn before Now told state

@@ -219,13 +219,6 @@ abbrev pub MakesNow : {S : Type 0} → SharedTurn S → Result (Unit {0}) Unwrit
 MakesNow turn (Ok u) out out' old new = HasTold turn (Now ∷ []) out out' old new × IsHandedOn out'
 MakesNow turn (Err e) out out' old new = LosesWriter turn [] [] out out' old new
 
--- so before a body that comes alone; before any other nothing is done
-abbrev pub MakesNowBefore : {S : Type 0} → SharedTurn S → Bool → Result (Unit {0}) Unwritten → Output → Output → S → S
-    → Type 0
-MakesNowBefore turn is_alone (Ok u) out out' old new =
-    HasTold turn (if is_alone then Now ∷ [] else []) out out' old new × (is_alone ≡ true → IsHandedOn out')
-MakesNowBefore turn is_alone (Err e) out out' old new = LosesWriter turn [] [] out out' old new
-
 -- a first part of these ends, in which the writer failed
 pub record LosesInEnds {S : Type 0} (turn : SharedTurn S) (all : List (Owned Brought)) (out out' : Output)
     (old new : S) : Type 0 where

@@ -1,6 +1,6 @@
 //! What answers the requests of many clients.
 ghost use Rattle.std.specs.Prelude.{◌≡◌, ℕ, Bool, List, false, true};
-ghost use Rattle.oa_share.specs.Answering.{AnswersClient, GivesUp};
+ghost use Rattle.oa_share.specs.Answering.{AnswersClient, GivesUp, IsBehindNow};
 ghost use Rattle.oa_share.specs.Marks.{Now, Of, Owned};
 ghost use Rattle.oa_share.specs.Readers.{Body, Brought, Ends};
 ghost use Rattle.oa_stream.specs.Sink.{IsHandedOn};
@@ -26,7 +26,7 @@ pub trait SharedResponder {
     fn is_alone(&self, body: &[u8]) -> bool
         ensures { result ≡ alone body.now };
 
-    /// Answers a body of this client, and writes what is handed out at it.
+    /// Answers a body of this client that does not come alone, and writes what is handed out at it.
     fn answer_client<W: Sink>(
         &mut self,
         client: u32,
@@ -35,7 +35,22 @@ pub trait SharedResponder {
     ) -> Result<(), Unwritten>
         requires ready { ready self.old }
         requires unbroken { (W.out writer.old).broken ≡ false }
-        requires apart { alone body.now ≡ true → IsHandedOn (W.out writer.old) }
+        requires together { alone body.now ≡ false }
+        ensures answers { AnswersClient turn result (Of client (Body body.now)) (W.out writer.old) (W.out writer.new) self.old self.new }
+        ensures ready { ready self.new };
+
+    /// Answers a body of this client that comes alone, behind a *now* whose replies have all left the writer, and writes what is handed out at it.
+    fn answer_client_alone<W: Sink>(
+        &mut self,
+        client: u32,
+        body: &[u8],
+        writer: &mut W,
+    ) -> Result<(), Unwritten>
+        requires ready { ready self.old }
+        requires unbroken { (W.out writer.old).broken ≡ false }
+        requires alone { alone body.now ≡ true }
+        requires now { IsBehindNow turn self.old }
+        requires apart { IsHandedOn (W.out writer.old) }
         ensures answers { AnswersClient turn result (Of client (Body body.now)) (W.out writer.old) (W.out writer.new) self.old self.new }
         ensures ready { ready self.new };
 

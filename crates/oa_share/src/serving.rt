@@ -1,10 +1,10 @@
 //! Sessions of many clients over a reader and a writer.
-ghost use Rattle.std.specs.Prelude.{◌≡◌, ◌<◌, ◌≤◌, ◌∷◌, [], false, length};
+ghost use Rattle.std.specs.Prelude.{◌≡◌, ◌<◌, ◌≤◌, ◌∷◌, [], false, length, true};
 ghost use Rattle.oa_frame.specs.Beginnings.{AreUnbroken};
-ghost use Rattle.oa_share.specs.Marks.{Of};
+ghost use Rattle.oa_share.specs.Marks.{Now, Of};
 ghost use Rattle.oa_share.specs.Readers.{Body, Ends};
 ghost use Rattle.oa_share.specs.Shared.{BringsRecord, Rises, arrived, reads_nothing, starting};
-ghost use Rattle.oa_share.specs.Talking.{AnswersAsked, AnswersEnds, AnswersSingle, ClosesAll, EndsNext, MakesNow, MakesNowBefore, Progresses, ServesClients};
+ghost use Rattle.oa_share.specs.Talking.{AnswersAsked, AnswersEnds, AnswersSingle, ClosesAll, EndsNext, MakesNow, Progresses, ServesClients};
 ghost use Rattle.oa_share.specs.Talking.{ends_at, ends_in, parted};
 ghost use Rattle.oa_share.specs.declared.session_end.SessionEnd.TheVariants as over;
 ghost use Rattle.oa_stream.specs.Ahead.{ahead, read_ahead};
@@ -203,7 +203,7 @@ fn answer<S: SharedResponder, W: Sink>(
     }
 }
 
-/// Answers a body, where it comes alone behind a *now*.
+/// Answers a body, where it comes alone behind a *now*. Where the writer failed in it, nobody gets what is held.
 fn answer_body<S: SharedResponder, W: Sink>(
     server: &mut S,
     client: u32,
@@ -215,8 +215,8 @@ fn answer_body<S: SharedResponder, W: Sink>(
     ensures answers { AnswersAsked S.turn result (parted S.alone (Of client (Body body.now) ∷ [])) (W.out writer.old) (W.out writer.new) server.old server.new }
     ensures ready { S.ready server.new }
 {
-    if let Err(_) = now_before(server, body, writer) {
-        return Err(Loss::Undone);
+    if server.is_alone(body) {
+        return answer_alone(server, client, body, writer);
     }
     if let Err(_) = server.answer_client(client, body, writer) {
         server.abandon_clients();
@@ -225,21 +225,27 @@ fn answer_body<S: SharedResponder, W: Sink>(
     Ok(())
 }
 
-/// *Now*, where this body comes alone.
-fn now_before<S: SharedResponder, W: Sink>(
+/// Answers a body that comes alone, behind a *now*.
+fn answer_alone<S: SharedResponder, W: Sink>(
     server: &mut S,
+    client: u32,
     body: &[u8],
     writer: &mut W,
-) -> Result<(), Unwritten>
+) -> Result<(), Loss>
     requires ready { S.ready server.old }
+    requires alone { S.alone body.now ≡ true }
     requires unbroken { (W.out writer.old).broken ≡ false }
-    ensures now { MakesNowBefore S.turn (S.alone body.now) result (W.out writer.old) (W.out writer.new) server.old server.new }
+    ensures answers { AnswersAsked S.turn result (Now ∷ Of client (Body body.now) ∷ []) (W.out writer.old) (W.out writer.new) server.old server.new }
     ensures ready { S.ready server.new }
 {
-    if !server.is_alone(body) {
-        return Ok(());
+    if let Err(_) = make_now(server, writer) {
+        return Err(Loss::Undone);
     }
-    make_now(server, writer)
+    if let Err(_) = server.answer_client_alone(client, body, writer) {
+        server.abandon_clients();
+        return Err(Loss::Answered);
+    }
+    Ok(())
 }
 
 /// Answers the end of a client's stream. Where the writer failed in it, nobody gets what is held.

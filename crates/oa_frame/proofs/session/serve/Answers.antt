@@ -17,18 +17,19 @@ turns-init g c = record {
   going = going_start (frames c.args.framing) g.S.Responder.alone _ _ _ _ c.requires.unbroken.writer;
 }
 
-pub returns-in-Err : goal.returns-in-Err
-returns-in-Err g c =
-    let read = c.in-Body.ensures in
-    let input = rw (← c.deref.ensures.value, ← c.body_in-bytes.ensures) at read.input in
-    going_undone (frames c.args.framing) _ _ _ c.args.last.now _ _ _ _ _ _ _ c.turns.requests c.turns.invariant.going _ _ _ _ _ c.in-Err.ensures.parts input read.paced read.output.keeps (g.met.W.Sink.keeps _)
-
-pub returns-in-Err-respond : goal.returns-in-Err-respond
-returns-in-Err-respond g c =
-    let a = stepped (frames c.args.framing) g.S.Responder.alone g.S.Responder.turn g.S.Responder.ends _ _ _ _ _ _ _ _ _ g.met.S.Responder.one_reply c.in-Ok.ensures.parts c.in-Err-respond.ensures.answers in
+pub returns-in-Err-Answered : goal.returns-in-Err-Answered
+returns-in-Err-Answered g c =
+    let a = stepped (frames c.args.framing) g.S.Responder.alone g.S.Responder.turn g.S.Responder.ends _ _ _ _ _ _ (rw c.in-Err-Answered.field-0-is at c.in-Err-Answered.ensures.answers).1 in
     let read = c.in-Body.ensures in
     let input = rw (← c.deref.ensures.value, ← c.body_in-bytes.ensures) at read.input in
     going_fails (frames c.args.framing) _ _ _ c.args.last.now _ _ _ _ _ _ _ c.turns.requests c.turns.invariant.going _ _ _ _ _ a.answers.replies _ input read.paced a.answers.turned read.output.keeps (g.met.W.Sink.keeps _) a.answers.put a.own c.abandon.ensures.ended
+
+pub returns-in-Err-Undone : goal.returns-in-Err-Undone
+returns-in-Err-Undone g c =
+    let undone = rw c.in-Err-Undone.field-0-is at c.in-Err-Undone.ensures.answers in
+    let read = c.in-Body.ensures in
+    let input = rw (← c.deref.ensures.value, ← c.body_in-bytes.ensures) at read.input in
+    going_undone (frames c.args.framing) _ _ _ c.args.last.now _ _ _ _ _ _ _ c.turns.requests c.turns.invariant.going _ _ _ _ _ undone.0 undone.1.1 input read.paced read.output.keeps (g.met.W.Sink.keeps _)
 
 pub returns-in-Ends : goal.returns-in-Ends
 returns-in-Ends g c =
@@ -43,14 +44,14 @@ returns-in-Unwritten g c =
 
 pub turns-preserved : goal.turns-preserved
 turns-preserved g c =
-    let a = stepped (frames c.args.framing) g.S.Responder.alone g.S.Responder.turn g.S.Responder.ends _ _ _ _ _ _ _ _ _ g.met.S.Responder.one_reply c.in-Ok.ensures.parts c.in-Ok-respond.ensures.answers in
+    let a = stepped (frames c.args.framing) g.S.Responder.alone g.S.Responder.turn g.S.Responder.ends _ _ _ _ _ _ c.in-Ok.ensures.answers in
     let read = c.in-Body.ensures in
     let input = rw (← c.deref.ensures.value, ← c.body_in-bytes.ensures) at read.input in
     record {
       room = search rules;
       buffer = search rules;
       count = search rules;
-      ready = c.in-Ok-respond.ensures.ready;
+      ready = c.in-Ok.ensures.ready;
       unbroken = read.paced.cause;
       unbroken_writer = a.answers.put.sound;
       steady = λ s. (read.paced.on (c.turns.invariant.steady s)).1;

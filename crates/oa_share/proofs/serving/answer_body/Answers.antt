@@ -1,9 +1,17 @@
-use Rattle.oa_share.proofs.Talks.{body_lost, body_told}
+use Rattle.std.proofs.Common.{rules}
+use Rattle.oa_share.proofs.Talks.{parted_alone, parted_together}
+use Rattle.oa_share.proofs.Tellings.{loses_once, told_once}
 use Rattle.oa_share.proofs.serving.answer_body.Goals as goal
 
-pub returns-in-Err-answer_client-clause-answers : goal.returns-in-Err-answer_client-clause-answers
-returns-in-Err-answer_client-clause-answers g c =
-    body_lost g.S.SharedResponder.alone g.S.SharedResponder.turn c.args.client c.args.body.now _ _ _ _ _ _ _ _ _ (g.met.W.Sink.keeps _) c.in_default.ensures.now c.in-Err-answer_client.ensures.answers c.abandon_clients.ensures.gives_up
+pub returns-then-is_alone-clause-answers : goal.returns-then-is_alone-clause-answers
+returns-then-is_alone-clause-answers g c =
+    rw (parted_alone g.S.SharedResponder.alone c.args.client c.args.body.now (search rules)) c.answer_alone.ensures.answers
+
+pub returns-in-Err-clause-answers : goal.returns-in-Err-clause-answers
+returns-in-Err-clause-answers g c =
+    rw (parted_together g.S.SharedResponder.alone c.args.client c.args.body.now (search rules))
+    (loses_once g.S.SharedResponder.turn c.args.client _ _ _ _ _ _ _ (g.met.W.Sink.keeps _) c.in-Err.ensures.answers c.abandon_clients.ensures.gives_up)
 
 pub returns-clause-answers : goal.returns-clause-answers
-returns-clause-answers g c = body_told g.S.SharedResponder.alone g.S.SharedResponder.turn c.args.client c.args.body.now _ _ _ _ _ _ _ _ c.in_default.ensures.now c.in_default-answer_client.ensures.answers
+returns-clause-answers g c =
+    rw (parted_together g.S.SharedResponder.alone c.args.client c.args.body.now (search rules)) (told_once g.S.SharedResponder.turn c.args.client _ _ _ _ _ _ c.in_default.ensures.answers)

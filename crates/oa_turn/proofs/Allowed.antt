@@ -119,6 +119,22 @@ again_allowed bank name value old new keyless at short small =
     let event : event_size (Put name value) ≤ max_event_bytes = omega (arith, short, place) in
     within_allowed bank (Put name value) old new at (rw (le-ltb max_event_bytes (event_size (Put name value)) event, le-ltb (bank - reserved_bytes) (table_size new) small) refl)
 
+-- and is not where either has more
+pub again_within : (bank : ℕ) (name : CellName) (value : Variant) (made : TableValue) → name.place.key ≡ [] → IsOk (within_limits bank (Put name value) made)
+    → (value_size value ≤ 4194277) × (table_size made ≤ bank - reserved_bytes)
+unfolding event_size place_size
+again_within bank name value made keyless ok =
+    by (nat_lt max_event_bytes (event_size (Put name value))) refl (nat_lt (bank - reserved_bytes) (table_size made)) refl ok
+  where
+    place : place_size name.place ≡ 22
+    place = rw keyless refl
+
+    by : (long : Bool) → nat_lt max_event_bytes (event_size (Put name value)) ≡ long → (full : Bool) → nat_lt (bank - reserved_bytes) (table_size made) ≡ full
+        → IsOk (if long then Err e_invalidarg else if full then Err stg_e_mediumfull else Ok made) → (value_size value ≤ 4194277) × (table_size made ≤ bank - reserved_bytes)
+    by true a full b ok = absurd (true≢false (sym ok))
+    by false a true b ok = absurd (true≢false (sym ok))
+    by false a false b ok = (omega (arith, place, ltb-false max_event_bytes (event_size (Put name value)) a), ltb-false (bank - reserved_bytes) (table_size made) b)
+
 -- a change that is allowed, where each refusal was made the code of want of memory
 pub changed : {E : Type 0} (bank : ℕ) (event : Event) (old new : TableValue) (P : E → HResult → Type 0) (from : Result (Unit {0}) E) (to : Result (Unit {0}) HResult)
     → IsOk (allowed bank event old) → MakesTable event old new from → MatchResult from (λ u. to ≡ Ok u) (λ e. IsErrAnd to (P e))

@@ -1,5 +1,5 @@
 //! The ways in which a table changes.
-ghost use Rattle.std.specs.Prelude.{◌≡◌, [], ℕ, Ok, IfErr, IsOk, OnErr, OnOk};
+ghost use Rattle.std.specs.Prelude.{◌≡◌, [], ℕ, None, Ok, IfErr, IsOk, OnErr, OnOk};
 ghost use Rattle.oa_model.specs.Codes.{e_outofmemory};
 ghost use Rattle.oa_turn.specs.Changes.{ChangesTable, MakesTable, RelocksTable};
 ghost use Rattle.oa_turn.specs.Limits.{IsSoundTable};
@@ -10,7 +10,7 @@ ghost use Rattle.oa_decision.specs.declared.decision.LockChange.TheVariants.{Loc
 ghost use Rattle.oa_table.specs.Events.{BringsNoLocks};
 ghost use Rattle.oa_table.specs.declared.event.Event.TheVariants.{Put as APut, Release as ARelease};
 ghost use Rattle.oa_table.specs.Memory.{MayWantMemory};
-ghost use Rattle.oa_table.specs.Tables.{unlocked_table};
+ghost use Rattle.oa_table.specs.Tables.{cell_in, object_at, unlocked_table};
 
 use oa_decision::{LockChange, disallowed, is_surely_within, most_of};
 use oa_model::{HResult, MAX_EVENT_BYTES};
@@ -80,6 +80,8 @@ pub(crate) fn put_again(
     requires keyless { name.now.place.key ≡ [] }
     ensures change { OnOk result (allowed bank (APut name.now value) table.old ≡ Ok table.new) }
     ensures back { IfErr result (λ back. (back ≡ value) × (table.new ≡ table.old)) }
+    ensures refused { OnErr result (IsOk (allowed bank (APut name.now value) table.old)
+        → cell_in name.now.place (object_at name.now.object table.old) ≡ None) }
     ensures sound { IsSoundTable bank table.old → IsSoundTable bank table.new }
 {
     table.put_again(name, value, LONGEST_VALUE, most_of(bank))

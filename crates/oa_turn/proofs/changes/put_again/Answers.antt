@@ -1,14 +1,15 @@
-use Rattle.std.proofs.Common.{◌≡◌, ◌-◌, ◌≤◌, ℕ, [], Result, Ok, Err, IfErr, OnOk, arith}
-use Rattle.oa_decision.specs.Limits.{allowed}
+use Rattle.std.proofs.Common.{◌≡◌, ◌-◌, ◌≤◌, ℕ, [], None, true≢false, Result, Ok, Err, IfErr, IsOk, OnErr, OnOk, refl, sym, arith}
+use Rattle.oa_decision.specs.Limits.{allowed, limited}
 use Rattle.oa_image.specs.Tables.{reserved_bytes}
 use Rattle.oa_table.specs.Events.{applied}
 use Rattle.oa_layout.specs.Lengths.{value_size}
-use Rattle.oa_table.specs.Sizes.{table_size}
-use Rattle.oa_table.specs.Tables.{TableValue}
+use Rattle.oa_table.specs.Sizes.{size_after, size_due, table_size}
+use Rattle.oa_table.specs.Tables.{TableValue, cell_in, object_at}
 use Rattle.oa_table.specs.declared.event.Event.TheVariants.{Put}
+use Rattle.oa_table.specs.declared.fault.TableFault.{TableFault}
 use Rattle.oa_table.specs.declared.name.CellName.{CellName}
 use Rattle.oa_turn.specs.Limits.{IsSoundTable}
-use Rattle.oa_turn.proofs.Allowed.{again_allowed, allowed_sound}
+use Rattle.oa_turn.proofs.Allowed.{again_allowed, again_within, allowed_sound}
 use Rattle.oa_variant.specs.declared.variant.Variant.{Variant}
 use Rattle.oa_turn.proofs.changes.put_again.Goals as goal
 
@@ -22,6 +23,17 @@ module _ (bank : ℕ) (name : CellName) (value : Variant) (old new : TableValue)
   sound v (Ok u) is same was = allowed_sound bank (Put name value) old new was is
   sound v (Err back) is same was = rw same.1 was
 
+  refused : {E : Type 0} (most longest : ℕ) (result : Result (Unit {0}) E) → name.place.key ≡ [] → 4194277 ≤ longest → most ≡ bank - reserved_bytes
+      → OnErr result (IsOk (applied (Put name value) old) → value_size value ≤ longest → size_after (Put name value) old ≤ most → cell_in name.place (object_at name.object old) ≡ None)
+      → OnErr result (IsOk (allowed bank (Put name value) old) → cell_in name.place (object_at name.object old) ≡ None)
+  refused most longest (Ok u) keyless many is h = tt
+  refused most longest (Err back) keyless many is h = λ ok. by (applied (Put name value) old) ok h
+    where
+      by : (due : Result TableValue TableFault) → IsOk (limited bank (Put name value) due) → (IsOk due → value_size value ≤ longest → size_due table_size due old ≤ most → cell_in name.place (object_at name.object old) ≡ None)
+          → cell_in name.place (object_at name.object old) ≡ None
+      by (Ok made) ok h = let few = again_within bank name value made keyless ok in h refl (omega (arith, few.0, many)) (omega (arith, few.1, is))
+      by (Err fault) ok h = absurd (true≢false (sym ok))
+
 pub returns-clause-change : goal.returns-clause-change
 returns-clause-change c =
     changes c.args.bank c.args.name.now c.args.value c.args.table.now c.put_again.new.self c.most_of.result _ c.put_again.result c.requires.keyless (omega arith) c.most_of.ensures
@@ -33,3 +45,7 @@ returns-clause-sound c =
     (changes c.args.bank c.args.name.now c.args.value c.args.table.now c.put_again.new.self c.most_of.result _ c.put_again.result c.requires.keyless (omega arith) c.most_of.ensures
     c.put_again.ensures.done c.put_again.ensures.longest c.put_again.ensures.most)
     c.put_again.ensures.back
+
+pub returns-clause-refused : goal.returns-clause-refused
+returns-clause-refused c =
+    refused c.args.bank c.args.name.now c.args.value c.args.table.now c.put_again.new.self c.most_of.result _ c.put_again.result c.requires.keyless (omega arith) c.most_of.ensures c.put_again.ensures.refused

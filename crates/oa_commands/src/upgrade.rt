@@ -2,7 +2,7 @@
 ghost use Rattle.std.specs.Prelude.{◌≤◌, IfErr, IfOk};
 ghost use Rattle.oa_commands.specs.Statuses.{IsOfTaking, IsOfUpgrade};
 ghost use Rattle.oa_commands.specs.Stores.{IsUpgraded, bank_near};
-ghost use Rattle.oa_disk.specs.After.{BeginsHonest};
+ghost use Rattle.oa_disk.specs.File.{file_size, GoesOnFrom};
 ghost use Rattle.oa_journal.specs.Shapes.{least_bank_bytes, most_bank_bytes};
 
 use crate::fault::Fault;
@@ -10,7 +10,7 @@ use crate::store::{allow_writes, open_store_file, unwritten};
 use crate::streams::StandardStreams;
 use oa_disk::{Disk, FileDisk};
 use oa_journal::{LEAST_BANK_BYTES, MOST_BANK_BYTES, Shape};
-use oa_store::check_upgrade;
+use oa_store::OldStore;
 use std::alloc::Global;
 
 /// Brings the store of format 1 in the file `path` to format 2, with banks of so many bytes, the nearest from 20 MiB to 1 GiB, and answers
@@ -51,13 +51,13 @@ fn upgraded(
 {
     let alloc = rt.alloc();
     let mut found = open_store_file(rt, streams, alloc, path)?;
-    check_upgrade(alloc, &mut found, bank)?;
+    let store = OldStore::find(alloc, &mut found, bank)?;
     let mut disk = lengthened(rt, alloc, path, found, Shape::Two(bank).disk_bytes())?;
-    oa_store::upgrade(alloc, &mut disk, bank)?;
+    store.bring(&mut disk)?;
     Ok(disk)
 }
 
-/// The file, lengthened to so many bytes where it is shorter.
+/// The file, lengthened to so many bytes where it is shorter, with what it held.
 fn lengthened(
     rt: &HostRuntime,
     alloc: Global,
@@ -65,7 +65,8 @@ fn lengthened(
     disk: FileDisk,
     size: u64,
 ) -> Result<FileDisk, Fault>
-    ensures begins { IfOk result (BeginsHonest ⟦<FileDisk as Disk>⟧) }
+    ensures room { IfOk result (λ long. size ≤ file_size long) }
+    ensures goes_on { IfOk result (GoesOnFrom ⟦<FileDisk as Disk>⟧ size disk) }
     ensures refused { IfErr result IsOfTaking }
 {
     allow_writes(rt, alloc, path, size)?;

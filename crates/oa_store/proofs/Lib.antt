@@ -1,6 +1,7 @@
 mod Changed
 pub mod Counted
 mod LaidDown
+pub mod Longer
 pub mod OneStore
 pub mod Opened
 mod Upgraded

@@ -1,3 +1,4 @@
+pub mod Bringing
 pub mod Calls
 pub mod Changes
 pub mod Faults

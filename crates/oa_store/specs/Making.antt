@@ -35,7 +35,7 @@ pub record RefusesReading {D : Type 0} (g : Ghosts D) (size : ℕ) (old new : D)
 
 -- The store of format 1 that a disk has was found, by at most the calls of a reading, as `inspect` makes them, and
 -- there is a buffer to write the next bank from. Nothing is pending.
-pub record FindsOld {D : Type 0} (g : Ghosts D) (chosen : ℕ) (library : List ℕ) (table : TableValue)
+pub record FindsFormatOne {D : Type 0} (g : Ghosts D) (chosen : ℕ) (library : List ℕ) (table : TableValue)
     (buffer : List ℕ) (old new : D) : Type 0 where
   pub store : IsTrue (g.is_honest new) → (gate : ℕ) × IsStoreAt One chosen gate library table (g.contents old)
       × (g.moment new + length library ≤ g.moment old + (16 + gate))
@@ -43,6 +43,7 @@ pub record FindsOld {D : Type 0} (g : Ghosts D) (chosen : ℕ) (library : List �
   pub numbered : is_numbered table ≡ true
   pub whole : length buffer ≡ piece_bytes
   pub synced : IsTrue (g.is_honest new) → Only (g.contents old) (g.image new)
+  pub contents : IsTrue (g.is_honest new) → g.contents new ≡ g.contents old
 
 -- An upgrade of a store of format 1 makes at most the calls of a reading, as `inspect` makes them, and those of a
 -- checkpoint.

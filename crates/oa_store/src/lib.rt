@@ -20,4 +20,4 @@ pub use fault::{FormatFault, OpenFault, UpgradeFault, WriteFault};
 pub use formatting::format;
 pub use reading::inspect;
 pub use store::Store;
-pub use upgrading::{check_upgrade, upgrade};
+pub use upgrading::{OldStore, upgrade};

@@ -164,17 +164,16 @@ class UpgradeCalls(Cases):
         made, parts = self.made()
         self.tell("upgrade: it is locked once, before all else", [place for place, it in enumerate(made) if it == ("lock",)] == [0], made)
         first, second, third = made[: parts[1]], made[parts[1] : parts[2]], made[parts[2] :]
-        self.tell("upgrade: it looks before it writes", first[:2] == OPENED and all(it[0] in ("sync", "read") for it in first[2:]), first)
+        self.tell(
+            "upgrade: it looks before it writes",
+            first[: len(OPENING)] == OPENING and len(first) > len(OPENING) and all(it[0] == "read" for it in first[len(OPENING) :]),
+            first,
+        )
         self.tell(
             "upgrade: zeros behind the end, and a sync", second == [("write", SIZE - 100_000, 65_536), ("write", SIZE - 34_464, 34_464), ("sync",)], second
         )
-        looks = OPENING[len(OPENED) :]
         last = [("write", 16_785_408, 32), ("write", BODY_1, 340), ("sync",), ("write", 4096, 1), ("sync",), OUT]
-        self.tell(
-            "upgrade: a head, a body, a sync, the selector, a sync",
-            third[-len(last) :] == last and third[: len(looks)] == looks and all(it[0] == "read" for it in third[len(looks) : -len(last)]),
-            third,
-        )
+        self.tell("upgrade: a head, a body, a sync, the selector, a sync, and nothing is read again", third == last, third)
 
     def goes_on(self, name, room):
         """The same command brings what is there to the same store."""

@@ -1,5 +1,5 @@
 -- What is held for many clients.
-use Rattle.std.proofs.Common.{◌≡◌, inl, inr, ℕ, ◌+◌, Bool, true, false, IsTrue, List, [], ◌∷◌, ◌++◌, length, map, Option, None, refl, sym, ap, ◌∙◌, subst}
+use Rattle.std.proofs.Common.{◌≡◌, inl, inr, ℕ, ◌+◌, Bool, true, false, IsTrue, List, [], ◌∷◌, ◌++◌, length, map, Option, None, refl, sym, ap, ◌∙◌, subst, arith}
 use Rattle.std.proofs.lemmas.List.{append-nil, length-append}
 use Rattle.oa_disk.specs.declared.disk.Disk.{Ghosts}
 use Rattle.oa_frame.specs.declared.ends.End.{End}
@@ -12,7 +12,9 @@ use Rattle.oa_groups.proofs.Stores.{goes_nowhere}
 use Rattle.oa_journal.specs.Replays.{Replays}
 use Rattle.oa_keeper.proofs.Committed.{still_carried}
 use Rattle.oa_owners.specs.declared.owners.ClientLock.{ClientLock}
-use Rattle.oa_record.specs.Replies.{ReplyValue}
+use Rattle.oa_decision.specs.declared.decision.LockChange.{LockChange}
+use Rattle.oa_record.specs.Replacement.{is_replacement}
+use Rattle.oa_record.specs.Replies.{ReplyValue, reply_record}
 use Rattle.oa_server.specs.Desks.{ClearsDesk, IsEventless, all_frames, cleared_desk, desk_grouping, shared_grouping, told_at, told_to, told_with}
 use Rattle.oa_server.specs.OpenGroups.{grouping}
 use Rattle.oa_server.specs.Requests.{requests}
@@ -20,7 +22,7 @@ use Rattle.oa_server.specs.SharedRequests.{shared_requests}
 use Rattle.oa_server.specs.Sharing.{ClientReply, IsLockTurn, Leaves, Replies, Shared, behind_end, shared, tagged}
 use Rattle.oa_server.specs.declared.desk.Asker.{Asker}
 use Rattle.oa_server.specs.declared.desk.Desk.{Desk}
-use Rattle.oa_server.proofs.Lifted.{lifted_settled, told_both, told_length, told_none}
+use Rattle.oa_server.proofs.Lifted.{lifted_settled, lifted_taken, told_both, told_length, told_none}
 use Rattle.oa_server.specs.SharedTalks.{TakesOver}
 use Rattle.oa_server.proofs.PutFrames.{no_told}
 use Rattle.oa_share.specs.Marks.{Now, Of}
@@ -29,6 +31,7 @@ use Rattle.oa_store.specs.declared.store.Store.{Store}
 use Rattle.oa_decision.specs.States.{State}
 use Rattle.oa_table.specs.Tables.{TableValue}
 use Rattle.oa_turn.specs.Events.{held_of}
+use Rattle.oa_turn.specs.Locking.{AsksLock}
 
 none_made : (old new : TableValue) → new ≡ old → Replays [] old new
 none_made old new same = subst (λ (t : TableValue). Replays [] old t) (sym same) (no_event old)
@@ -189,3 +192,18 @@ told_over {D} {g} old new before after desk between last client brought clears s
 pub held_over : {D : Type 0} {g : Ghosts D} (old new : Store D g) (before after : State) (desk last : Desk) (client : ℕ) (brought : Brought) → last.open_group.size ≡ desk.open_group.size
     → IsTaken shared_requests desk.open_group.size (tagged client brought) [] (desk_grouping old before desk) (desk_grouping new after last) → TakesOver old before desk (Of client brought) [] new after last
 held_over old new before after desk last client brought size is = record { told = []; are = sym no_told; size = size; taken = is }
+
+-- a body that is taken where nothing is held, and answered at once
+pub lifted_alone : {D : Type 0} {g : Ghosts D} (size client : ℕ) (body : List ℕ) (askers : List Asker) (locks : List ClientLock) (reply : ReplyValue) (pending : List ReplyValue) (events events' : List ℕ) (old new : Store D g) (before after : State)
+    → length askers ≡ length pending → pending ≡ [] → ((state : State) (change : LockChange) → AsksLock state body change → ⊥) → IsTaken requests size body (reply ∷ []) (grouping old before pending events) (grouping new after pending events')
+    → IsTaken shared_requests size (tagged client (Body body)) (Replies client reply ∷ []) (shared_grouping old before locks askers pending events) (shared_grouping new after locks askers pending events')
+lifted_alone {D} {g} size client body [] locks reply [] events events' old new before after each none asks is =
+    lifted_taken {g = g} size client body (record { client = client; why = None }) refl [] locks (reply ∷ []) [] [] events events' old new before after refl (λ _. asks before) (λ state change _. asks state change) (λ _. refl) is
+lifted_alone {D} {g} size client body [] locks reply (x ∷ xs) events events' old new before after each none asks is = absurd (omega (arith, each))
+lifted_alone {D} {g} size client body (y ∷ ys) locks reply [] events events' old new before after each none asks is = absurd (omega (arith, each))
+lifted_alone {D} {g} size client body (y ∷ ys) locks reply (x ∷ xs) events events' old new before after each none asks is = absurd (omega (arith, ap (λ (l : List ReplyValue). length l) none))
+
+pub alone_over : {D : Type 0} {g : Ghosts D} (old new : Store D g) (before after : State) (desk last : Desk) (client : ℕ) (body : List ℕ) (reply : ReplyValue) → last.open_group.size ≡ desk.open_group.size
+    → IsTaken shared_requests desk.open_group.size (tagged client (Body body)) (Replies client reply ∷ []) (desk_grouping old before desk) (desk_grouping new after last) → TakesOver old before desk (Of client (Body body)) ((client, reply_record reply) ∷ []) new after last
+unfolding all_frames
+alone_over old new before after desk last client body reply size is = record { told = Replies client reply ∷ []; are = refl; size = size; taken = is }

@@ -17,6 +17,7 @@ pub mod Parting
 pub mod OneState
 pub mod FoundIsKept
 pub mod GroupsAsOneRun
+mod BehindEnds
 mod Lifted
 mod LockTurns
 mod HeldForMany

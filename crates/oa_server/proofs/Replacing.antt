@@ -9,6 +9,7 @@ use Rattle.oa_groups.specs.Served.{IsServed}
 use Rattle.oa_store.specs.Writing.{CallsForOneCheckpoint, Goes}
 use Rattle.oa_groups.specs.Simple.{no_event}
 use Rattle.oa_groups.proofs.Ends.{underway_ended}
+use Rattle.oa_groups.proofs.Entries.{either}
 use Rattle.oa_groups.proofs.Stores.{goes_nowhere}
 use Rattle.oa_groups.proofs.Takes.{underway_start, underway_taken}
 use Rattle.oa_journal.specs.Replays.{Replays}
@@ -204,7 +205,7 @@ module _ {D : Type 0} {g : Ghosts D} (old mid new : Store D g) (was : old.stoppe
   })
   flushed (inr (inr left)) = absurd (true≢false (sym left.over.was ∙ was))
 
-  pub taken_apart : (all : List ReplyValue) → all ≡ told ++ reply ∷ [] → (events' : List ℕ) → events' ≡ [] → (size : ℕ) → IsTaken requests size body all (grouping old before pending events) (grouping new after [] events')
+  taken_apart : (all : List ReplyValue) → all ≡ told ++ reply ∷ [] → (events' : List ℕ) → events' ≡ [] → (size : ℕ) → IsTaken requests size body all (grouping old before pending events) (grouping new after [] events')
   taken_apart all are events' none size = subst (λ (l : List ℕ). IsTaken requests size body all (grouping old before pending events) (grouping new after [] l)) (sym none) (inr (inr (inr (inr (record {
     was = was;
     alone = kind;
@@ -226,3 +227,36 @@ module _ {D : Type 0} {g : Ghosts D} (old mid new : Store D g) (was : old.stoppe
           },
         );
   })))))
+
+-- the device has failed before: that is answered, and nothing is done
+module _ {D : Type 0} {g : Ghosts D} (old mid new : Store D g) (stopped : old.stopped ≡ true) (before after : State) (body : List ℕ) (reply : ReplyValue) (pending told : List ReplyValue) (events batch : List ℕ) (is : IsReplacedOrLate mid new before after body reply) (all : List ReplyValue)
+    (are : all ≡ told ++ reply ∷ []) (events' : List ℕ) (size : ℕ) where
+  late_by : told ≡ [] → mid.stopped ≡ true → mid.disk ≡ old.disk → Goes old mid → IsTaken requests size body all (grouping old before pending events) (grouping new after [] events')
+  late_by nothing still disk goes =
+      let late = is.1 still in
+      inr (inr (inr (inl (record {
+        over = record {
+          was = stopped;
+          is = ap (λ (s : Store D g). s.stopped) late.1 ∙ still;
+          disk = ap (λ (s : Store D g). s.disk) late.1 ∙ disk;
+          state = late.2;
+          goes = subst (λ (s : Store D g). Goes old s) (sym late.1) goes;
+        };
+        told_is = are ∙ ap (λ (l : List ReplyValue). l ++ reply ∷ []) nothing ∙ ap (λ (r : ReplyValue). r ∷ []) late.0;
+      }))))
+
+  taken_late : IsEnded requests told (grouping old before pending events) (grouping mid before [] batch) → IsTaken requests size body all (grouping old before pending events) (grouping new after [] events')
+  taken_late (inl idle) =
+      late_by idle.nothing (ap (λ (s : Store D g). s.stopped) idle.store ∙ stopped) (ap (λ (s : Store D g). s.disk) idle.store) (subst (λ (s : Store D g). Goes old s) (sym idle.store) (goes_nowhere old))
+  taken_late (inr (inl last)) = absurd (true≢false (sym stopped ∙ last.was))
+  taken_late (inr (inr left)) = late_by left.nothing left.over.is left.over.disk left.over.goes
+
+-- so it is taken, whether the device has failed before or not
+pub taken_by_itself : {D : Type 0} {g : Ghosts D} (old mid new : Store D g) (before after : State) (body : List ℕ) (reply : ReplyValue) → is_replacement body ≡ true → (pending told : List ReplyValue) (events batch : List ℕ)
+    → IsEnded requests told (grouping old before pending events) (grouping mid before [] batch) → IsReplacedOrLate mid new before after body reply → (all : List ReplyValue) → all ≡ told ++ reply ∷ [] → (events' : List ℕ) → events' ≡ [] → (size : ℕ)
+    → IsTaken requests size body all (grouping old before pending events) (grouping new after [] events')
+taken_by_itself {D} {g} old mid new before after body reply kind pending told events batch ended is all are events' none size = by (either old.stopped)
+  where
+    by : (old.stopped ≡ false) ⊎ (old.stopped ≡ true) → IsTaken requests size body all (grouping old before pending events) (grouping new after [] events')
+    by (inl going) = taken_apart {g = g} old mid new going before after body reply kind pending told events batch ended is all are events' none size
+    by (inr stopped) = taken_late {g = g} old mid new stopped before after body reply pending told events batch is all are events' size ended

@@ -14,5 +14,4 @@ pub mod OpenGroups
 pub mod Answers
 pub mod Storages
 pub mod Talks
-pub mod OneReply
 pub mod Laws

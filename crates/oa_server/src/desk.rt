@@ -1,15 +1,16 @@
 //! The open group of many clients over a store: whose each of its replies is, and whose lock is whose.
-ghost use Rattle.std.specs.Prelude.{◌≡◌, [], false, true};
+ghost use Rattle.std.specs.Prelude.{◌≡◌, ◌∷◌, [], ℕ, false, true};
 ghost use Rattle.oa_groups.specs.Groupings.{IsEnded, IsTaken};
 ghost use Rattle.oa_decision.specs.declared.decision.LockChange.{LockChange as AChange};
 ghost use Rattle.oa_server.specs.Desks.{DeskIsReady, DeskIsReadyCleared, HoldsFrom, cleared_desk, desk_grouping, told_at, told_with};
 ghost use Rattle.oa_server.specs.OpenGroups.{HasBanks};
 ghost use Rattle.oa_server.specs.SharedRequests.{shared_requests};
-ghost use Rattle.oa_server.specs.Sharing.{shared, tagged};
+ghost use Rattle.oa_record.specs.Replacement.{is_replacement};
+ghost use Rattle.oa_server.specs.Sharing.{Replies, shared, tagged};
 ghost use Rattle.oa_share.specs.Readers.{Body, Ends};
 ghost use Rattle.oa_turn.specs.Locking.{AsksLock};
 
-use crate::grouping::{finish, settle, take};
+use crate::grouping::{finish, settle, take, take_alone};
 use crate::locking::{let_go, lock_turn};
 use crate::open_group::{OpenGroup, bare_reply};
 use oa_disk::Disk;
@@ -43,7 +44,7 @@ pub(crate) struct Desk {
     pub owners: Owners,
 }
 
-/// Takes one body of a client. True where the open group has ended: what it holds then is to be handed out.
+/// Takes one body of a client that is no group of its own. True where the open group has ended: what it holds then is to be handed out.
 pub(crate) fn ask_over<D: Disk>(
     alloc: Global,
     host: &mut Host,
@@ -53,6 +54,7 @@ pub(crate) fn ask_over<D: Disk>(
     body: &[u8],
 ) -> bool
     requires ready { DeskIsReady store.old desk.old }
+    requires plain { is_replacement body.now ≡ false }
     requires banks { HasBanks store.old host.old }
     ensures held { result ≡ false → IsTaken shared_requests desk.old.open_group.size (tagged client (Body body.now)) []
         (desk_grouping store.old host.old desk.old) (desk_grouping store.new host.new desk.new) }
@@ -82,6 +84,7 @@ fn take_for<D: Disk>(
     body: &[u8],
 ) -> bool
     requires ready { DeskIsReady store.old desk.old }
+    requires plain { is_replacement body.now ≡ false }
     requires banks { HasBanks store.old host.old }
     requires none { store.old.stopped ≡ false → (change : AChange) → AsksLock host.old body.now change → ⊥ }
     ensures held { result ≡ false → IsTaken shared_requests desk.old.open_group.size (tagged client (Body body.now)) []
@@ -97,6 +100,30 @@ fn take_for<D: Disk>(
     refused_asks_nothing();
     desk.askers.push_reserved(Asker { client, why: None });
     take(alloc, host, store, &mut desk.open_group, body)
+}
+
+/// Takes one body that is a group of its own, whoever asks, where nothing is held: its reply may be handed out at once. No lock changes its
+/// owner.
+pub(crate) fn ask_alone<D: Disk>(
+    alloc: Global,
+    host: &mut Host,
+    store: &mut Store<D>,
+    desk: &mut Desk,
+    body: &[u8],
+) -> Reply
+    requires ready { DeskIsReady store.old desk.old }
+    requires none { desk.old.open_group.replies.items ≡ [] }
+    requires kind { is_replacement body.now ≡ true }
+    requires banks { HasBanks store.old host.old }
+    ensures told { (client : ℕ) → IsTaken shared_requests desk.old.open_group.size (tagged client (Body body.now)) (Replies client result ∷ [])
+        (desk_grouping store.old host.old desk.old) (desk_grouping store.new host.new desk.new) }
+    ensures ready { DeskIsReady store.new desk.new }
+    ensures banks { HasBanks store.new host.new }
+    ensures size { desk.new.open_group.size ≡ desk.old.open_group.size }
+{
+    a_replacement_is_no_request();
+    refused_asks_nothing();
+    take_alone(alloc, host, store, &mut desk.open_group, body)
 }
 
 /// Holds the reply to what made no event, and ends the group where it fills that. True where the group has ended.

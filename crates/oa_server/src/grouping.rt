@@ -1,5 +1,5 @@
 //! A server over a store: groups of requests whose events go out under one gate, and whose replies are held back until then.
-ghost use Rattle.std.specs.Prelude.{◌≡◌, ◌≤◌, ◌<◌, ◌+◌, ◌++◌, [], IfOk, OnErr, false, length, map, true, vec_capacity};
+ghost use Rattle.std.specs.Prelude.{◌≡◌, ◌≤◌, ◌<◌, ◌+◌, ◌++◌, ◌∷◌, [], IfOk, OnErr, false, length, map, true, vec_capacity};
 ghost use Rattle.oa_groups.specs.Groupings.{IsEnded, IsSettled, IsTaken};
 ghost use Rattle.oa_groups.specs.Served.{IsServed};
 ghost use Rattle.oa_journal.specs.Shapes.{ample_bytes};
@@ -90,7 +90,8 @@ pub(crate) fn settle<D: Disk>(
     }
 }
 
-/// Takes one request. True where the open group has ended: its replies are to be handed out, those that it holds then.
+/// Takes one request that is no group of its own. True where the open group has ended: its replies are to be handed out, those that it holds
+/// then.
 pub(crate) fn take<D: Disk>(
     alloc: Global,
     host: &mut Host,
@@ -99,6 +100,7 @@ pub(crate) fn take<D: Disk>(
     body: &[u8],
 ) -> bool
     requires ready { CanTake store.old open_group.old }
+    requires plain { is_replacement body.now ≡ false }
     requires banks { HasBanks store.old host.old }
     ensures held { result ≡ false
         → IsTaken requests open_group.old.size body.now [] (grouping_of store.old host.old open_group.old) (grouping_of store.new host.new open_group.new) }
@@ -113,10 +115,6 @@ pub(crate) fn take<D: Disk>(
     if store.has_stopped() {
         let reply = bare_reply(alloc, body, HResult::E_FAIL);
         open_group.replies.push_reserved(reply);
-        return true;
-    }
-    if is_replacement(body) {
-        take_apart(alloc, host, store, open_group, body);
         return true;
     }
     match turn_held(alloc, host, store, &mut open_group.batch, body) {
@@ -164,7 +162,6 @@ fn take_apart<D: Disk>(
     body: &[u8],
 )
     requires ready { CanTake store.old open_group.old }
-    requires going { store.old.stopped ≡ false }
     requires kind { is_replacement body.now ≡ true }
     requires banks { HasBanks store.old host.old }
     ensures told { IsTaken requests open_group.old.size body.now open_group.new.replies.items (grouping_of store.old host.old open_group.old)
@@ -178,6 +175,29 @@ fn take_apart<D: Disk>(
     open_group.batch = Batch::new(alloc);
     let reply = replaced_or_late(alloc, host, store, body);
     open_group.replies.push_reserved(reply);
+}
+
+/// Takes a request that is a group of its own, where no reply is held: its own may be handed out at once.
+pub(crate) fn take_alone<D: Disk>(
+    alloc: Global,
+    host: &mut Host,
+    store: &mut Store<D>,
+    open_group: &mut OpenGroup,
+    body: &[u8],
+) -> Reply
+    requires ready { CanTake store.old open_group.old }
+    requires none { open_group.old.replies.items ≡ [] }
+    requires kind { is_replacement body.now ≡ true }
+    requires banks { HasBanks store.old host.old }
+    ensures told { IsTaken requests open_group.old.size body.now (result ∷ []) (grouping_of store.old host.old open_group.old)
+        (grouping_of store.new host.new open_group.new) }
+    ensures ready { CanTake store.new open_group.new }
+    ensures banks { HasBanks store.new host.new }
+    ensures none { open_group.new.replies.items ≡ [] }
+    ensures size { open_group.new.size ≡ open_group.old.size }
+{
+    open_group.batch = Batch::new(alloc);
+    replaced_or_late(alloc, host, store, body)
 }
 
 /// The input has ended: the open group has ended, whose replies are to be handed out.
@@ -221,6 +241,11 @@ fn take_on<D: Disk>(
     ensures places { vec_capacity out.old ≤ vec_capacity out.new }
     ensures size { open_group.new.size ≡ open_group.old.size }
 {
+    if is_replacement(body) {
+        take_apart(alloc, host, store, open_group, body);
+        hand_out(&mut open_group.replies, out);
+        return;
+    }
     if take(alloc, host, store, open_group, body) {
         hand_out(&mut open_group.replies, out);
     }

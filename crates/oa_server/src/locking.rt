@@ -1,5 +1,5 @@
 //! Turns of bodies that ask for a lock to be changed, in a server of many clients.
-ghost use Rattle.std.specs.Prelude.{◌≡◌, ◌∷◌, ◌++◌, [], false, true, List, IfNone, IfSome, map};
+ghost use Rattle.std.specs.Prelude.{◌≡◌, ◌∷◌, ◌++◌, [], false, true, List, ℕ, IfNone, IfSome, map};
 ghost use Rattle.oa_decision.specs.declared.decision.LockChange.{LockChange as AChange};
 ghost use Rattle.oa_decision.specs.declared.decision.LockChange.TheVariants.{Lock as ALock, Unlock as AnUnlock};
 ghost use Rattle.oa_owners.specs.ClientLocks.{cells_of, without_one};
@@ -16,12 +16,12 @@ use oa_decision::LockChange;
 use oa_model::HResult;
 use oa_owners::{ClientLock, Owners};
 use oa_record::Reply;
-use oa_record::laws::one_request;
+use oa_record::laws::{a_replacement_is_no_request, one_request, refused_asks_nothing};
 use oa_table::CellName;
 use oa_turn::{Host, Plan};
 use std::alloc::Global;
 
-/// One turn of a client's body in memory.
+/// One turn in memory of a client's body that keeps the library.
 pub(crate) fn turn_for(
     alloc: Global,
     host: &mut Host,
@@ -29,13 +29,25 @@ pub(crate) fn turn_for(
     client: u32,
     body: &[u8],
 ) -> Reply
+    requires plain { is_replacement body.now ≡ false }
     ensures turn { TurnsFor client body.now result (shared host.old owners.old) (shared host.new owners.new) }
     ensures bank { host.new.bank ≡ host.old.bank }
 {
     match lock_turn(alloc, host, owners, client, body) {
         Some(reply) => reply,
-        None => host.turn(body),
+        None => host.ordinary_turn(body),
     }
+}
+
+/// The same of one that asks for another library, whoever asks: no lock changes its owner.
+pub(crate) fn replace_for(host: &mut Host, body: &[u8]) -> Reply
+    requires kind { is_replacement body.now ≡ true }
+    ensures turn { (client : ℕ) (locks : List AClientLock) → TurnsFor client body.now result (shared host.old locks) (shared host.new locks) }
+    ensures bank { host.new.bank ≡ host.old.bank }
+{
+    a_replacement_is_no_request();
+    refused_asks_nothing();
+    host.replace(body)
 }
 
 /// The turn of a client's body that asks for a lock to be changed; None, and nothing done, for every other body. A client can give back the

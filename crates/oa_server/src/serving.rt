@@ -9,12 +9,11 @@ ghost use Rattle.oa_frame.specs.Sessions.{spelled_all};
 ghost use Rattle.oa_record.specs.Replacement.{is_replacement};
 ghost use Rattle.oa_record.specs.Replies.{reply_record};
 ghost use Rattle.oa_server.specs.Talks.{HasTalked, HasTalkedInMemory, TakesBodies, ended_written, taken_written};
-ghost use Rattle.oa_server.specs.OneReply.{one_reply};
 ghost use Rattle.oa_server.specs.Storages.{InMemory};
 
 use crate::Server;
 use crate::engine::Engine;
-use crate::grouping::{finish, take};
+use crate::grouping::{finish, take, take_alone};
 use crate::open_group::OpenGroup;
 use crate::storage::Storage;
 use oa_disk::Disk;
@@ -35,8 +34,6 @@ impl<D: Disk> Responder for Engine<D> {
 
     ghost alone = { is_replacement };
 
-    ghost one_reply = { one_reply };
-
     fn comes_alone(&self, body: &[u8]) -> bool {
         is_replacement(body)
     }
@@ -49,7 +46,7 @@ impl<D: Disk> Responder for Engine<D> {
     ) -> Result<(), Unwritten> {
         match &mut self.storage {
             Storage::Memory(_) => {
-                let reply = self.host.turn(body);
+                let reply = self.host.ordinary_turn(body);
                 put_reply(framing, writer, &reply.head(), reply.body())
             }
             Storage::Disk(store) => {
@@ -63,6 +60,30 @@ impl<D: Disk> Responder for Engine<D> {
                     return Ok(());
                 }
                 put_held(framing, writer, &mut self.open_group.replies)
+            }
+        }
+    }
+
+    fn respond_alone<W: Sink>(
+        &mut self,
+        framing: Framing,
+        body: &[u8],
+        writer: &mut W,
+    ) -> Result<(), Unwritten> {
+        match &mut self.storage {
+            Storage::Memory(_) => {
+                let reply = self.host.replace(body);
+                put_reply(framing, writer, &reply.head(), reply.body())
+            }
+            Storage::Disk(store) => {
+                let reply = take_alone(
+                    self.alloc,
+                    &mut self.host,
+                    store,
+                    &mut self.open_group,
+                    body,
+                );
+                put_reply(framing, writer, &reply.head(), reply.body())
             }
         }
     }

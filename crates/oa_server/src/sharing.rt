@@ -8,8 +8,8 @@ ghost use Rattle.oa_server.specs.Sharing.ClientReply.{Leaves as ALeave};
 ghost use Rattle.oa_share.specs.Outgoing.{spelled_frames};
 ghost use Rattle.oa_stream.specs.Sink.{Puts};
 
-use crate::desk::{Asker, Desk, ask_over, end_over, finish_over};
-use crate::locking::{let_go, turn_for};
+use crate::desk::{Asker, Desk, ask_alone, ask_over, end_over, finish_over};
+use crate::locking::{let_go, replace_for, turn_for};
 use crate::shared_engine::SharedEngine;
 use crate::storage::Storage;
 use oa_disk::Disk;
@@ -62,6 +62,24 @@ impl<D: Disk> SharedResponder for SharedEngine<D> {
                     return Ok(());
                 }
                 put_told(self.alloc, writer, &mut self.desk)
+            }
+        }
+    }
+
+    fn answer_client_alone<W: Sink>(
+        &mut self,
+        client: u32,
+        body: &[u8],
+        writer: &mut W,
+    ) -> Result<(), Unwritten> {
+        match &mut self.storage {
+            Storage::Memory(_) => {
+                let reply = replace_for(&mut self.host, body);
+                put_reply_of(writer, client, &reply.head(), reply.body())
+            }
+            Storage::Disk(store) => {
+                let reply = ask_alone(self.alloc, &mut self.host, store, &mut self.desk, body);
+                put_reply_of(writer, client, &reply.head(), reply.body())
             }
         }
     }

@@ -107,8 +107,9 @@ impl Host {
 
     /// One turn of a body with another opcode than 12. A call that brings no more than a new value is looked at first, since most are such
     /// calls.
-    fn ordinary_turn(&mut self, body: &[u8]) -> Reply
+    pub fn ordinary_turn(&mut self, body: &[u8]) -> Reply
         ensures turn { Ordinary self.old body.now result self.new }
+        ensures bank { self.new.bank ≡ self.old.bank }
         ensures released { ReleasesWithoutMemory body.now result }
     {
         one_request();

@@ -65,9 +65,10 @@ impl Host {
         }
     }
 
-    /// The turn of such a body in memory.
-    pub(super) fn replace(&mut self, body: &[u8]) -> Reply
-        ensures { Replacement self.old body.now result self.new }
+    /// The turn of such a body in memory. Want of memory is told in the reply, which then leaves all as it was, as does any other refusal.
+    pub fn replace(&mut self, body: &[u8]) -> Reply
+        ensures turn { Replacement self.old body.now result self.new }
+        ensures bank { self.new.bank ≡ self.old.bank }
     {
         match self.plan_replacement(body) {
             ReplacementPlan::Answered(reply) => reply,

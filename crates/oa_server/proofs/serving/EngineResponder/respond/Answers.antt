@@ -1,4 +1,4 @@
-use Rattle.std.proofs.Common.{rules, [], ◌∷◌, refl}
+use Rattle.std.proofs.Common.{rules, [], ◌∷◌, inl, refl}
 use Rattle.oa_frame.specs.Framings.{frames}
 use Rattle.oa_frame.proofs.Spelled.{puts_none, puts_one}
 use Rattle.oa_record.specs.Replies.{reply_record}
@@ -6,11 +6,11 @@ use Rattle.oa_server.proofs.serving.EngineResponder.respond.Goals as goal
 
 pub returns-in-Memory : goal.returns-in-Memory
 returns-in-Memory g c =
-    let reply = reply_record c.turn-reply.result in
+    let reply = reply_record c.ordinary_turn-reply.result in
     record {
       answers = record {
         replies = reply ∷ [];
-        turned = rw c.in-Memory.is (refl, (c.turn-reply.result, refl, c.turn-reply.ensures.turn));
+        turned = rw c.in-Memory.is (refl, (c.ordinary_turn-reply.result, refl, inl (record { kind = c.requires.together; turn = c.ordinary_turn-reply.ensures.turn })));
         put = puts_one (frames c.args.framing).spelled c.put_reply.result _ _ (reply ∷ []) reply refl (rw c.body.ensures.value at (rw c.head.ensures at c.put_reply.ensures));
       };
       ready = rw c.in-Memory.is tt;

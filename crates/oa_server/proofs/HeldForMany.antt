@@ -194,14 +194,14 @@ pub held_over : {D : Type 0} {g : Ghosts D} (old new : Store D g) (before after 
 held_over old new before after desk last client brought size is = record { told = []; are = sym no_told; size = size; taken = is }
 
 -- a body that is taken where nothing is held, and answered at once
-pub lifted_alone : {D : Type 0} {g : Ghosts D} (size client : ℕ) (body : List ℕ) (askers : List Asker) (locks : List ClientLock) (reply : ReplyValue) (pending : List ReplyValue) (events events' : List ℕ) (old new : Store D g) (before after : State)
-    → length askers ≡ length pending → pending ≡ [] → ((state : State) (change : LockChange) → AsksLock state body change → ⊥) → IsTaken requests size body (reply ∷ []) (grouping old before pending events) (grouping new after pending events')
-    → IsTaken shared_requests size (tagged client (Body body)) (Replies client reply ∷ []) (shared_grouping old before locks askers pending events) (shared_grouping new after locks askers pending events')
-lifted_alone {D} {g} size client body [] locks reply [] events events' old new before after each none asks is =
+pub lifted_alone : {D : Type 0} {g : Ghosts D} (size client : ℕ) (body : List ℕ) (askers : List Asker) (locks : List ClientLock) (reply : ReplyValue) (pending pending' : List ReplyValue) (events events' : List ℕ) (old new : Store D g) (before after : State)
+    → length askers ≡ length pending → pending ≡ [] → pending' ≡ [] → ((state : State) (change : LockChange) → AsksLock state body change → ⊥) → IsTaken requests size body (reply ∷ []) (grouping old before pending events) (grouping new after pending' events')
+    → IsTaken shared_requests size (tagged client (Body body)) (Replies client reply ∷ []) (shared_grouping old before locks askers pending events) (shared_grouping new after locks askers pending' events')
+lifted_alone {D} {g} size client body [] locks reply [] [] events events' old new before after each none none' asks is =
     lifted_taken {g = g} size client body (record { client = client; why = None }) refl [] locks (reply ∷ []) [] [] events events' old new before after refl (λ _. asks before) (λ state change _. asks state change) (λ _. refl) is
-lifted_alone {D} {g} size client body [] locks reply (x ∷ xs) events events' old new before after each none asks is = absurd (omega (arith, each))
-lifted_alone {D} {g} size client body (y ∷ ys) locks reply [] events events' old new before after each none asks is = absurd (omega (arith, each))
-lifted_alone {D} {g} size client body (y ∷ ys) locks reply (x ∷ xs) events events' old new before after each none asks is = absurd (omega (arith, ap (λ (l : List ReplyValue). length l) none))
+lifted_alone {D} {g} size client body (y ∷ ys) locks reply [] [] events events' old new before after each none none' asks is = absurd (omega (arith, each))
+lifted_alone {D} {g} size client body askers locks reply (x ∷ xs) pending' events events' old new before after each none none' asks is = absurd (omega (arith, ap (λ (l : List ReplyValue). length l) none))
+lifted_alone {D} {g} size client body askers locks reply [] (x ∷ xs) events events' old new before after each none none' asks is = absurd (omega (arith, ap (λ (l : List ReplyValue). length l) none'))
 
 pub alone_over : {D : Type 0} {g : Ghosts D} (old new : Store D g) (before after : State) (desk last : Desk) (client : ℕ) (body : List ℕ) (reply : ReplyValue) → last.open_group.size ≡ desk.open_group.size
     → IsTaken shared_requests desk.open_group.size (tagged client (Body body)) (Replies client reply ∷ []) (desk_grouping old before desk) (desk_grouping new after last) → TakesOver old before desk (Of client (Body body)) ((client, reply_record reply) ∷ []) new after last

@@ -12,8 +12,8 @@ put_reply_of-requires-clause-short g c = omega (arith, c.body.ensures.small)
 pub put_reply_of-requires-in-Disk-clause-short : goal.put_reply_of-requires-in-Disk-clause-short
 put_reply_of-requires-in-Disk-clause-short g c = omega (arith, c.body-in-Disk.ensures.small)
 
-pub ask_alone-requires-clause-none : goal.ask_alone-requires-clause-none
-ask_alone-requires-clause-none g c =
+pub ask_alone-reply-requires-clause-none : goal.ask_alone-reply-requires-clause-none
+ask_alone-reply-requires-clause-none g c =
     let now = c.requires.now in
     none_told_of {g = g.D.Disk} c.in-Disk.store now.0.host c.args.self.now.host now.0.storage now.0.desk c.args.self.now.desk now.1 (rw c.in-Disk.is at now.2) (rw c.in-Disk.is at c.requires.ready)
 

@@ -64,12 +64,11 @@ class Memory(Cases):
             )
 
     def test_dumps_and_upgrades(self):
-        """They take what a server over the same objects does, and a part of the store: no image, no list of what is read, and no other table. An upgrade reads twice,
-        and where blocks are small the first reading leaves holes."""
-        for what, text, objects, most in (
-            ("longs of three parameters", full.keyed("long", 3), full.cells_by_key(300_000, 3), 1.6),
-            ("objects of three longs", full.keyed("long", 0), full.objects_of(65_536, 3), 1.2),
-            ("long texts", full.library(59, "BSTR"), {1: (CLASS, full.texts(OLD_FULL))}, 1.2),
+        """They take what a server over the same objects does, and a part of the store: no image, no list of what is read, and no other table."""
+        for what, text, objects in (
+            ("longs of three parameters", full.keyed("long", 3), full.cells_by_key(300_000, 3)),
+            ("objects of three longs", full.keyed("long", 0), full.objects_of(65_536, 3)),
+            ("long texts", full.library(59, "BSTR"), {1: (CLASS, full.texts(OLD_FULL))}),
         ):
             with tempfile.TemporaryDirectory(dir=fast_folder()) as room:
                 full.laid_objects(room, text, objects)
@@ -79,8 +78,8 @@ class Memory(Cases):
                 dumped, _ = full.peak_of_run("dump", f"{room}/it.store")
                 full.laid_objects(room, text, objects, form=1)
                 upgraded, _ = full.peak_of_run("upgrade", f"{room}/it.store")
-            self.tell(f"{what}: a dump takes at most 1.2 times what a server over them does", dumped <= 1.2 * taken + PAGES, (dumped, taken))
-            self.tell(f"{what}: an upgrade takes at most {most} times that", upgraded <= most * taken + PAGES, (upgraded, taken))
+            for name, peak in (("a dump", dumped), ("an upgrade", upgraded)):
+                self.tell(f"{what}: {name} takes at most 1.2 times what a server over them does", peak <= 1.2 * taken + PAGES, (peak, taken))
 
     def test_a_session_in_little_memory(self):
         body = struct.pack("<I", 1) + oaut.ask_create(worked.ITEM)

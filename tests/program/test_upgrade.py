@@ -17,6 +17,8 @@ UPGRADE, UPGRADED = ["upgrade", "it.store"], b"upgraded\n"
 SIZE = 75_505_664  # of a store where nothing is said
 # a file that lacks two pieces of zeros
 SHORT = OLD + bytes(SIZE - 100_000 - len(OLD))
+# once the file is long enough: a head, a body, a sync, the selector, a sync
+LAST = [("write", 16_785_408, 32), ("write", BODY_1, 340), ("sync",), ("write", 4096, 1), ("sync",), OUT]
 
 
 def arrays(count):
@@ -150,13 +152,17 @@ def is_told(place, parts, what):
 
 @unittest.skipIf(STRACE is None, "strace is not there: the calls of the system are not looked at, and no call is made to fail")
 class UpgradeCalls(Cases):
-    def made(self):
-        """The calls of an upgrade of the short file, and where its parts begin."""
+    def calls(self, disk):
+        """The calls of an upgrade of a file."""
         with tempfile.TemporaryDirectory() as room:
-            fill(room, {"it.store": SHORT})
+            fill(room, {"it.store": disk})
             calls = Calls(room, UPGRADE)
             self.tell("upgrade: under strace", (calls.answer, text_held(room)) == ((0, UPGRADED, b""), ONE), calls.answer)
-        made = calls.does()
+        return calls.does()
+
+    def made(self):
+        """The calls of an upgrade of the short file, and where its parts begin."""
+        made = self.calls(SHORT)
         zeros = next(place for place, it in enumerate(made) if it[0] == "write")
         return made, [0, zeros, made.index(("sync",), zeros) + 1]
 
@@ -172,8 +178,15 @@ class UpgradeCalls(Cases):
         self.tell(
             "upgrade: zeros behind the end, and a sync", second == [("write", SIZE - 100_000, 65_536), ("write", SIZE - 34_464, 34_464), ("sync",)], second
         )
-        last = [("write", 16_785_408, 32), ("write", BODY_1, 340), ("sync",), ("write", 4096, 1), ("sync",), OUT]
-        self.tell("upgrade: a head, a body, a sync, the selector, a sync, and nothing is read again", third == last, third)
+        self.tell("upgrade: a head, a body, a sync, the selector, a sync, and nothing is read again", third == LAST, third)
+        made = self.calls(OLD + bytes(SIZE - len(OLD)))
+        begins = made.index(LAST[0]) - 1
+        looks = made[len(OPENING) : begins]
+        self.tell(
+            "upgrade: of a file that is long enough, no zeros, and the sync all the same",
+            made[: len(OPENING)] == OPENING and all(it[0] == "read" for it in looks) and made[begins:] == [("sync",), *LAST],
+            made,
+        )
 
     def goes_on(self, name, room):
         """The same command brings what is there to the same store."""

@@ -49,7 +49,7 @@ class Memory(Cases):
             ("longs of one parameter", keyed("long", 1), cells_by_key(40_000, 1), 2.6),
             ("texts of one parameter", keyed("BSTR", 1), cells_by_key(30_000, 1, full.short), 2.9),
             ("arrays of two longs, of one parameter", keyed("SAFEARRAY(long)", 1), cells_by_key(25_000, 1, full.two_longs), 3.9),
-            ("objects of three longs", keyed("long", 0), full.objects_of(20_000, 3), 3.4),
+            ("objects of three longs", keyed("long", 0), full.objects_of(LARGE, 3), 3.04),
             ("objects of one long", keyed("long", 0), full.objects_of(20_000, 1), 3.8),
         ):
             with tempfile.TemporaryDirectory(dir=fast_folder()) as room:

@@ -6,8 +6,9 @@ ghost use Rattle.oa_decision.specs.declared.decision.Undecided.TheVariants.{OutO
 use crate::fields::Fields;
 use crate::refusal::Refusal;
 use oa_bind::BindFault;
+use oa_image::SizedEvent;
 use oa_model::HResult;
-use oa_table::{CellName, Event};
+use oa_table::CellName;
 use std::alloc::AllocError;
 use thiserror::Error;
 
@@ -17,7 +18,7 @@ pub enum Decision {
     /// Its reply has this code and these fields. Nothing changes.
     Answer { code: HResult, fields: Fields },
     /// The table changes, and the reply then has these fields; it is a refusal where the change is.
-    Change { event: Event, fields: Fields },
+    Change { event: SizedEvent, fields: Fields },
     /// The same of a lock.
     Relock { change: LockChange, fields: Fields },
 }

@@ -1,13 +1,13 @@
 //! The limits on what a change makes.
-ghost use Rattle.std.specs.Prelude.{◌≡◌, ◌-◌, true, Ok, nat_lt};
+ghost use Rattle.std.specs.Prelude.{◌≡◌, ◌-◌, ◌≤◌, true, Ok, nat_lt};
 ghost use Rattle.oa_image.specs.Tables.{reserved_bytes};
 ghost use Rattle.oa_table.specs.Events.{applied};
-ghost use Rattle.oa_table.specs.Sizes.{table_size};
+ghost use Rattle.oa_table.specs.Sizes.{size_after, table_size};
 ghost use Rattle.oa_table.specs.Tables.{TableValue};
 ghost use Rattle.oa_decision.specs.Limits.{GivesReason, StaysWithin, allowed};
 
 use crate::applies::refusal_of;
-use oa_image::{RESERVED_BYTES, event_len};
+use oa_image::{RESERVED_BYTES, SizedEvent};
 use oa_model::{HResult, MAX_EVENT_BYTES};
 use oa_table::{Event, Table};
 
@@ -20,13 +20,13 @@ pub fn most_of(bank: u32) -> u64
 
 /// Why an event is not allowed where the body of a bank has so many bytes: the table's own reason, then E_INVALIDARG for the event's image,
 /// then STG_E_MEDIUMFULL for the table's; None where it is allowed. Takes no memory.
-pub fn disallowed(bank: u32, table: &Table, event: &Event) -> Option<HResult>
+pub fn disallowed(bank: u32, table: &Table, event: &SizedEvent) -> Option<HResult>
     ensures { GivesReason (allowed bank event.now table.now) result }
 {
-    if let Some(fault) = refusal_of(table, event) {
+    if let Some(fault) = refusal_of(table, event.event()) {
         return Some(fault.code());
     }
-    if event_len(event) > MAX_EVENT_BYTES {
+    if event.len() > MAX_EVENT_BYTES {
         return Some(HResult::E_INVALIDARG);
     }
     if is_too_large(bank, table, event) {
@@ -36,22 +36,32 @@ pub fn disallowed(bank: u32, table: &Table, event: &Event) -> Option<HResult>
 }
 
 /// Whether an event that applies is within the limits for certain: where even the most bytes that the table can have then are few enough.
-pub fn is_surely_within(bank: u32, table: &Table, event: &Event) -> bool
+pub fn is_surely_within(bank: u32, table: &Table, event: &SizedEvent) -> bool
     ensures { result ≡ true → StaysWithin bank event.now table.now }
 {
-    event_len(event) <= MAX_EVENT_BYTES && table.most_after(event) <= most_of(bank)
+    event.len() <= MAX_EVENT_BYTES && has_surely_room(bank, table, event)
 }
 
-/// Whether the image of the table has too many bytes after an event that applies. Where even the most that it can have are few, they are
-/// not counted.
-fn is_too_large(bank: u32, table: &Table, event: &Event) -> bool
-    ensures { (new : TableValue) → applied event.now table.now ≡ Ok new → result ≡ nat_lt (bank - reserved_bytes) (table_size new) }
+/// Whether the image of the table has few enough bytes after an event for certain. What a put brings to it is less than the event's own
+/// image, so the value is not measured once more, nor the cell looked for.
+fn has_surely_room(bank: u32, table: &Table, event: &SizedEvent) -> bool
+    ensures { result ≡ true → size_after event.now table.now ≤ bank - reserved_bytes }
 {
     let most = most_of(bank);
-    if table.most_after(event) <= most {
+    match event.event() {
+        Event::Put { .. } => table.image_size() <= most.saturating_sub(event.len() as u64),
+        other => table.size_after(other) <= most,
+    }
+}
+
+/// Whether the image of the table has too many bytes after an event that applies. Where there is room for certain, they are not counted.
+fn is_too_large(bank: u32, table: &Table, event: &SizedEvent) -> bool
+    ensures { (new : TableValue) → applied event.now table.now ≡ Ok new → result ≡ nat_lt (bank - reserved_bytes) (table_size new) }
+{
+    if has_surely_room(bank, table, event) {
         return false;
     }
-    size_after(table, event) > most
+    size_after(table, event.event()) > most_of(bank)
 }
 
 /// How many bytes the image of the table has after an event that applies.

@@ -3,6 +3,7 @@ ghost use Rattle.std.specs.Prelude.{◌≡◌};
 ghost use Rattle.oa_decision.specs.ValuePlans.{put_event};
 
 use crate::fields::Fields;
+use oa_image::SizedEvent;
 use oa_record::Reply;
 use oa_table::{CellName, Event, Place};
 use oa_variant::Variant;
@@ -24,7 +25,7 @@ pub struct Planned {
     /// The tag of its body.
     pub tag: u32,
     /// The change.
-    pub event: Event,
+    pub event: SizedEvent,
     /// The fields of the reply, where the change is made.
     pub fields: Fields,
 }

@@ -1,12 +1,12 @@
 -- Images are as long as oa_table counts them.
-use Rattle.std.proofs.Common.{◌≡◌, ℕ, ◌+◌, ◌*◌, List, [], ◌∷◌, length, Ok, refl, arith, ℤ}
+use Rattle.std.proofs.Common.{◌≡◌, ℕ, ◌+◌, ◌*◌, ◌≤◌, List, [], ◌∷◌, length, Ok, refl, arith, ℤ}
 use Rattle.std.specs.List.{sum_by}
 use Rattle.std.specs.Map.{values_of}
 use Rattle.std.proofs.lemmas.List.{length-append}
 use Rattle.std.proofs.lemmas.List.Sums.{sum_by-cons}
 use Rattle.oa_variant.specs.declared.variant.Variant.{Variant}
 use Rattle.oa_layout.specs.Formats.{raw, next_by, made_where, coded, counted, only, times}
-use Rattle.oa_layout.specs.Lengths.{scalar_size}
+use Rattle.oa_layout.specs.Lengths.{scalar_size, value_size}
 use Rattle.oa_layout.specs.Numbers.{u16, u32, i32, guid}
 use Rattle.oa_layout.specs.Values.{scalar}
 use Rattle.oa_layout.specs.Variants.{value}
@@ -15,9 +15,11 @@ use Rattle.oa_table.specs.declared.event.Event.{Event}
 use Rattle.oa_table.specs.declared.event.Event.TheVariants.{Create, Release, Put, PutElement, Redim}
 use Rattle.oa_table.specs.declared.name.CellName.{CellName}
 use Rattle.oa_table.specs.Events.{applied}
+use Rattle.oa_table.specs.Objects.{with_put}
 use Rattle.oa_table.specs.Places.{PlaceValue}
 use Rattle.oa_table.specs.Sizes.{cell_size, object_size, place_size, size_after, table_size}
 use Rattle.oa_table.specs.Tables.{ObjectValue, TableValue}
+use Rattle.oa_table.proofs.Sums.{object_most, put_most}
 use Rattle.oa_image.specs.Events.{event_image, indices}
 use Rattle.oa_image.specs.Names.{key, name, place}
 use Rattle.oa_image.specs.Sizes.{event_size}
@@ -63,3 +65,8 @@ event_sized (Release number) = release_len number
 event_sized (Put n v) = omega (arith, put_len n v, name_sized n, value_sized v)
 event_sized (PutElement n index v) = omega (arith, put_element_len n index v, name_sized n, indices_sized index, scalar_sized v)
 event_sized (Redim n b) = omega (arith, redim_len n b, name_sized n)
+
+-- what a put adds to a table's image is less than its own image has
+pub put_adds : (n : CellName) (v : Variant) (t : TableValue) → size_after (Put n v) t ≤ table_size t + event_size (Put n v)
+unfolding event_size
+put_adds n v t = omega (arith, object_most n.object (with_put n.place v) t (place_size n.place + value_size v) (put_most n.place v))

@@ -3,8 +3,7 @@ ghost use Rattle.std.specs.Prelude.{◌≡◌, ◌⊎◌, ◌↔◌, ◌≤◌, 
 ghost use Rattle.oa_image.specs.Events.{event_image};
 ghost use Rattle.oa_journal.specs.Append.{group_of};
 
-use oa_image::{event_len, write_event};
-use oa_table::Event;
+use oa_image::{SizedEvent, write_event};
 use std::alloc::{AllocError, Global};
 use std::marker::Model;
 
@@ -51,7 +50,7 @@ impl Batch {
     }
 
     /// Adds an event. Err only where memory is refused; then nothing changes.
-    pub fn add(&mut self, event: &Event) -> Result<(), AllocError>
+    pub fn add(&mut self, event: &SizedEvent) -> Result<(), AllocError>
         ensures ok { OnOk result (self.new ≡ self.old ++ event_image event.now) }
         ensures err { OnErr result (self.new ≡ self.old) }
     {
@@ -69,17 +68,17 @@ impl Batch {
 
 /// Adds an event over the free byte behind the others, and one behind it, in room that is asked for once: where it is refused, no byte
 /// changes.
-fn add_event(bytes: &mut Vec<u8>, event: &Event) -> Result<(), AllocError>
+fn add_event(bytes: &mut Vec<u8>, event: &SizedEvent) -> Result<(), AllocError>
     requires { (length bytes.old.items ≡ 0) ⊎ (5 ≤ length bytes.old.items) }
     ensures ok { OnOk result (group_of bytes.new.items ≡ group_of bytes.old.items ++ event_image event.now) }
     ensures err { OnErr result (bytes.new.items ≡ bytes.old.items) }
     ensures len { (length bytes.new.items ≡ 0) ⊎ (5 ≤ length bytes.new.items) }
 {
     let begun = bytes.len().max(5);
-    let Some(end) = begun.checked_add(event_len(event)) else {
+    let Some(end) = begun.checked_add(event.len()) else {
         return Err(AllocError);
     };
     bytes.resize(end, 0)?;
-    write_event(event, begun - 1, bytes);
+    write_event(event.event(), begun - 1, bytes);
     Ok(())
 }

@@ -13,13 +13,13 @@ ghost use Rattle.oa_turn.specs.Plans.{IsPlanned};
 
 use crate::fault::HoldFault;
 use oa_disk::Disk;
+use oa_image::SizedEvent;
 use oa_image::laws::is_event;
 use oa_keeper::{Batch, DeviceFailed, make_room};
 use oa_model::HResult;
 use oa_record::Reply;
 use oa_record::laws::one_request;
 use oa_store::Store;
-use oa_table::Event;
 use oa_turn::{Host, Plan, Planned};
 use std::alloc::Global;
 
@@ -72,7 +72,7 @@ fn hold<D: Disk>(
     ensures banks { HasBanks store.new host.new }
 {
     one_request();
-    is_event(&planned.event);
+    is_event(planned.event.event());
     let Planned { tag, event, fields } = planned;
     match hold_change(host, store, batch, event) {
         Ok(()) => Ok(Reply::new(tag, HResult::S_OK, None, fields.into_vec())),
@@ -87,7 +87,7 @@ fn hold_change<D: Disk>(
     host: &mut Host,
     store: &mut Store<D>,
     batch: &mut Batch,
-    event: Event,
+    event: SizedEvent,
 ) -> Result<(), HoldFault>
     requires change { CanBeMade host.old event }
     requires open { IsOpenFor batch.old store.old }
@@ -100,14 +100,14 @@ fn hold_change<D: Disk>(
     ensures once { CallsForCheckpoint store.old store.new host.old.table }
     ensures way { MakesWay batch.old (held_of host.old) store.old store.new result }
 {
-    is_event(&event);
+    is_event(event.event());
     make_room(store, host.table(), batch)?;
     add_change(host, batch, event)?;
     Ok(())
 }
 
 /// Makes a change that is allowed, and adds its event to the batch. The growths come in this order: the event's bytes, the table's.
-fn add_change(host: &mut Host, batch: &mut Batch, event: Event) -> Result<(), HoldFault>
+fn add_change(host: &mut Host, batch: &mut Batch, event: SizedEvent) -> Result<(), HoldFault>
     requires { CanBeMade host.old event }
     ensures change { MakesChange event host.old host.new result }
     ensures event { OnOk result (batch.new ≡ batch.old ++ event_image event) }
@@ -116,7 +116,7 @@ fn add_change(host: &mut Host, batch: &mut Batch, event: Event) -> Result<(), Ho
 {
     let before = batch.len();
     batch.add(&event)?;
-    if let Err(_) = host.apply(event) {
+    if let Err(_) = host.apply(event.into_event()) {
         batch.cut(before);
         return Err(HoldFault::Memory);
     }

@@ -5,7 +5,6 @@ use Rattle.std.specs.Map.{values_of}
 use Rattle.oa_layout.specs.Lengths.{max_value_image, scalar_size, value_size}
 use Rattle.oa_variant.specs.declared.variant.Variant.{Variant}
 use Rattle.oa_table.specs.declared.event.Event.{Event}
-use Rattle.oa_table.specs.declared.event.Event.TheVariants.{Create, Release, Put, PutElement, Redim}
 use Rattle.oa_table.specs.declared.fault.TableFault.{TableFault}
 use Rattle.oa_table.specs.Events.{applied}
 use Rattle.oa_table.specs.Places.{PlaceValue}
@@ -45,18 +44,6 @@ size_due size (Err fault) old = size old
 
 abbrev pub size_after : Event → TableValue → ℕ
 size_after event table = size_due table_size (applied event table) table
-
--- a bound of the size after a put, found without a look at the cell: its place comes and its value, and nothing goes
-abbrev pub most_with_put : PlaceValue → Variant → TableValue → ℕ
-most_with_put place value table = table_size table + place_size place + value_size value
-
--- a bound of the size after an event: that of a put, and the size itself after another event
-abbrev pub most_after : Event → TableValue → ℕ
-most_after (Create number class) table = size_after (Create number class) table
-most_after (Release number) table = size_after (Release number) table
-most_after (Put name value) table = most_with_put name.place value table
-most_after (PutElement name index value) table = size_after (PutElement name index value) table
-most_after (Redim name bound) table = size_after (Redim name bound) table
 
 -- the greatest size of an image whose table fits in any memory
 abbrev pub largest_image : ℕ

@@ -17,7 +17,6 @@ ghost use Rattle.oa_table.specs.Tables.{cell_in, class_in, first_table, object_a
 
 use crate::difference::Difference;
 use crate::objects::Objects;
-use crate::size::{place_size, value_size};
 use crate::value::Room;
 use crate::{CellName, Event, LiveObject, Place, TableFault};
 use oa_array::Indices;
@@ -174,25 +173,6 @@ impl Table {
             Event::PutElement { name, index, value } => self.size_with_element(name, index, value),
             Event::Redim { name, bound } => self.size_with_bound(name, *bound),
         }
-    }
-
-    /// A number of bytes that the image has at most after an event: `size_after`, but for a put, of which it looks at the event alone.
-    pub fn most_after(&self, event: &Event) -> u64
-        ensures value { result ≡ sizes.most_after event.now self.now }
-        ensures bound { sizes.size_after event.now self.now ≤ result }
-    {
-        match event {
-            Event::Put { name, value } => self.most_with_put(name, value),
-            _ => self.size_after(event),
-        }
-    }
-
-    /// How many bytes the image has now, and the place and the value of a put have.
-    fn most_with_put(&self, name: &CellName, value: &Variant) -> u64
-        ensures value { result ≡ sizes.most_with_put name.now.place value.now self.now }
-        ensures bound { sizes.size_after (Event.Put name.now value.now) self.now ≤ result }
-    {
-        self.size + place_size(&name.place) + value_size(value)
     }
 
     /// How many bytes the image has after the creation of an object with a number.

@@ -13,6 +13,7 @@ ghost use Rattle.oa_table.specs.Memory.{MayWantMemory};
 ghost use Rattle.oa_table.specs.Tables.{cell_in, object_at, unlocked_table};
 
 use oa_decision::{LockChange, disallowed, is_surely_within, most_of};
+use oa_image::SizedEvent;
 use oa_model::{HResult, MAX_EVENT_BYTES};
 use oa_table::{CellName, Event, LARGEST_IMAGE, Table, TableFault};
 use oa_variant::Variant;
@@ -50,7 +51,7 @@ fn apply_any(table: &mut Table, event: Event) -> Result<(), AllocError>
 }
 
 /// Makes a change where it is allowed. Err tells why it is not, or that no memory was found; then nothing changes.
-pub(crate) fn change(bank: u32, table: &mut Table, event: Event) -> Result<(), HResult>
+pub(crate) fn change(bank: u32, table: &mut Table, event: SizedEvent) -> Result<(), HResult>
     requires unlocked { BringsNoLocks event }
     requires sound { IsSoundTable bank table.old }
     ensures change { ChangesTable bank event table.old table.new result }
@@ -59,12 +60,12 @@ pub(crate) fn change(bank: u32, table: &mut Table, event: Event) -> Result<(), H
 {
     // Far from the limits, as most changes are, the table alone tells whether the event applies, as it makes the change.
     if is_surely_within(bank, table, &event) {
-        return change_within(table, event);
+        return change_within(table, event.into_event());
     }
     if let Some(code) = disallowed(bank, table, &event) {
         return Err(code);
     }
-    apply(table, event).map_err(|_| HResult::E_OUTOFMEMORY)
+    apply(table, event.into_event()).map_err(|_| HResult::E_OUTOFMEMORY)
 }
 
 /// The most bytes of a value whose put into a cell without a key has no more than an event may have.

@@ -22,6 +22,7 @@ use oa_decision::{
     Decider, Decision, Fields, LockChange, Plan, Planned, Refusal, Undecided, ValuePlan, ValuePut,
     disallowed,
 };
+use oa_image::SizedEvent;
 use oa_model::HResult;
 use oa_record::laws::{one_request, opcode_stands};
 use oa_record::{Reply, Request, ValueCall, is_replacement, read_request, read_value_call, tag_of};
@@ -146,7 +147,7 @@ impl Host {
             Ok(()) => Reply::bare(self.alloc, tag, HResult::S_OK, None),
             Err(value) => self.make(Planned {
                 tag,
-                event: Event::Put { name, value },
+                event: SizedEvent::new(Event::Put { name, value }),
                 fields: Fields::none(self.alloc),
             }),
         }
@@ -175,7 +176,7 @@ impl Host {
         match self.value_plan(body) {
             Some(ValuePlan::Answered(reply)) => Plan::Answered(reply),
             Some(ValuePlan::Put(put)) => {
-                let event = put.into_event(self.alloc);
+                let event = SizedEvent::new(put.into_event(self.alloc));
                 self.plan_change(tag_of(body), event, Fields::none(self.alloc))
             }
             None => self.plan_other(body),
@@ -228,7 +229,7 @@ impl Host {
     }
 
     /// A change that was decided: it is refused, or to be made.
-    fn plan_change(&self, tag: u32, event: Event, fields: Fields) -> Plan
+    fn plan_change(&self, tag: u32, event: SizedEvent, fields: Fields) -> Plan
         ensures { PlansChange self.now tag event fields result }
     {
         match disallowed(self.bank, &self.table, &event) {

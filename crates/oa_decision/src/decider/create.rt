@@ -3,13 +3,13 @@ ghost use Rattle.std.specs.Prelude.{◌≡◌, IfOk, IsOk};
 ghost use Rattle.oa_decision.specs.Create.{class_found, creation, fitting};
 ghost use Rattle.oa_decision.specs.Decisions.{ChangesNoLocks, Decides};
 ghost use Rattle.oa_decision.specs.Limits.{allowed};
-ghost use Rattle.oa_table.specs.declared.event.Event.TheVariants.{Create as ACreate};
 
 use super::Decider;
 use crate::decision::{Decision, Undecided};
 use crate::fields::Fields;
 use crate::limits::disallowed;
 use crate::refusal::Refusal;
+use oa_image::SizedEvent;
 use oa_model::{GREATEST_OBJECT_NUMBER, HResult, MAX_LIVE_OBJECTS};
 use oa_record::number_field;
 use oa_table::Event;
@@ -23,18 +23,17 @@ impl Decider<'_> {
     {
         self.find_class(&class)?;
         let number = self.table.next();
-        self.find_room(number, class)?;
+        let event = SizedEvent::new(Event::Create { number, class });
+        self.find_room(&event)?;
         let fields = Fields::new(number_field(self.alloc, number)?);
-        let event = Event::Create { number, class };
         Ok(Decision::Change { event, fields })
     }
 
     /// Whether the table may have a new object.
-    fn find_room(&self, number: u32, class: Uuid) -> Result<(), Refusal>
-        ensures { result ≡ fitting (allowed self.now.bank (ACreate number class) self.now.table) }
+    fn find_room(&self, creation: &SizedEvent) -> Result<(), Refusal>
+        ensures { result ≡ fitting (allowed self.now.bank creation.now self.now.table) }
     {
-        let event = Event::Create { number, class };
-        match disallowed(self.bank, self.table, &event) {
+        match disallowed(self.bank, self.table, creation) {
             Some(code) => Err(Refusal::of(code)),
             None => Ok(()),
         }

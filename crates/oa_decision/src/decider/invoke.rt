@@ -11,6 +11,7 @@ use super::Decider;
 use super::cell::BoundCell;
 use crate::decision::{Decision, Undecided};
 use crate::fields::Fields;
+use oa_image::SizedEvent;
 use oa_model::{HResult, ValueType};
 use oa_record::{Call, variant_field};
 use oa_table::{CellName, Event, LiveObject};
@@ -51,7 +52,7 @@ impl Decider<'_> {
             }
             Some(value) => {
                 let value = value.into_unlocked();
-                let event = Event::Put { name, value };
+                let event = SizedEvent::new(Event::Put { name, value });
                 let fields = Fields::none(self.alloc);
                 Ok(Decision::Change { event, fields })
             }

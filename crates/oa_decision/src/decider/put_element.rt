@@ -14,6 +14,7 @@ use crate::fields::Fields;
 use crate::refusal::Refusal;
 use oa_array::Indices;
 use oa_coerce::{CoerceFault, coerce_scalar};
+use oa_image::SizedEvent;
 use oa_model::VarType;
 use oa_record::Call;
 use oa_table::Event;
@@ -33,11 +34,11 @@ impl Decider<'_> {
     {
         let cell = self.find_cell(call, Access::Put)?;
         let value = self.element_for(&cell, indices.as_slice(), value)?;
-        let event = Event::PutElement {
+        let event = SizedEvent::new(Event::PutElement {
             name: cell.name,
             index: indices,
             value,
-        };
+        });
         let fields = Fields::none(self.alloc);
         Ok(Decision::Change { event, fields })
     }

@@ -12,6 +12,7 @@ use crate::decision::{Decision, Undecided};
 use crate::fields::Fields;
 use crate::refusal::Refusal;
 use oa_array::ArrayFault;
+use oa_image::SizedEvent;
 use oa_model::{Bound, ValueType};
 use oa_record::Call;
 use oa_table::{Event, TableFault};
@@ -34,7 +35,10 @@ impl Decider<'_> {
             }
         };
         let fields = Fields::none(self.alloc);
-        Ok(Decision::Change { event, fields })
+        Ok(Decision::Change {
+            event: SizedEvent::new(event),
+            fields,
+        })
     }
 
     /// The zero of a declared type with another first bound.

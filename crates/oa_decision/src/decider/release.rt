@@ -6,6 +6,7 @@ ghost use Rattle.oa_table.specs.declared.event.Event.TheVariants.{Release};
 use super::Decider;
 use crate::decision::Decision;
 use crate::fields::Fields;
+use oa_image::SizedEvent;
 use oa_table::Event;
 
 impl Decider<'_> {
@@ -13,7 +14,7 @@ impl Decider<'_> {
     pub(super) fn ending(&self, number: u32) -> Decision
         ensures { result ≡ Change (Release number) [] }
     {
-        let event = Event::Release { number };
+        let event = SizedEvent::new(Event::Release { number });
         let fields = Fields::none(self.alloc);
         Decision::Change { event, fields }
     }

@@ -1,0 +1,16 @@
+use Rattle.std.proofs.Common.{◌≡◌, ◌∙◌, arith, sym}
+use Rattle.std.proofs.lemmas.Bool.{leb-true}
+use Rattle.oa_image.proofs.Sized.{put_adds}
+use Rattle.oa_image.specs.Sizes.{event_size}
+use Rattle.oa_table.specs.Sizes.{table_size}
+use Rattle.oa_table.specs.declared.event.Event.TheVariants.{Put}
+use Rattle.oa_decision.proofs.limits.has_surely_room.Goals as goal
+
+pub returns-in-Put : goal.returns-in-Put
+unfolding table_size
+returns-in-Put c = λ is.
+    let put : c.args.event.now ≡ Put c.in-Put.name c.in-Put.value = sym c.event.ensures ∙ c.in-Put.is in
+    let counted : c.len.result ≡ event_size (Put c.in-Put.name c.in-Put.value) = rw put at c.len.ensures.counted in
+    let below = leb-true c.image_size.result c.saturating_sub.result is in
+    let adds = put_adds c.in-Put.name c.in-Put.value c.args.table.now in
+    rw put (omega (arith, adds, counted, below, c.image_size.ensures, c.saturating_sub.ensures, c.most_of-most.ensures))

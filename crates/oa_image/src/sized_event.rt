@@ -1,0 +1,61 @@
+//! An event that was measured.
+ghost use Rattle.std.specs.Prelude.{◌≡◌, length};
+ghost use Rattle.oa_image.specs.Events.{event_image};
+ghost use Rattle.oa_image.specs.Sizes.{event_size};
+
+use crate::event::event_len;
+use oa_table::Event;
+use std::marker::Model;
+
+/// An event, and how many bytes its image has: it is measured here alone, however often its length is asked.
+#[derive(Drop)]
+pub struct SizedEvent {
+    event: Event,
+    len: usize,
+}
+
+impl Model for SizedEvent {
+    ghost use Rattle.std.specs.Prelude.{◌≡◌, length};
+    ghost use Rattle.oa_image.specs.Events.{event_image};
+    ghost use Rattle.oa_table.specs.declared.event.Event.{Event};
+
+    ghost Value = { Event };
+
+    ghost view = { λ s. s.event };
+
+    ghost invariant = { λ s. s.len ≡ length (event_image s.event) };
+}
+
+impl SizedEvent {
+    /// The event, measured. Takes no memory.
+    pub fn new(event: Event) -> SizedEvent
+        ensures { result ≡ event }
+    {
+        let len = event_len(&event);
+        SizedEvent { event, len }
+    }
+
+    /// The event.
+    pub fn event(&self) -> &Event
+        ensures { result.now ≡ self.now }
+    {
+        &self.event
+    }
+
+    /// How many bytes its image has.
+    #[tactic(auto, using(crate::proofs::Sized::event_sized))]
+    pub fn len(&self) -> usize
+        ensures value { result ≡ length (event_image self.now) }
+        ensures counted { result ≡ event_size self.now }
+    {
+        self.len
+    }
+
+    /// The event alone.
+    pub fn into_event(self) -> Event
+        ensures { result ≡ self }
+    {
+        let SizedEvent { event, len: _len } = self;
+        event
+    }
+}

@@ -12,6 +12,7 @@ import wire
 import worked
 from memory import peak_of, resident_of
 from model import LIBRARY, first_library
+from oaut.frames import join
 from preloaded import COMPILER, Preloaded, fast_folder
 from refused_growths import LONG, Over, Session
 from running import CREATE, SMALL, Cases, fill, run_in, within
@@ -128,8 +129,8 @@ class Stack(Cases):
         objects = (CREATE + b"\n") * 1_000 + wire.live_objects(1)
         bodies = [struct.pack("<I", tag) + it for tag, it in enumerate(DUE_ASKED + worked.REPLACED)]
         due = oaut.Raw.pack(bodies)
-        frames = lambda bodies: oaut.frames.join([(it, oaut.Raw.pack([body])) for it, body in enumerate(bodies)])  # (of a client each)
-        values_of_clients = frames([bytes.fromhex(it.decode()) for it in (CREATE + b"\n" + puts).split()]) + oaut.frames.join([(7, bytes(3))])
+        frames = lambda bodies: join([(it, oaut.Raw.pack([body])) for it, body in enumerate(bodies)])  # (of a client each)
+        values_of_clients = frames([bytes.fromhex(it.decode()) for it in (CREATE + b"\n" + puts).split()]) + join([(7, bytes(3))])
         for name, words, given, files, status in (
             ("a library of 262,144 bytes", ["check", "lib.idl"], b"", {"lib.idl": long + b" " * (262_144 - len(long))}, 0),
             ("262,144 brackets", ["check", "--where", "lib.idl"], b"", {"lib.idl": b"[" * 262_144}, 2),

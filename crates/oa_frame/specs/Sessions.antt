@@ -150,7 +150,7 @@ abbrev pub PutsOn : Result (Unit {0}) Unwritten → Output → Output → List �
 PutsOn (Ok u) out out' bytes = Writes out out' bytes × IsHandedOn out'
 PutsOn (Err e) out out' bytes = Breaks out out' bytes
 
--- a state in which no reply is held, behind those that still were
+-- a state in which all replies that were held have been handed out
 abbrev pub HasEnded : {S : Type 0} → EndOf S → S → Type 0
 HasEnded {S} ends state = (before : S) × (held : List (List ℕ)) × ends before held state
 

@@ -46,7 +46,7 @@ pub trait Responder {
         ensures answers { AnswersBody (frames framing) turn result body.now (W.out writer.old) (W.out writer.new) self.old self.new }
         ensures ready { ready self.new };
 
-    /// Answers one body that comes alone, where none is held any more and all has left the writer, and writes its own reply, if any.
+    /// Answers one body that comes alone, and writes its own reply, if any. Before it no reply is held, and the writer has handed all on.
     fn respond_alone<W: Sink>(
         &mut self,
         framing: Framing,

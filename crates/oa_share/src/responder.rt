@@ -39,7 +39,8 @@ pub trait SharedResponder {
         ensures answers { AnswersClient turn result (Of client (Body body.now)) (W.out writer.old) (W.out writer.new) self.old self.new }
         ensures ready { ready self.new };
 
-    /// Answers a body of this client that comes alone, behind a *now* whose replies have all left the writer, and writes what is handed out at it.
+    /// Answers a body of this client that comes alone, behind a *now* whose replies have all left the writer, and writes what is handed out
+    /// at it.
     fn answer_client_alone<W: Sink>(
         &mut self,
         client: u32,

@@ -1,5 +1,5 @@
 //! A library and a table in memory, and one turn after another.
-ghost use Rattle.std.specs.Prelude.{◌≡◌, ◌≤◌, List, ℕ, [], map, IsOk, IfOk, IfSome, OnErr};
+ghost use Rattle.std.specs.Prelude.{◌≡◌, ◌≤◌, List, ℕ, [], false, map, IsOk, IfOk, IfSome, OnErr};
 ghost use Rattle.oa_decision.specs.Decisions.{ChangesNoLocks, Decides};
 ghost use Rattle.oa_turn.specs.Changes.{MakesChange};
 ghost use Rattle.oa_turn.specs.Steps.{after_outcome, relocked, relocking};
@@ -10,6 +10,7 @@ ghost use Rattle.oa_turn.specs.Plans.{Drafts, HasNoEvent, HoldsSame, IsDrafted, 
 ghost use Rattle.oa_turn.specs.Plans.{PlansWithoutMemory, ReleasesWithoutMemory};
 ghost use Rattle.oa_model.specs.Codes.{e_outofmemory};
 ghost use Rattle.oa_decision.specs.Decided.{DecidingTakesMemory, decided};
+ghost use Rattle.oa_record.specs.Replacement.{is_replacement};
 ghost use Rattle.oa_turn.specs.Steps.{reply_with};
 ghost use Rattle.oa_turn.specs.Turns.{Ordinary, Run, Turn};
 ghost use Rattle.oa_table.specs.Events.{BringsNoLocks};
@@ -109,7 +110,8 @@ impl Host {
     /// One turn of a body with another opcode than 12. A call that brings no more than a new value is looked at first, since most are such
     /// calls.
     pub fn ordinary_turn(&mut self, body: &[u8]) -> Reply
-        ensures turn { Ordinary self.old body.now result self.new }
+        requires plain { is_replacement body.now ≡ false }
+        ensures turn { Turn self.old body.now result self.new }
         ensures bank { self.new.bank ≡ self.old.bank }
         ensures released { ReleasesWithoutMemory body.now result }
     {

@@ -1,7 +1,8 @@
 //! REPLACE LIBRARY.
-ghost use Rattle.std.specs.Prelude.{◌≡◌};
+ghost use Rattle.std.specs.Prelude.{◌≡◌, true};
+ghost use Rattle.oa_record.specs.Replacement.{is_replacement};
 ghost use Rattle.oa_turn.specs.ReplacementPlans.{IsLibraryOf, RefusesLoss, PlansReplacement, text_code};
-ghost use Rattle.oa_turn.specs.Replacing.{Replacement};
+ghost use Rattle.oa_turn.specs.Turns.{Turn};
 
 use super::Host;
 use oa_keeps::{Lost, TextError, keeps, read_library};
@@ -65,9 +66,10 @@ impl Host {
         }
     }
 
-    /// The turn of such a body in memory. Want of memory is told in the reply, which then leaves all as it was, as does any other refusal.
+    /// One turn of a body with opcode 12. Want of memory is told in the reply, which then leaves all as it was, as does any other refusal.
     pub fn replace(&mut self, body: &[u8]) -> Reply
-        ensures turn { Replacement self.old body.now result self.new }
+        requires kind { is_replacement body.now ≡ true }
+        ensures turn { Turn self.old body.now result self.new }
         ensures bank { self.new.bank ≡ self.old.bank }
     {
         match self.plan_replacement(body) {

@@ -1,4 +1,4 @@
-use Rattle.std.proofs.Common.{rules, [], ◌∷◌, inl, refl}
+use Rattle.std.proofs.Common.{rules, [], ◌∷◌, refl}
 use Rattle.oa_frame.specs.Framings.{frames}
 use Rattle.oa_frame.proofs.Spelled.{puts_none, puts_one}
 use Rattle.oa_record.specs.Replies.{reply_record}
@@ -10,7 +10,7 @@ returns-in-Memory g c =
     record {
       answers = record {
         replies = reply ∷ [];
-        turned = rw c.in-Memory.is (refl, (c.ordinary_turn-reply.result, refl, inl (record { kind = c.requires.together; turn = c.ordinary_turn-reply.ensures.turn })));
+        turned = rw c.in-Memory.is (refl, (c.ordinary_turn-reply.result, refl, c.ordinary_turn-reply.ensures.turn));
         put = puts_one (frames c.args.framing).spelled c.put_reply.result _ _ (reply ∷ []) reply refl (rw c.body.ensures.value at (rw c.head.ensures at c.put_reply.ensures));
       };
       ready = rw c.in-Memory.is tt;

@@ -1,4 +1,4 @@
-use Rattle.std.proofs.Common.{arith, [], ◌∷◌, inr, refl}
+use Rattle.std.proofs.Common.{arith, [], ◌∷◌, refl}
 use Rattle.oa_frame.specs.Framings.{frames}
 use Rattle.oa_frame.proofs.Spelled.{puts_one}
 use Rattle.oa_record.specs.Replies.{reply_record}
@@ -15,7 +15,7 @@ returns-in-Memory g c =
       answers = record {
         answers = record {
           replies = reply ∷ [];
-          turned = rw c.in-Memory.is (refl, (c.replace-reply.result, refl, inr (record { kind = c.requires.alone; turn = c.replace-reply.ensures.turn })));
+          turned = rw c.in-Memory.is (refl, (c.replace-reply.result, refl, c.replace-reply.ensures.turn));
           put = puts_one (frames c.args.framing).spelled c.put_reply.result _ _ (reply ∷ []) reply refl (rw c.body.ensures.value at (rw c.head.ensures at c.put_reply.ensures));
         };
         one = omega arith;

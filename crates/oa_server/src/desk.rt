@@ -96,8 +96,6 @@ fn take_for<D: Disk>(
     ensures banks { HasBanks store.new host.new }
     ensures size { desk.new.open_group.size ≡ desk.old.open_group.size }
 {
-    a_replacement_is_no_request();
-    refused_asks_nothing();
     desk.askers.push_reserved(Asker { client, why: None });
     take(alloc, host, store, &mut desk.open_group, body)
 }

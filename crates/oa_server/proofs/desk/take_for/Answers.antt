@@ -1,7 +1,6 @@
-use Rattle.std.proofs.Common.{[], None, refl}
+use Rattle.std.proofs.Common.{[], None, refl, sym, true≢false, ◌∙◌}
 use Rattle.oa_server.proofs.HeldForMany.{none_told}
 use Rattle.oa_server.proofs.Lifted.{lifted_taken}
-use Rattle.oa_server.proofs.LockTurns.{apart_asks_none}
 use Rattle.oa_server.proofs.desk.take_for.Goals as goal
 
 pub returns-clause-held : goal.returns-clause-held
@@ -11,7 +10,7 @@ returns-clause-held g c is =
     (none_told _ _ _ _ _
     (lifted_taken {g = g.D.Disk} desk.open_group.size c.args.client c.args.body.now (record { client = c.args.client; why = None }) refl desk.askers.items desk.owners [] desk.open_group.replies.items c.take.new.open_group.replies.items desk.open_group.batch c.take.new.open_group.batch
     c.args.store.now c.take.new.store c.args.host.now c.take.new.host c.requires.ready.each c.requires.none
-    (λ state change kind asks. apart_asks_none c.a_replacement_is_no_request.ensures c.refused_asks_nothing.ensures.stub c.args.body.now state change kind asks) c.requires.ready.ready.late (c.take.ensures.held is)))
+    (λ state change kind asks. true≢false (sym kind ∙ c.requires.plain)) c.requires.ready.ready.late (c.take.ensures.held is)))
 
 pub returns-clause-told : goal.returns-clause-told
 returns-clause-told g c is =
@@ -19,4 +18,4 @@ returns-clause-told g c is =
     rw c.push_reserved.ensures.items
     (lifted_taken {g = g.D.Disk} desk.open_group.size c.args.client c.args.body.now (record { client = c.args.client; why = None }) refl desk.askers.items desk.owners c.take.new.open_group.replies.items desk.open_group.replies.items [] desk.open_group.batch c.take.new.open_group.batch
     c.args.store.now c.take.new.store c.args.host.now c.take.new.host c.requires.ready.each c.requires.none
-    (λ state change kind asks. apart_asks_none c.a_replacement_is_no_request.ensures c.refused_asks_nothing.ensures.stub c.args.body.now state change kind asks) c.requires.ready.ready.late (c.take.ensures.told is))
+    (λ state change kind asks. true≢false (sym kind ∙ c.requires.plain)) c.requires.ready.ready.late (c.take.ensures.told is))

@@ -50,14 +50,14 @@ fn upgraded(
     ensures refused { IfErr result IsOfUpgrade }
 {
     let alloc = rt.alloc();
-    let mut found = open_store_file(rt, streams, alloc, path)?;
-    let store = OldStore::find(alloc, &mut found, bank)?;
-    let mut disk = lengthened(rt, alloc, path, found, Shape::Two(bank).disk_bytes())?;
-    store.bring(&mut disk)?;
-    Ok(disk)
+    let mut disk = open_store_file(rt, streams, alloc, path)?;
+    let found = OldStore::find(alloc, &mut disk, bank)?;
+    let mut long = lengthened(rt, alloc, path, disk, Shape::Two(bank).disk_bytes())?;
+    found.bring(&mut long)?;
+    Ok(long)
 }
 
-/// The file, lengthened to so many bytes where it is shorter, with what it held.
+/// The file, lengthened to so many bytes where it is shorter, with what it held, where no call of it has failed.
 fn lengthened(
     rt: &HostRuntime,
     alloc: Global,

@@ -79,9 +79,9 @@ impl FileDisk {
     }
 
     /// The same file, lengthened to so many bytes where it is shorter, by zeros, which take their room on the device at once; all that was
-    /// written to it is brought there. It is locked throughout. The disk begins with what this one holds, and is as honest. Where that
-    /// fails, the error is the system's, and the file, which is let go, has its length of before, if that can be set. A stop leaves one that
-    /// is shorter than asked.
+    /// written to it is brought there. It is locked throughout. The disk begins with what this one holds, where no call of it has failed, and
+    /// is as honest. Where that fails, the error is the system's, and the file, which is let go, has its length of before, if that can be
+    /// set. A stop leaves one that is shorter than asked.
     pub fn lengthen(self, size: u64) -> io::Result<FileDisk>
         ensures kept { IfOk result (λ disk. size ≤ file_size self → file_size disk ≡ file_size self) }
         ensures lengthened { IfOk result (λ disk. file_size self ≤ size → file_size disk ≡ size) }

@@ -1,18 +1,9 @@
--- How many calls pieces of the store's buffer take.
-use Rattle.std.proofs.Common.{◌≡◌, ℕ, ◌+◌, ◌*◌, ◌<◌, ◌≤◌, List, arith, length, subst}
-use Rattle.std.specs.Int.{div_ceil}
+-- A checkpoint of what fits a bank makes at most so many calls.
+use Rattle.std.proofs.Common.{ℕ, ◌+◌, ◌*◌, ◌≤◌, List, arith, length}
 use Rattle.oa_table.specs.Tables.{TableValue}
-use Rattle.oa_journal.specs.Banks.{first_gate}
 use Rattle.oa_image.specs.Tables.{FitsBank}
 use Rattle.oa_model.specs.Limits.{max_library_bytes}
-use Rattle.oa_store.specs.Calls.{checkpoint_calls, most_checkpoint_calls, piece_bytes, piece_count}
-
--- so many calls beside the pieces
-pub in_pieces : (count before now buffer : ℕ) (text library : List ℕ) (table : TableValue) → text ≡ library → buffer ≡ piece_bytes
-    → now ≤ before + 2 * (count + div_ceil (1 + first_gate text table) buffer) → now ≤ before + 2 * (count + piece_count library table)
-in_pieces count before now buffer text library table is whole le =
-    subst (λ (l : List ℕ). now ≤ before + 2 * (count + div_ceil (1 + first_gate l table) piece_bytes)) is
-    (subst (λ (n : ℕ). now ≤ before + 2 * (count + div_ceil (1 + first_gate text table) n)) whole le)
+use Rattle.oa_store.specs.Calls.{checkpoint_calls, most_checkpoint_calls}
 
 -- A library and a table that a bank takes are no more than its body.
 pub calls_of_fitting : (bank : ℕ) (text : List ℕ) (table : TableValue) → length text ≤ max_library_bytes → FitsBank bank table → checkpoint_calls text table ≤ most_checkpoint_calls bank

@@ -8,7 +8,7 @@ use Rattle.oa_model.specs.Limits.{max_library_bytes}
 use Rattle.oa_store.specs.declared.upgrading.OldStore.{OldStore}
 use Rattle.oa_store.specs.Stores.{IsStoreAt}
 
--- The store of format 1 that a disk has was found: one of a library that a server takes, and of a table that a body of
+-- The store of format 1 on a disk was found. Its library is one that a server takes, and its table one that a body of
 -- this size has room for.
 pub record FindsOld {D : Type 0} (g : Ghosts D) (size : ℕ) (old new : D) (found : OldStore) : Type 0 where
   pub size_is : found.size ≡ size

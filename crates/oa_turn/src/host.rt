@@ -147,11 +147,11 @@ impl Host {
         let name = CellName { object, place };
         match put_again(self.bank, &mut self.table, &name, value) {
             Ok(()) => Reply::bare(self.alloc, tag, HResult::S_OK, None),
-            Err(value) => self.make(Planned {
-                tag,
-                event: SizedEvent::new(Event::Put { name, value }),
-                fields: Fields::none(self.alloc),
-            }),
+            Err(value) => {
+                let event = SizedEvent::new(Event::Put { name, value });
+                let fields = Fields::none(self.alloc);
+                self.make(Planned { tag, event, fields })
+            }
         }
     }
 

@@ -57,7 +57,7 @@ fn upgraded(
     Ok(long)
 }
 
-/// The file, lengthened to so many bytes where it is shorter, with what it held, where no call of it has failed.
+/// The file, lengthened to so many bytes if it is shorter. It has what it held, where no call of it has failed.
 fn lengthened(
     rt: &HostRuntime,
     alloc: Global,

@@ -23,7 +23,7 @@ pub fn most_of(bank: u32) -> u64
 pub fn disallowed(bank: u32, table: &Table, event: &SizedEvent) -> Option<HResult>
     ensures { GivesReason (allowed bank event.now table.now) result }
 {
-    if let Some(fault) = refusal_of(table, event.event()) {
+    if let Some(fault) = refusal_of(table, event.as_event()) {
         return Some(fault.code());
     }
     if event.len() > MAX_EVENT_BYTES {
@@ -35,33 +35,34 @@ pub fn disallowed(bank: u32, table: &Table, event: &SizedEvent) -> Option<HResul
     None
 }
 
-/// Whether an event that applies is within the limits for certain: where even the most bytes that the table can have then are few enough.
+/// True of an event that applies only where it is within the limits: its own image is short enough, and there is surely room for the
+/// table's.
 pub fn is_surely_within(bank: u32, table: &Table, event: &SizedEvent) -> bool
     ensures { result ≡ true → StaysWithin bank event.now table.now }
 {
     event.len() <= MAX_EVENT_BYTES && has_surely_room(bank, table, event)
 }
 
-/// Whether the image of the table has few enough bytes after an event for certain. What a put brings to it is less than the event's own
-/// image, so the value is not measured once more, nor the cell looked for.
+/// True only where the image of the table has few enough bytes after an event. A put brings no more to it than the event's own image has, so
+/// its value is not measured once more, nor its cell looked for.
 fn has_surely_room(bank: u32, table: &Table, event: &SizedEvent) -> bool
     ensures { result ≡ true → size_after event.now table.now ≤ bank - reserved_bytes }
 {
     let most = most_of(bank);
-    match event.event() {
+    match event.as_event() {
         Event::Put { .. } => table.image_size() <= most.saturating_sub(event.len() as u64),
         other => table.size_after(other) <= most,
     }
 }
 
-/// Whether the image of the table has too many bytes after an event that applies. Where there is room for certain, they are not counted.
+/// Whether the image of the table has too many bytes after an event that applies. Where there surely is room, a put's are not counted.
 fn is_too_large(bank: u32, table: &Table, event: &SizedEvent) -> bool
     ensures { (new : TableValue) → applied event.now table.now ≡ Ok new → result ≡ nat_lt (bank - reserved_bytes) (table_size new) }
 {
     if has_surely_room(bank, table, event) {
         return false;
     }
-    size_after(table, event.event()) > most_of(bank)
+    size_after(table, event.as_event()) > most_of(bank)
 }
 
 /// How many bytes the image of the table has after an event that applies.

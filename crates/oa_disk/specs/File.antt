@@ -27,11 +27,12 @@ pub record IsZeros (size : ℕ) (disk : FileDisk) : Type 0 where
   pub bytes : disk.size ≡ size
   pub zeros : HasMetNoCall (λ _. 0) disk
 
--- A disk before its first call, made of another. It is as honest as that one, and no call has failed. Where no call of
--- that one had failed, a crash leaves what a read gives: what the other held, and zeros behind it up to that size.
+-- A disk before its first call, made of another. It is as honest as that one, and no call has failed. Where that one is
+-- honest, and no call of it had failed, a crash leaves what a read gives: what that one held, and zeros behind it up to
+-- that size.
 pub record GoesOnFrom {D : Type 0} (g : Ghosts D) (size : ℕ) (old new : D) : Type 0 where
   pub honest : g.is_honest new ≡ g.is_honest old
   pub failures : g.failures_of new ≡ 0
-  pub settled : g.failures_of old ≡ 0 → NothingPending g.contents g.image new
+  pub settled : IsTrue (g.is_honest old) → g.failures_of old ≡ 0 → NothingPending g.contents g.image new
   pub holds : IsTrue (g.is_honest old) → g.failures_of old ≡ 0
       → g.contents new ≡ g.contents old ++ zeros (size - g.size_of old)

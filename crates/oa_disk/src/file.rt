@@ -78,10 +78,10 @@ impl FileDisk {
         Ok(FileDisk::begin(file, size))
     }
 
-    /// The same file, lengthened to so many bytes where it is shorter, by zeros, which take their room on the device at once; all that was
-    /// written to it is brought there. It is locked throughout. The disk begins with what this one holds, where no call of it has failed, and
-    /// is as honest. Where that fails, the error is the system's, and the file, which is let go, has its length of before, if that can be
-    /// set. A stop leaves one that is shorter than asked.
+    /// The same file, lengthened to so many bytes where it is shorter, by zeros, which take their room on the device at once. It is locked
+    /// throughout. The new disk is as honest as this one. Where this one is, and no call of it has failed, all that was written to it is
+    /// brought to the device, and the new one begins with what it holds. Where that fails, the error is the system's, and the file, which
+    /// is let go, has its length of before, if that can be set. A stop leaves one that is shorter than asked.
     pub fn lengthen(self, size: u64) -> io::Result<FileDisk>
         ensures kept { IfOk result (λ disk. size ≤ file_size self → file_size disk ≡ file_size self) }
         ensures lengthened { IfOk result (λ disk. file_size self ≤ size → file_size disk ≡ size) }

@@ -66,7 +66,7 @@ event_sized (Put n v) = omega (arith, put_len n v, name_sized n, value_sized v)
 event_sized (PutElement n index v) = omega (arith, put_element_len n index v, name_sized n, indices_sized index, scalar_sized v)
 event_sized (Redim n b) = omega (arith, redim_len n b, name_sized n)
 
--- what a put adds to a table's image is less than its own image has
+-- a put adds no more to a table's image than its own has
 pub put_adds : (n : CellName) (v : Variant) (t : TableValue) → size_after (Put n v) t ≤ table_size t + event_size (Put n v)
 unfolding event_size
 put_adds n v t = omega (arith, object_most n.object (with_put n.place v) t (place_size n.place + value_size v) (put_most n.place v))

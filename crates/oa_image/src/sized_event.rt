@@ -7,7 +7,7 @@ use crate::event::event_len;
 use oa_table::Event;
 use std::marker::Model;
 
-/// An event, and how many bytes its image has: it is measured here alone, however often its length is asked.
+/// An event, and how many bytes its image has: it is measured once, as it is made.
 #[derive(Drop)]
 pub struct SizedEvent {
     event: Event,
@@ -36,7 +36,7 @@ impl SizedEvent {
     }
 
     /// The event.
-    pub fn event(&self) -> &Event
+    pub fn as_event(&self) -> &Event
         ensures { result.now ≡ self.now }
     {
         &self.event

@@ -79,6 +79,6 @@ fn add_event(bytes: &mut Vec<u8>, event: &SizedEvent) -> Result<(), AllocError>
         return Err(AllocError);
     };
     bytes.resize(end, 0)?;
-    write_event(event.event(), begun - 1, bytes);
+    write_event(event.as_event(), begun - 1, bytes);
     Ok(())
 }

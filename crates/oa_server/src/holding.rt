@@ -72,7 +72,7 @@ fn hold<D: Disk>(
     ensures banks { HasBanks store.new host.new }
 {
     one_request();
-    is_event(planned.event.event());
+    is_event(planned.event.as_event());
     let Planned { tag, event, fields } = planned;
     match hold_change(host, store, batch, event) {
         Ok(()) => Ok(Reply::new(tag, HResult::S_OK, None, fields.into_vec())),
@@ -100,7 +100,7 @@ fn hold_change<D: Disk>(
     ensures once { CallsForCheckpoint store.old store.new host.old.table }
     ensures way { MakesWay batch.old (held_of host.old) store.old store.new result }
 {
-    is_event(event.event());
+    is_event(event.as_event());
     make_room(store, host.table(), batch)?;
     add_change(host, batch, event)?;
     Ok(())

@@ -14,7 +14,7 @@ ghost use Rattle.oa_record.specs.Replacement.{is_replacement};
 ghost use Rattle.oa_turn.specs.Steps.{reply_with};
 ghost use Rattle.oa_turn.specs.Turns.{Ordinary, Run, Turn};
 ghost use Rattle.oa_table.specs.Events.{BringsNoLocks};
-ghost use Rattle.oa_table.specs.declared.event.Event.TheVariants.{Release as ARelease};
+ghost use Rattle.oa_table.specs.declared.event.Event.TheVariants.{Put, Release as ARelease};
 ghost use Rattle.oa_table.specs.Memory.{MayWantMemory};
 ghost use Rattle.oa_table.specs.Tables.{first_table};
 
@@ -29,6 +29,7 @@ use oa_record::laws::{one_request, opcode_stands};
 use oa_record::{Reply, Request, ValueCall, is_replacement, read_request, read_value_call, tag_of};
 use oa_table::{CellName, Event, Place, Table};
 use oa_typelib::Library;
+use oa_variant::Variant;
 use std::alloc::{AllocError, Global};
 use std::marker::Model;
 
@@ -147,12 +148,20 @@ impl Host {
         let name = CellName { object, place };
         match put_again(self.bank, &mut self.table, &name, value) {
             Ok(()) => Reply::bare(self.alloc, tag, HResult::S_OK, None),
-            Err(value) => {
-                let event = SizedEvent::new(Event::Put { name, value });
-                let fields = Fields::none(self.alloc);
-                self.make(Planned { tag, event, fields })
-            }
+            Err(value) => self.put_any(tag, name, value),
         }
+    }
+
+    /// The same of any put, as an event. Its own, so that a put over a value that is there keeps no room for an event.
+    #[inline(never)]
+    fn put_any(&mut self, tag: u32, name: CellName, value: Variant) -> Reply
+        requires { BringsNoLocks (Put name value) }
+        ensures { (body : List ℕ) → IsDrafted self.old body (record { tag = tag; event = Put name value; fields = [] })
+            → Ordinary self.old body result self.new }
+    {
+        let event = SizedEvent::new(Event::Put { name, value });
+        let fields = Fields::none(self.alloc);
+        self.make(Planned { tag, event, fields })
     }
 
     /// One turn of a body with another opcode than 12, as of any request.

@@ -9,7 +9,7 @@ bring-requires-clause-held c h =
     let goes_on = c.in_ok-long.ensures.goes_on in
     let h1 = sym goes_on.honest ∙ h in
     let none = c.in_ok-found.ensures.after.unfailed ∙ c.in_ok-disk.ensures.begins.failures in
-    held_longer _ c.in_ok-found.found c.find.new.disk c.in_ok-long.long _ (goes_on.holds h1 none) (goes_on.settled none)
+    held_longer _ c.in_ok-found.found c.find.new.disk c.in_ok-long.long _ (goes_on.holds h1 none) (goes_on.settled h1 none)
     (held_still _ c.args.bank c.in_ok-disk.disk c.find.new.disk c.in_ok-found.found c.in_ok-found.ensures.found h1)
 
 pub returns-clause-upgraded : goal.returns-clause-upgraded

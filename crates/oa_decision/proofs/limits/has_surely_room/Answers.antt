@@ -9,7 +9,7 @@ use Rattle.oa_decision.proofs.limits.has_surely_room.Goals as goal
 pub returns-in-Put : goal.returns-in-Put
 unfolding table_size
 returns-in-Put c = λ is.
-    let put : c.args.event.now ≡ Put c.in-Put.name c.in-Put.value = sym c.event.ensures ∙ c.in-Put.is in
+    let put : c.args.event.now ≡ Put c.in-Put.name c.in-Put.value = sym c.as_event.ensures ∙ c.in-Put.is in
     let counted : c.len.result ≡ event_size (Put c.in-Put.name c.in-Put.value) = rw put at c.len.ensures.counted in
     let below = leb-true c.image_size.result c.saturating_sub.result is in
     let adds = put_adds c.in-Put.name c.in-Put.value c.args.table.now in

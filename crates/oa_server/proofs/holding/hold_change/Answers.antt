@@ -29,8 +29,8 @@ returns-clause-way g c = record {
 
 pub returns-clause-added : goal.returns-clause-added
 returns-clause-added g c = record {
-  replays = one_event c.args.event c.args.host.now.table c.add_change.new.host.table (rw c.event-2.ensures at c.is_event.ensures) c.in_ok-add_change.ensures.change.0;
+  replays = one_event c.args.event c.args.host.now.table c.add_change.new.host.table (rw c.as_event.ensures at c.is_event.ensures) c.in_ok-add_change.ensures.change.0;
   small = (is_allowed c.args.host.now.bank c.args.event c.args.host.now.table c.add_change.new.host.table c.requires.change.allows c.in_ok-add_change.ensures.change.0).event_small;
-  some = event_bytes c.args.event (rw c.event-2.ensures at c.is_event.ensures);
+  some = event_bytes c.args.event (rw c.as_event.ensures at c.is_event.ensures);
   behind = c.in_ok-add_change.ensures.event;
 }

@@ -18,6 +18,6 @@ returns-clause-goes_on c =
     record {
       honest = search rules;
       failures = search rules;
-      settled = λ none. lengthened_settled self.size self.history self.whole c.args.size _ c.lengthened-history.ensures;
+      settled = λ honest none. lengthened_settled self.size self.history self.whole c.args.size _ c.lengthened-history.ensures;
       holds = λ honest none. holds_the_same self.size self.history self.whole c.args.size _ c.lengthened-history.ensures;
     }

@@ -10,4 +10,4 @@ pub returns-in-Err : goal.returns-in-Err
 returns-in-Err c = λ body is.
     let back = c.in-Err.ensures.back in
     let placed : c.new-place.result ≡ record { interface = c.args.put.interface; dispid = c.args.put.dispid; key = [] } = search rules in
-    rw (back.1, c.self.view_is) at (c.make.ensures.turn body (rw (c.new-event.ensures, back.0, back.1, placed, c.none-fields.ensures, c.self.view_is) is))
+    rw (back.1, c.self.view_is) at (c.put_any.ensures body (rw (back.0, back.1, placed, c.self.view_is) is))

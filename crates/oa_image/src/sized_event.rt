@@ -28,6 +28,7 @@ impl Model for SizedEvent {
 
 impl SizedEvent {
     /// The event, measured. Takes no memory.
+    #[inline(always)]
     pub fn new(event: Event) -> SizedEvent
         ensures { result ≡ event }
     {
@@ -36,6 +37,7 @@ impl SizedEvent {
     }
 
     /// The event.
+    #[inline(always)]
     pub fn as_event(&self) -> &Event
         ensures { result.now ≡ self.now }
     {
@@ -44,6 +46,7 @@ impl SizedEvent {
 
     /// How many bytes its image has.
     #[tactic(auto, using(crate::proofs::Sized::event_sized))]
+    #[inline(always)]
     pub fn len(&self) -> usize
         ensures value { result ≡ length (event_image self.now) }
         ensures counted { result ≡ event_size self.now }
@@ -52,6 +55,7 @@ impl SizedEvent {
     }
 
     /// The event alone.
+    #[inline(always)]
     pub fn into_event(self) -> Event
         ensures { result ≡ self }
     {

@@ -1,4 +1,4 @@
--- What a put and a redimension do to the map from index lists to cells.
+-- The effect of a put and of a redimension on the map from index lists to elements.
 use Rattle.std.proofs.Common.{◌≡◌, ℕ, ◌<◌, ◌≤◌, ℤ, List, length, slice_get, set, length-set, unwrap_or, Some, sym, ap, ◌∙◌, arith}
 use Rattle.std.proofs.lemmas.Option.{slice_get-get_or, slice_get_past, unwrap_or-slice_get}
 use Rattle.std.proofs.Common.{get_or-set_same, get_or-set_other}

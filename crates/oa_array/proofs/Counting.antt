@@ -40,7 +40,7 @@ get_right (x ∷ xs) ys i (suc j) e = get_right xs ys i j (omega (arith, e))
 pub same_inside : {X : Type 0} (x y : X) → Some x ≡ Some y → x ≡ y
 same_inside x y e = cc
 
--- where a mapped option has a value, the option has one
+-- If a mapped option has a value, the option has one.
 pub option_map-Some : {X Y : Type 0} (f : X → Y) (o : Option X) (y : Y) → option_map f o ≡ Some y → (x : X) × ((o ≡ Some x) × (f x ≡ y))
 option_map-Some f None y e = absurd (none-some y e)
 option_map-Some f (Some x) y e = (x, (refl, same_inside (f x) y e))

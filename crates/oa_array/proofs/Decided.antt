@@ -1,4 +1,4 @@
--- That an index list lies in bounds is decided by a test.
+-- A test decides whether an index list is within bounds.
 use Rattle.std.proofs.Common.{◌≡◌, ℤ, ◌<ℤ◌, ◌≤ℤ◌, pos, ◌+ℤ◌, Bool, true, false, ◌&&◌, T, List, [], ◌∷◌, refl, sym, true≢false, int_lt}
 use Rattle.std.proofs.Common.{int_le}
 use Rattle.std.specs.Bool.{Decides}

@@ -1,4 +1,4 @@
--- Cells that a closure filled, one by one, where it captures what it never changes.
+-- Elements that a closure makes, one by one, if the values that it captures never change.
 use Rattle.std.proofs.Common.{◌≡◌, ℕ, zero, suc, ◌+◌, ◌⊎◌, List, [], ◌∷◌, length, replicate, slice_get, Some, Result, Ok, Err, IfOk, IfErr}
 use Rattle.std.proofs.Common.{MatchResult, refl, sym, ap, ap₂, subst, ◌∙◌, ⊎_elim, arith, zero-add, ◌++◌, ◌<◌, ◌-◌, take, get_or, unwrap_or}
 use Rattle.std.proofs.Common.{length-take}
@@ -69,18 +69,18 @@ module _ {S X E : Type 0} where
       let at : from + 1 + k ≡ from + suc k = omega arith in
       subst (λ i. Q first i x) at (subst (λ p. Q p (from + 1 + k) x) one.1 (folded step Q says cells runs.0 (from + 1) last runs.2 k x e))
 
-  -- what holds of each answer of the closure holds of each cell
+  -- A property of each result of the closure holds for each element.
   pub each_filled : {step : S → ℕ → Result X E → S → Type 0} {first : S} {from : ℕ} {cells : List X} → IsFilledBy step first from cells
       → (Q : S → ℕ → X → Type 0) → ((p : S) (i : ℕ) (x : X) (q : S) → step p i (Ok x) q → Q p i x × (q ≡ p)) → (k : ℕ) (x : X)
       → slice_get cells k ≡ Some x → Q first (from + k) x
   each_filled {step = step} {first = first} {from = from} {cells = cells} filled Q says = folded step Q says cells first from filled.last filled.calls
 
-  -- a closure that answers values alone stops nothing
+  -- A closure that never fails stops nothing.
   pub never_stopped : {step : S → ℕ → Result X E → S → Type 0} {first : S} {from n : ℕ} {error : E} → IsStoppedBy step first from n error
       → ((p : S) (i : ℕ) (e : E) (q : S) → step p i (Err e) q → ⊥) → ⊥
   never_stopped {from = from} {error = error} stopped never = never stopped.before (from + length stopped.cells) error stopped.after stopped.fails
 
-  -- a row of zeros, where the closure answers nothing else
+  -- A row of zero values, if the closure returns nothing else.
   pub zeros_answer : (step : S → ℕ → Result X E → S → Type 0) (first : S) (r : Result (List X) E) (n : ℕ) (memory : E)
       → IfOk r (λ c. length c ≡ n) → IfOk r (λ c. IsFilledBy step first 0 c) → IfErr r (λ e. (e ≡ memory) ⊎ IsStoppedBy step first 0 n e)
       → (cell : S → X) → ((p : S) (i : ℕ) (x : X) (q : S) → step p i (Ok x) q → (x ≡ cell p) × (q ≡ p))
@@ -88,14 +88,14 @@ module _ {S X E : Type 0} where
   zeros_answer step first (Ok c) n memory count filled error cell says never = replicate_is c n (cell first) count (each_filled filled (λ p i x. x ≡ cell p) says)
   zeros_answer step first (Err e) n memory count filled error cell says never = ⊎_elim (λ m. m) (λ s. absurd (never_stopped s never)) error
 
-  -- cells equal to given ones, where the closure answers such
+  -- Copies of given elements, if the closure returns such copies.
   pub copies_answer : (step : S → ℕ → Result X E → S → Type 0) (first : S) (r : Result (List X) E) (from : S → List X) (n : ℕ)
       → n ≡ length (from first) → IfOk r (λ c. length c ≡ n) → IfOk r (λ c. IsFilledBy step first 0 c)
       → ((p : S) (i : ℕ) (x : X) (q : S) → step p i (Ok x) q → (slice_get (from p) i ≡ Some x) × (q ≡ p)) → IfOk r (λ c. c ≡ from first)
   copies_answer step first (Ok c) from n e count filled says = same_cells c (from first) (count ∙ e) (λ k x at. ap (slice_get (from first)) (sym (zero-add k)) ∙ each_filled filled (λ p i z. slice_get (from p) i ≡ Some z) says k x at)
   copies_answer step first (Err e) from n m count filled says = tt
 
-  -- cells kept by position and zeros behind them, where the closure answers zeros alone
+  -- Elements kept by position and zero values after them, if the closure returns zero values only.
   pub resized_answer : (step : S → ℕ → Result X E → S → Type 0) (first : S) (r : Result (Unit {0}) E) (old new : List X) (n : ℕ)
       (memory : E) → IfOk r (λ _. length new ≡ n)
       → IfOk r (λ _. (cells : List X) × (new ≡ take n old ++ cells) × IsFilledBy step first (length old) cells) → IfErr r (λ _. new ≡ old)

@@ -73,7 +73,7 @@ count_rows low k tail rest a (suc n) (suc d) e h =
     let row = earlier (low +ℤ pos a) (low +ℤ pos k) tail rest (omega (arith, ints, e)) in
     omega (arith, both, row, count_rows low k tail rest (a + 1) n d (omega (arith, e)) (omega (arith, h)), suc-mul d (length rest))
 
--- ---- what stands at a place
+-- ---- The index list at a place.
 
 at_row : (low : ℤ) (rest : List (List ℤ)) (a n d q : ℕ) → d < n → q < length rest
     → slice_get (rows low rest a n) (d * length rest + q) ≡ slice_get (with_first rest (low +ℤ pos (a + d))) q
@@ -89,7 +89,7 @@ at_row low rest a (suc n) (suc d) q h g =
     get_right (with_first rest (low +ℤ pos a)) (rows low rest (a + 1) n) (d * length rest + q) (suc d * length rest + q) (omega (arith, row, suc-mul d (length rest)))
     ∙ at_row low rest (a + 1) n d q (omega (arith, h)) g ∙ ap (λ i. slice_get (with_first rest (low +ℤ pos i)) q) next
 
--- what a place of the rows holds: an index of the run, and behind it what a place of the other dimensions holds
+-- A place of the rows has an index of the run, followed by the indices at a place of the other dimensions.
 pub record StandsAt (low : ℤ) (rest : List (List ℤ)) (a n p : ℕ) (index : List ℤ) : Type 0 where
   pub above : ℕ
   pub tail : List ℤ
@@ -166,7 +166,7 @@ position_of-cons bound rest above tail h = count_rows bound.lower above tail (in
 pub IsWithin-at : (bound : Bound) (above : ℕ) → above < bound.count → IsWithin bound (bound.lower +ℤ pos above)
 IsWithin-at bound above h = (omega (arith, ints), omega (arith, ints, h))
 
--- how far an index lies above the lowest
+-- The distance of an index from the lowest one.
 above_lowest : (bound : Bound) (i d : ℤ) → i -ℤ bound.lower ≡ d → IsWithin bound i
     → (above : ℕ) × ((i ≡ bound.lower +ℤ pos above) × (above < bound.count))
 above_lowest bound i (pos k) e w = (k, (omega (arith, ints, e), omega (arith, ints, e, w.0, w.1)))
@@ -232,7 +232,7 @@ found-here bound rest index place s below =
     let size = ap (λ n. s.above * n) (box_size-members rest) in
     subst P (sym list) ((IsWithin-at bound s.above s.inside, below.0), omega (arith, position_of-cons bound rest s.above s.tail s.inside, below.1, s.place, size))
 
--- and every member lies in the bounds, at the place that is its position
+-- Every index list of the box is within the bounds, at the place that is its position.
 pub member_found : (bounds : List Bound) (index : List ℤ) (place : ℕ) → slice_get (index_lists bounds) place ≡ Some index
     → InBounds bounds index × (position_of bounds index ≡ place)
 member_found [] index place e = found-nil index place e

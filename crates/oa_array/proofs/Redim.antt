@@ -76,7 +76,7 @@ module _ {X : Type 0} where
 rest_of : (s bounds : List Bound) → s ≡ bounds → take (length s - 1) (drop 1 s) ≡ drop 1 bounds
 rest_of s bounds e = take_all (length s - 1) (drop 1 s) (omega (arith, length-drop 1 s)) ∙ ap (drop 1) e
 
--- what `size` says of the new bounds
+-- The result of `size` for the new bounds.
 pub size_behind : (r : Option ℕ) (bound : Bound) (s bounds : List Bound) → s ≡ bounds
     → MatchOption r (max_cells < box_size (bound ∷ take (length s - 1) (drop 1 s)))
     (λ n. (n ≡ box_size (bound ∷ take (length s - 1) (drop 1 s))) × (n ≤ max_cells))

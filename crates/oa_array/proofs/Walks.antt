@@ -1,4 +1,4 @@
--- What holds on the way through the dimensions, from the first to the last.
+-- The invariants of the loops over the dimensions, from the first to the last.
 use Rattle.std.proofs.Common.{◌≡◌, ℕ, zero, suc, ◌+◌, ◌*◌, ◌<◌, ◌≤◌, min, Bool, nat_lt, ◌==◌, length, MatchOption, Option, false, lt-ltb}
 use Rattle.std.proofs.Common.{le-ltb, ne_eqb, List, [], ◌∷◌, ℤ, pos, ◌+ℤ◌, sym, ap, subst, ◌∙◌, ⊎_elim, arith, mul_assoc, mul-le-mul_right}
 use Rattle.std.proofs.Common.{le-mul_of_pos_right, mul-zero, eq-zero-or-pos}

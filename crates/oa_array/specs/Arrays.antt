@@ -1,5 +1,5 @@
--- A safe array as a map from the index lists of its box to cells (MS-OAUT section 2.2.30): the cell of a member stands
--- in the list of cells at the position of that member.
+-- A safe array as a map from the index lists within its bounds to elements (MS-OAUT section 2.2.30): the element of an
+-- index list is at its position in the list of elements.
 use Rattle.std.specs.Prelude.{◌≡◌, ℕ, ◌<◌, ◌≤◌, List, ◌∷◌, map, drop, replicate, length, slice_get, slice_set, All}
 use Rattle.std.specs.Prelude.{IsSome, Option, ℤ}
 use Rattle.std.specs.List.{range_with_len}
@@ -10,54 +10,54 @@ use Rattle.oa_model.specs.declared.var_type.VarType.{VarType}
 use Rattle.oa_model.specs.Types.{sf_type_of}
 use Rattle.oa_array.specs.Boxes.{box_size, position_of}
 
--- the type of the cells, the bounds as listed, the cells and the locks
+-- The type of the elements, the bounds in the listed order, the elements and the number of locks.
 pub record ArrayValue (X : Type 0) : Type 0 where
   pub elem : VarType
   pub bounds : List Bound
   pub cells : List X
   pub locks : ℕ
 
--- there are arrays of a type that has an sfType, of at least one bound, and of no more bounds and cells than the limits
--- say
+-- There are arrays of this type and these bounds: the type has an sfType, there is at least one bound, and the numbers
+-- of bounds and elements are within the limits.
 pub record IsArrayShape (elem : VarType) (bounds : List Bound) : Type 0 where
   pub typed : IsSome (sf_type_of elem)
   pub some : 0 < length bounds
   pub few : length bounds ≤ max_dimensions
   pub small : box_size bounds ≤ max_cells
 
--- the bounds with another first one, which is that of the slowest dimension
+-- The bounds with another first one, which is that of the slowest dimension.
 abbrev pub with_first : Bound → List Bound → List Bound
 with_first bound bounds = bound ∷ drop 1 bounds
 
 module _ {X : Type 0} where
-  -- what holds of every array: it has one cell for each member of its box, and each of the type
+  -- The invariant of arrays: one element for each index list within the bounds, each of the array's type.
   pub record IsArray (fits : X → VarType → Type 0) (a : ArrayValue X) : Type 0 where
     pub shape : IsArrayShape a.elem a.bounds
     pub whole : length a.cells ≡ box_size a.bounds
     pub typed : All (λ cell. fits cell a.elem) a.cells
 
-  -- the cell of an index list within the bounds
+  -- The element at an index list within the bounds.
   abbrev pub array_element : ArrayValue X → List ℤ → Option X
   array_element a index = slice_get a.cells (position_of a.bounds index)
 
-  -- the same array with another cell there
+  -- The same array with another element at the index list.
   abbrev pub with_cell : ArrayValue X → List ℤ → X → ArrayValue X
   with_cell a index cell = record a { cells = slice_set a.cells (position_of a.bounds index) cell }
 
   abbrev pub with_locks : ArrayValue X → ℕ → ArrayValue X
   with_locks a locks = record a { locks = locks }
 
-  -- an array with one and the same cell everywhere
+  -- The array with the same element everywhere, without locks.
   abbrev pub all_cells : VarType → List Bound → X → ArrayValue X
   all_cells elem bounds cell =
       record { elem = elem; bounds = bounds; cells = replicate (box_size bounds) cell; locks = 0 }
 
-  -- n cells: at each position the one that stood there, or the zero where none did
+  -- A list of n elements: at each position the old one, or the zero value if there was none.
   unfoldable pub kept_by_position : X → ℕ → List X → List X
   kept_by_position zero n cells = map (λ p. unwrap_or (slice_get cells p) zero) (range_with_len 0 n)
 
-  -- The first listed bound is replaced. The member at position p of the new box has the old cell of position p, or the
-  -- zero of the type where there was none.
+  -- The array with another first listed bound. The index list at position p of the new bounds has the old element at
+  -- position p, or the zero value if there was none.
   abbrev pub redimensioned : X → Bound → ArrayValue X → ArrayValue X
   redimensioned zero bound a = record a {
     bounds = with_first bound a.bounds;

@@ -1,4 +1,5 @@
--- Refusals: when each comes, and its code (MS-ERREF section 2.1). Their order is this project's choice.
+-- The refusals of operations on arrays: when each occurs, and its code (MS-ERREF section 2.1). Their order is this
+-- project's choice.
 use Rattle.std.specs.Prelude.{◌≡◌, ◌<◌, ◌≤◌, List, ℤ}
 use Rattle.oa_model.specs.Limits.{max_cells}
 use Rattle.oa_model.specs.declared.bound.Bound.{Bound}
@@ -20,20 +21,20 @@ array_code InvalidArgument = e_invalidarg
 array_code Unexpected = e_unexpected
 array_code Memory = e_outofmemory
 
--- no such array, or no memory for it
+-- The refusals of `create`: there is no such array, or no memory for it.
 abbrev pub RefusesCreate : VarType → List Bound → ArrayFault → Type 0
 RefusesCreate elem bounds InvalidArgument = IsArrayShape elem bounds → ⊥
 RefusesCreate elem bounds Memory = IsArrayShape elem bounds
 RefusesCreate elem bounds _ = ⊥
 
 module _ {X : Type 0} where
-  -- first the index list, then the value
+  -- The refusals of `put_element`: first the index list is checked, then the value.
   abbrev pub RefusesPut : (X → VarType → Type 0) → ArrayValue X → List ℤ → X → ArrayFault → Type 0
   RefusesPut fits a index value BadIndex = InBounds a.bounds index → ⊥
   RefusesPut fits a index value TypeMismatch = InBounds a.bounds index × (fits value a.elem → ⊥)
   RefusesPut fits a index value _ = ⊥
 
-  -- first the locks, then the size, then the memory
+  -- The refusals of `redim`: first the locks are checked, then the size, and then memory is allocated.
   abbrev pub RefusesRedim : ArrayValue X → Bound → ArrayFault → Type 0
   RefusesRedim a bound IsLocked = 0 < a.locks
   RefusesRedim a bound InvalidArgument = (a.locks ≡ 0) × (max_cells < box_size (with_first bound a.bounds))

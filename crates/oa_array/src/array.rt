@@ -1,4 +1,4 @@
-//! The safe array.
+//! Safe arrays.
 ghost use Rattle.std.specs.Prelude.{◌≡◌, ◌+◌, ◌-◌, ◌<◌, ◌≤◌, Some, length, All, MatchOption, MatchResult, IfOk};
 ghost use Rattle.std.specs.Prelude.{replicate};
 ghost use Rattle.oa_array.specs.Boxes.{InBounds, box_size};
@@ -24,8 +24,8 @@ use std::alloc::{AllocError, Global};
 use std::fmt;
 use std::marker::Model;
 
-/// How many cells an array of this type and these bounds has. None where there is no such array: without an sfType, with no bound
-/// or more than 16, or of more than 65,536 cells.
+/// Returns the number of elements of an array of this type and these bounds. None if there is no such array: the type has no sfType, there
+/// is no bound or more than 16, or there would be more than 65,536 elements.
 pub fn cell_count(elem: VarType, bounds: &[Bound]) -> Option<usize>
     ensures { MatchOption result (IsArrayShape elem bounds.now → ⊥)
         (λ n. IsArrayShape elem bounds.now × (n ≡ box_size bounds.now)) }
@@ -37,9 +37,8 @@ pub fn cell_count(elem: VarType, bounds: &[Bound]) -> Option<usize>
     size(*first, others)
 }
 
-/// A safe array (SAFEARRAY, MS-OAUT section 2.2.30): a type, 1 to 16 bounds, a cell for each index list that lies in them, and a
-/// count of locks. The last listed index varies fastest. Contracts see it as an `ArrayValue`, with the cells in the order of their
-/// positions.
+/// A safe array (SAFEARRAY, MS-OAUT section 2.2.30): a type, 1 to 16 bounds, an element for each index list within them, and a count of
+/// locks. The last listed index varies fastest. Contracts see it as an `ArrayValue`, with the elements in the order of their positions.
 #[derive(Drop)]
 pub struct SafeArray<T: Cell> {
     head: Box<Head>,
@@ -59,9 +58,10 @@ impl<T: Cell> Model for SafeArray<T> {
 }
 
 impl<T: Cell> SafeArray<T> {
-    /// An array whose cells hold the zero of their type, without locks.
+    /// Makes an array without locks, whose elements are the zero value of their type.
     ///
-    /// InvalidArgument exactly where there is no array of this type and these bounds (`cell_count`); Memory where none was found.
+    /// Errors: `InvalidArgument` if and only if there is no array of this type and these bounds (see `cell_count`); `Memory` if an
+    /// allocation fails.
     pub fn create(
         alloc: Global,
         elem: VarType,
@@ -77,7 +77,8 @@ impl<T: Cell> SafeArray<T> {
         Ok(array)
     }
 
-    /// An array of given cells, in the order of their positions, without locks; an error where no memory is found.
+    /// Makes an array without locks of these elements, which are in the order of their positions. There must be arrays of this type and
+    /// these bounds (see `cell_count`), with as many elements, and each element must be of the type. Err: an allocation fails.
     pub fn of_cells(
         alloc: Global,
         elem: VarType,
@@ -101,21 +102,21 @@ impl<T: Cell> SafeArray<T> {
         Ok(SafeArray { head, cells })
     }
 
-    /// The type of the cells.
+    /// Returns the type of the elements.
     pub fn elem(&self) -> VarType
         ensures { result ≡ self.now.elem }
     {
         self.head.elem
     }
 
-    /// The bounds, as they were listed.
+    /// Returns the bounds, in the listed order.
     pub fn bounds(&self) -> &[Bound]
         ensures { result.now ≡ self.now.bounds }
     {
         self.head.bounds.as_slice()
     }
 
-    /// The cells, in the order of their positions.
+    /// Returns the elements, in the order of their positions.
     pub fn cells(&self) -> &[T]
         ensures value { result.now ≡ self.now.cells }
         ensures array { IsArray T.Fits self.now }
@@ -123,15 +124,15 @@ impl<T: Cell> SafeArray<T> {
         self.cells.as_slice()
     }
 
-    /// How many locks the array has.
+    /// Returns the number of locks.
     pub fn locks(&self) -> u16
         ensures { result ≡ self.now.locks }
     {
         self.head.locks
     }
 
-    /// The cell at an index list, which has one index for each bound, in the same order. BadIndex exactly where it does not lie in
-    /// the bounds.
+    /// Returns the element at an index list, which has one index for each bound, in the same order. `BadIndex` if and only if the index
+    /// list is not within the bounds.
     pub fn element(&self, index: &[i32]) -> Result<&T, ArrayFault>
         ensures { MatchResult result
             (λ cell. InBounds self.now.bounds index.now × (array_element self.now index.now ≡ Some cell.now))
@@ -141,10 +142,10 @@ impl<T: Cell> SafeArray<T> {
         Ok(self.cells.get(place))
     }
 
-    /// Puts a value into the cell at an index list and gives back what was there; all other cells stay.
+    /// Replaces the element at an index list and returns the old one. All other elements stay.
     ///
-    /// BadIndex exactly where the index list does not lie in the bounds, else TypeMismatch exactly where the value is not of the type
-    /// of the cells. Both hand the value back, and nothing has changed.
+    /// Errors: `BadIndex` if and only if the index list is not within the bounds; otherwise `TypeMismatch` if and only if the value is not
+    /// of the type of the elements. Err contains the value, and nothing has changed.
     pub fn put_element(&mut self, index: &[i32], value: T) -> Result<T, (T, ArrayFault)>
         ensures { MatchResult result
             (λ was. InBounds self.old.bounds index.now × T.Fits value self.old.elem
@@ -162,7 +163,8 @@ impl<T: Cell> SafeArray<T> {
         Ok(self.cells.replace(place, value))
     }
 
-    /// How many cells the array would have with another first bound; None above 65,536, where `redim` refuses it.
+    /// Returns the number of elements that the array would have with another first bound. None if it is above 65,536; `redim` then refuses
+    /// the bound.
     pub fn redim_count(&self, bound: Bound) -> Option<usize>
         ensures { MatchOption result (max_cells < box_size (with_first bound self.now.bounds))
             (λ n. (n ≡ box_size (with_first bound self.now.bounds)) × (n ≤ max_cells)) }
@@ -170,11 +172,11 @@ impl<T: Cell> SafeArray<T> {
         size(bound, &self.head.bounds.as_slice()[1..])
     }
 
-    /// Replaces the first listed bound. Each cell stays at its position; new cells hold the zero of the type.
+    /// Replaces the first listed bound. Each element stays at its position. New elements are the zero value of the type.
     ///
-    /// IsLocked exactly where the array is locked, else InvalidArgument exactly where it would have more than 65,536 cells, else
-    /// Memory where none was found. After a refusal nothing has changed. The cells keep the allocator that they were made with;
-    /// `_alloc` says that the call may take memory.
+    /// Errors, in this order: `IsLocked` if and only if the array is locked; `InvalidArgument` if and only if it would have more than
+    /// 65,536 elements; `Memory` if an allocation fails. After an error nothing has changed. The elements use the allocator with which they
+    /// were made; `_alloc` only shows that the call may allocate.
     pub fn redim(&mut self, _alloc: Global, bound: Bound) -> Result<(), ArrayFault>
         ensures { MatchResult result
             (λ _. (self.old.locks ≡ 0) × (box_size (with_first bound self.old.bounds) ≤ max_cells)
@@ -190,7 +192,7 @@ impl<T: Cell> SafeArray<T> {
         Ok(())
     }
 
-    /// Adds a lock and gives the new count. Unexpected exactly where the array has 65,535 locks.
+    /// Adds a lock and returns the new count. `Unexpected` if and only if the array has 65,535 locks.
     pub fn lock(&mut self) -> Result<u16, ArrayFault>
         ensures { MatchResult result
             (λ count. (self.old.locks < max_cell_locks) × (count ≡ self.old.locks + 1) × (self.new ≡ with_locks self.old count))
@@ -203,7 +205,7 @@ impl<T: Cell> SafeArray<T> {
         Ok(self.head.locks)
     }
 
-    /// Takes a lock away and gives the new count. Unexpected exactly where the array has none.
+    /// Removes a lock and returns the new count. `Unexpected` if and only if the array has no lock.
     pub fn unlock(&mut self) -> Result<u16, ArrayFault>
         ensures { MatchResult result
             (λ count. (count + 1 ≡ self.old.locks) × (self.new ≡ with_locks self.old count))
@@ -216,7 +218,7 @@ impl<T: Cell> SafeArray<T> {
         Ok(self.head.locks)
     }
 
-    /// The same array without locks.
+    /// Returns the same array without locks.
     pub fn into_unlocked(self) -> SafeArray<T>
         ensures { result ≡ with_locks self 0 }
     {
@@ -225,7 +227,7 @@ impl<T: Cell> SafeArray<T> {
         array
     }
 
-    /// An equal array with memory of its own and without locks; an error where no memory is found.
+    /// Returns an equal array in memory of its own, without locks. Err: an allocation fails.
     pub fn copy(&self, alloc: Global) -> Result<SafeArray<T>, AllocError>
         ensures { IfOk result (λ copy. copy ≡ with_locks self.now 0) }
     {
@@ -234,7 +236,7 @@ impl<T: Cell> SafeArray<T> {
     }
 }
 
-/// Two arrays are equal where their types, bounds and cells are. Locks are no part of it.
+/// Two arrays are equal if their types, bounds and elements are. Locks are not compared.
 impl<T: Cell + PartialEq> PartialEq for SafeArray<T> {
     ghost eq = { eq_of_both (eq_of_both (on (λ a. a.elem) ⟦<VarType as PartialEq>⟧.eq)
         (on (λ a. a.bounds) (pointwise ⟦<Bound as PartialEq>⟧.eq))) (on (λ a. a.cells) (pointwise T.eq)) };
@@ -265,14 +267,14 @@ impl<T: Cell + fmt::Debug> fmt::Debug for SafeArray<T> {
     }
 }
 
-/// Cells that hold the zero of a type.
+/// Makes `count` elements with the zero value of a type.
 fn zeros<T: Cell>(alloc: Global, elem: VarType, count: usize) -> Result<Cells<T>, ArrayFault>
     ensures { MatchResult result (λ cells. cells ≡ replicate count (T.zero_of elem)) (λ fault. fault ≡ ArrayFault.Memory) }
 {
     Cells::filled_by(alloc, count, move |_| Ok::<T, ArrayFault>(T::zero(elem)))
 }
 
-/// Changes how many cells there are: each stays at its position, and new ones hold the zero of a type.
+/// Changes the number of elements. Each stays at its position, and new ones are the zero value of the type.
 fn resize<T: Cell>(cells: &mut Cells<T>, elem: VarType, count: usize) -> Result<(), ArrayFault>
     ensures { MatchResult result
         (λ _. cells.new ≡ kept_by_position (T.zero_of elem) count cells.old)
@@ -281,7 +283,7 @@ fn resize<T: Cell>(cells: &mut Cells<T>, elem: VarType, count: usize) -> Result<
     cells.resized(count, move |_| Ok::<T, ArrayFault>(T::zero(elem)))
 }
 
-/// Cells equal to others.
+/// Copies the elements.
 fn copies<T: Cell>(alloc: Global, from: &Cells<T>) -> Result<Cells<T>, AllocError>
     ensures { IfOk result (λ cells. cells ≡ from.now) }
 {

@@ -1,4 +1,4 @@
-//! What a cell of an array can be.
+//! The elements of arrays.
 ghost use Rattle.std.specs.Prelude.{◌≡◌, ◌↔◌, IsTrue, IsSome, IfOk};
 ghost use Rattle.oa_model.specs.declared.var_type.VarType.{VarType};
 ghost use Rattle.oa_model.specs.Types.{sf_type_of};
@@ -6,22 +6,23 @@ ghost use Rattle.oa_model.specs.Types.{sf_type_of};
 use oa_model::VarType;
 use std::alloc::{AllocError, Global};
 
-/// A value that can stand in a cell of an array. In contracts `Fits value elem` says that it can stand in one with cells of the type
-/// `elem`, and `zero_of elem` is the zero of that type; the law `zero_fits` is that this zero fits, where there are such arrays.
+/// A value that can be an element of an array. In contracts, `Fits value elem` means that the value can be an element of an array of the
+/// type `elem`, and `zero_of elem` is the zero value of that type. The theorem `zero_fits` says that this zero value fits, if there are
+/// such arrays.
 pub trait Cell: Drop {
     ghost Fits: { Self → VarType → Type 0 };
 
     ghost zero_of: { VarType → Self };
 
-    /// Whether the value can stand in an array with cells of this type.
+    /// Returns whether the value can be an element of an array of this type.
     fn fits(&self, elem: VarType) -> bool
         ensures { IsTrue result ↔ Fits self.now elem };
 
-    /// The zero of a type: what a cell holds before anything was put into it.
+    /// Returns the zero value of a type, which each new element has.
     fn zero(elem: VarType) -> Self
         ensures { result ≡ zero_of elem };
 
-    /// An equal value with memory of its own; an error where no memory is found.
+    /// Returns an equal value in memory of its own. Err: an allocation fails.
     fn copy(&self, alloc: Global) -> Result<Self, AllocError>
         ensures { IfOk result (λ copy. copy ≡ self.now) };
 

@@ -1,4 +1,4 @@
-//! Why a call on an array is refused.
+//! Why an operation on an array is refused.
 ghost use Rattle.std.specs.Prelude.{◌≡◌};
 ghost use Rattle.oa_array.specs.declared.fault.ArrayFault.TheVariants.{Memory};
 ghost use Rattle.oa_array.specs.Faults.{array_code};
@@ -7,31 +7,31 @@ use oa_model::HResult;
 use std::alloc::AllocError;
 use thiserror::Error;
 
-/// Why a call on an array is refused.
+/// Why an operation on an array is refused.
 #[derive(Clone, Copy, Debug, PartialEq, Eq, Error)]
 pub enum ArrayFault {
-    /// An index list does not lie in the bounds: an index too many or too few, or one outside its bound.
+    /// The index list is not within the bounds: it has too many or too few indices, or one is outside its bound.
     #[error("the index list does not lie in the bounds of the array")]
     BadIndex,
-    /// A value is not of the type of the cells.
+    /// The value is not of the type of the elements.
     #[error("the value is not of the type of the array's cells")]
     TypeMismatch,
     /// The array is locked.
     #[error("the array is locked")]
     IsLocked,
-    /// There is no array of such a type, with such bounds or with so many cells.
+    /// There is no array of this type, with these bounds, or with so many elements.
     #[error("there is no array of this type and these bounds")]
     InvalidArgument,
-    /// The array has as many locks as it can have, or none.
+    /// The array has the largest possible number of locks, or none to remove.
     #[error("the array has no lock to give or to take")]
     Unexpected,
-    /// No memory was found.
+    /// An allocation fails.
     #[error("out of memory")]
     Memory,
 }
 
 impl ArrayFault {
-    /// The code of a reply with this refusal (MS-ERREF section 2.1).
+    /// Returns the code of the reply with this refusal (MS-ERREF section 2.1).
     pub fn code(self) -> HResult
         ensures { result ≡ array_code self }
     {

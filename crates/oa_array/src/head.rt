@@ -1,21 +1,21 @@
-//! What an array has beside its cells.
+//! The parts of an array other than its elements.
 ghost use Rattle.std.specs.Prelude.{◌≡◌, ◌<◌, length, slice_set, IfOk};
 ghost use Rattle.oa_array.specs.Heads.{listed};
 
 use oa_model::{Bound, VarType};
 use std::alloc::{AllocError, Global};
 
-/// The bounds of an array. A single one has its place here, and takes no block of its own.
+/// The bounds of an array. A single one is stored in place, without an allocation.
 #[derive(Drop)]
 pub(crate) enum BoundList {
-    /// The only one.
+    /// A single bound.
     One(Bound),
-    /// Any list of them.
+    /// Any number of bounds.
     Many(Box<Vec<Bound>>),
 }
 
 impl BoundList {
-    /// A list of these bounds; an error where no memory is found for more than one.
+    /// Makes a list of these bounds. Err: an allocation fails, which happens only if there is not exactly one bound.
     pub(crate) fn of_slice(alloc: Global, bounds: &[Bound]) -> Result<BoundList, AllocError>
         ensures { IfOk result (λ list. listed list ≡ bounds.now) }
     {
@@ -27,7 +27,7 @@ impl BoundList {
         Ok(BoundList::Many(boxed))
     }
 
-    /// The bounds in their order.
+    /// Returns the bounds in their order.
     pub(crate) fn as_slice(&self) -> &[Bound]
         ensures { result.now ≡ listed self.now }
     {
@@ -37,7 +37,7 @@ impl BoundList {
         }
     }
 
-    /// Replaces the first one.
+    /// Replaces the first bound.
     pub(crate) fn set_first(&mut self, bound: Bound)
         requires { 0 < length (listed self.old) }
         ensures { listed self.new ≡ slice_set (listed self.old) 0 bound }
@@ -49,7 +49,7 @@ impl BoundList {
     }
 }
 
-/// The type of the cells, the count of locks and the bounds.
+/// The type of the elements, the number of locks and the bounds.
 #[derive(Drop)]
 pub(crate) struct Head {
     pub(crate) elem: VarType,

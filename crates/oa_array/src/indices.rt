@@ -4,7 +4,7 @@ ghost use Rattle.oa_model.specs.Limits.{max_index_list};
 
 use std::marker::Model;
 
-/// An index list of a request or of a change of a table: at most 65,535 indices. Contracts see it as its list.
+/// The index list of a request or of a log record: at most 65,535 indices. Contracts see it as a list of integers.
 #[derive(Debug, Drop)]
 pub struct Indices {
     values: Vec<i32>,
@@ -22,7 +22,7 @@ impl Model for Indices {
 }
 
 impl Indices {
-    /// The index list of these indices.
+    /// Makes an index list of at most 65,535 indices.
     pub fn new(values: Vec<i32>) -> Indices
         requires { length values.items ≤ max_index_list }
         ensures { result ≡ values.items }
@@ -30,7 +30,7 @@ impl Indices {
         Indices { values }
     }
 
-    /// The indices.
+    /// Returns the indices.
     pub fn as_slice(&self) -> &[i32]
         ensures value { result.now ≡ self.now }
         ensures few { length self.now ≤ max_index_list }

@@ -1,17 +1,17 @@
-//! Laws of the definitions, each the contract of a function with an empty body.
+//! Theorems about the definitions, each the contract of a function with an empty body.
 ghost use Rattle.std.specs.Prelude.{◌≡◌, ℕ, ◌+◌, ◌*◌, ◌<◌, ◌≤◌, ◌↔◌, ℤ, pos, ◌+ℤ◌, List, [], ◌∷◌, length, slice_get, Some};
 ghost use Rattle.oa_model.specs.declared.bound.Bound.{Bound};
 ghost use Rattle.oa_array.specs.Boxes.{InBounds, index_lists, box_size, position_of};
 ghost use Rattle.oa_array.specs.Arrays.{ArrayValue, array_element, with_cell, with_first, redimensioned};
 
-/// In the list of all members of a box there stands, at each place, the index list that lies in the bounds and has that place as its
-/// position: each of them once, the smaller ones before it.
+/// The list of all index lists within the bounds contains at each place the one that has this place as its position. It contains each of
+/// them once, in increasing order.
 pub fn members_stand_at_their_positions()
     ensures { (bounds : List Bound) (index : List ℤ) (place : ℕ) →
         (slice_get (index_lists bounds) place ≡ Some index) ↔ (InBounds bounds index × (position_of bounds index ≡ place)) }
 {}
 
-/// How many members a box has is the product of the counts.
+/// The number of index lists within the bounds is the product of the counts.
 pub fn size_is_a_product()
     ensures none { box_size [] ≡ 1 }
     ensures more { (bound : Bound) (others : List Bound) → box_size (bound ∷ others) ≡ bound.count * box_size others }
@@ -24,7 +24,7 @@ pub fn position_is_a_sum_of_products()
         position_of (bound ∷ others) ((bound.lower +ℤ pos above) ∷ rest) ≡ above * box_size others + position_of others rest }
 {}
 
-/// After a put the cell of that index list is the new one, and every other index list in the bounds has the cell that it had.
+/// After a put the element at that index list is the new one, and every other index list within the bounds has the same element as before.
 pub fn put_changes_one_cell<T>()
     ensures { (a : ArrayValue T) (index other : List ℤ) (cell : T) → length a.cells ≡ box_size a.bounds →
         InBounds a.bounds index → InBounds a.bounds other →
@@ -32,7 +32,7 @@ pub fn put_changes_one_cell<T>()
         × ((other ≡ index → ⊥) → array_element (with_cell a index cell) other ≡ array_element a other) }
 {}
 
-/// After a redimension an index list of the new box has the cell of the old one at its position, or the zero where there was none.
+/// After a redimension, an index list within the new bounds has the old element at the same position, or the zero value if there was none.
 pub fn redimension_keeps_cells_by_position<T>()
     ensures kept { (a : ArrayValue T) (zero : T) (bound : Bound) (index old : List ℤ) → length a.cells ≡ box_size a.bounds →
         InBounds (with_first bound a.bounds) index → InBounds a.bounds old →

@@ -1,9 +1,9 @@
-//! Safe arrays: bounds, positions, cells and locks (MS-OAUT section 2.2.30).
+//! Safe arrays: bounds, positions, elements and locks (MS-OAUT section 2.2.30).
 //!
-//! Its contract: a `SafeArray` is a map from the index lists within its bounds to cells: `element`,
-//! `put_element`, `redim`, `lock`, each refusal exactly and with nothing changed.
+//! Contract: a `SafeArray` is a map from the index lists within its bounds to elements. `element`, `put_element`, `redim` and `lock` state
+//! exactly when they fail, and after an error nothing has changed.
 //!
-//! What stands on it: oa_variant, and through it every crate that knows values.
+//! Used by oa_variant, and through it by every crate that handles values.
 #![tactic(auto)]
 
 mod array;

@@ -1,4 +1,5 @@
--- Where the names and the number of the arguments are not refused, each argument is the one that its DISPID finds.
+-- If the names and the number of the arguments are accepted, the search for the DISPID of each argument finds this
+-- argument.
 use Rattle.std.proofs.Common.{◌≡◌, ◌<◌, ◌≤◌, ◌+◌, ◌-◌, ℕ, zero, suc, ℤ, pos, negsuc, Bool, true, false, not}
 use Rattle.std.proofs.Common.{◌||◌, cond, nat_lt, if◌then◌else◌, List, [], ◌∷◌, length, get_or, Option}
 use Rattle.std.proofs.Common.{Some, None, Result, Ok, Err, refl, sym, ap, subst, ◌∙◌, arith, true≢false}
@@ -17,7 +18,7 @@ use Rattle.oa_bind.specs.Given.{Given, IsGiven, by_position, dispid_of_argument,
 use Rattle.oa_bind.specs.Names.{is_consistent, most, names_none, names_well, repeats, well_named}
 use Rattle.oa_bind.specs.Refusals.{◌>>=◌, unless, unless_at}
 
--- what stands behind a test that did not refuse
+-- The rest after a check that has not refused.
 no_answer : {A : Type 0} (e : BindFault) (x : A) → Err e ≡ Ok x → ⊥
 no_answer e x h = absurd cc
 
@@ -41,7 +42,7 @@ consistent_is kind named count h = by (nat_lt count (length named)) (repeats nam
     by false true p q e = absurd (true≢false e)
     by false false p q e = (ltb-false count (length named) p, q)
 
--- where no name stands twice, each is found where it stands
+-- If no name occurs twice, each is found at its place.
 differ_both_ways : (x y : ℤ) → int_eq x y ≡ false → int_eq y x ≡ false
 differ_both_ways x y h = false_from_ne_true (int_eq y x) (λ e. true≢false (sym ((Decides-int_eq x y).1 (sym ((Decides-int_eq y x).0 e))) ∙ h))
 
@@ -59,7 +60,7 @@ found_there first (x ∷ xs) (suc j) blank once within =
     let apart = differ_both_ways (get_or xs j blank) x (none_passes (λ id. int_eq id x) xs j blank h.0 less) in
     rw apart (found_there (first + 1) xs j blank h.1 less ∙ ap Some (omega arith))
 
--- where no name is of a parameter that is given by position, none finds an argument by position
+-- If no name is that of a parameter that is given by position, no name finds an argument by position.
 never_found : {X : Type 0} (test : X → Bool) (first : ℕ) (xs : List X) (k : ℕ) (blank : X) → position_from test first xs ≡ None → k < length xs → test (get_or xs k blank) ≡ false
 never_found test first [] k blank none within = absurd (omega (arith, within))
 never_found {X} test first (x ∷ xs) k blank none within = by (test x) refl none k within (λ h j less. never_found test (first + 1) xs j blank h less)

@@ -1,4 +1,5 @@
--- Answers for the members of a list, one after another: what a loop has made, put before what is to come, is the answer for all.
+-- Results for the entries of a list, one after another: those that a loop has made, followed by those to come, are the
+-- results for all.
 use Rattle.std.proofs.Common.{◌≡◌, ◌+◌, ℕ, List, [], ◌∷◌, ◌++◌, drop, Result, Ok, Err, refl, sym, ap, ◌∙◌, append_assoc}
 use Rattle.std.proofs.lemmas.List.{append-nil}
 use Rattle.oa_bind.specs.declared.fault.BindFault.{BindFault}

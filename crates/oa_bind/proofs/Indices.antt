@@ -9,7 +9,7 @@ use Rattle.std.proofs.lemmas.Bool.Decides.{Decides-int_eq, nat_tests}
 use Rattle.oa_variant.specs.declared.variant.Variant.{Variant}
 use Rattle.oa_bind.specs.Given.{Given, IsGiven, argument_at, argument_for, by_position, dispid_of_argument, argument_index, is_parameter}
 
--- a DISPID that is found among names stands there
+-- A DISPID that is found among names is at the place that is found.
 stands_there : (named : List ℤ) (first i : ℕ) (id blank : ℤ) → position_from (λ n. int_eq n id) first named ≡ Some i
     → (first ≤ i) × (i < first + length named) × (get_or named (i - first) blank ≡ id)
 stands_there [] first i id blank found = absurd (none-some i found)
@@ -56,7 +56,7 @@ alone call i id other one another = sym one.named ∙ another.named
 pub index_once : (named : List ℤ) (count i : ℕ) (id other : ℤ) → length named ≤ count → argument_index named count id ≡ Some i → argument_index named count other ≡ Some i → id ≡ other
 index_once named count i id other few one another = sym (index_is named count i id few one).1 ∙ (index_is named count i other few another).1
 
--- the argument for a parameter is the same where that at its index is
+-- The argument for a parameter is the same, if the one at its index is.
 pub same_argument : (named : List ℤ) (old new : List Variant) (place : ℕ) → length new ≡ length old
     → ((i : ℕ) → argument_index named (length old) (pos place) ≡ Some i → slice_get new i ≡ slice_get old i)
     → argument_for (record { named = named; arguments = new }) place ≡ argument_for (record { named = named; arguments = old }) place

@@ -1,4 +1,4 @@
--- The values of the parameters, taken in turn.
+-- The values of the parameters, made one after another.
 use Rattle.std.proofs.Common.{◌≡◌, ◌≢◌, ◌⊎◌, inl, inr, ◌<◌, ◌≤◌, ◌+◌, ℕ, ℤ, pos, List, [], ◌∷◌, ◌++◌, drop, length}
 use Rattle.std.proofs.Common.{get_or, Option, Some, None, Ok, Err, slice_get, unsigned_abs, refl, sym, ap, ◌∙◌, arith}
 use Rattle.std.proofs.lemmas.List.{drop_more}
@@ -16,7 +16,7 @@ use Rattle.oa_bind.specs.Refusals.{each_at, lacks_memory}
 use Rattle.oa_bind.proofs.Each.{with_front, each_breaks, each_goes_on}
 use Rattle.oa_bind.proofs.Indices.{index_once, same_argument}
 
--- the argument of the next parameter stands where it stood: those taken were for others
+-- The argument of the next parameter has not moved: those moved out were for others.
 pub value_stays : (named : List ℤ) (old mid : List Variant) (place : ℕ) (p : Parameter) → length named ≤ length old → length mid ≡ length old → Stay named old mid place
     → parameter_value (given_call named mid) place p ≡ parameter_value (given_call named old) place p
 value_stays named old mid place p few len stay =
@@ -49,7 +49,7 @@ key_goes_on named old mid parameters front place p v few len stay within here so
     let next : drop place parameters ≡ p ∷ drop (place + 1) parameters = rw here at (drop_more parameters place p within) in
     each_goes_on (parameter_value (given_call named old)) front parameters place p v _ next (sym (value_stays named old mid place p few len stay) ∙ is) so_far
 
--- the new value stands where it stood
+-- The new value has not moved.
 pub new_value_stays : (named : List ℤ) (old new : List Variant) (n : ℕ) (declared : ValueType) (kind : Kind) → length named ≤ length old → length new ≡ length old → Stay named old new n
     → given_new_value (given_call named new) declared kind ≡ given_new_value (given_call named old) declared kind
 new_value_stays named old new n declared Get few len stay = refl

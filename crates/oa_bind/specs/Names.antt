@@ -1,5 +1,5 @@
--- What is refused before any argument is coerced: by the names and the number of the arguments, and for a missing one
--- (the order is this project's choice).
+-- The checks before any argument is coerced: of the names and the number of the arguments, and of missing ones (the
+-- order is this project's choice).
 use Rattle.std.specs.Prelude.{ℕ, ◌+◌, ℤ, nat_lt, Bool, false, not, ◌&&◌, ◌||◌, if◌then◌else◌, List, [], ◌∷◌, length}
 use Rattle.std.specs.Prelude.{is_none, Result}
 use Rattle.std.specs.List.{list_any, position_from}
@@ -13,7 +13,7 @@ use Rattle.oa_bind.specs.declared.fault.BindFault.{BindFault}
 use Rattle.oa_bind.specs.Given.{Given, by_position, argument_for, is_parameter, new_value_id}
 use Rattle.oa_bind.specs.Refusals.{◌>>=◌, any_at, unless, unless_at}
 
--- 1. more names than arguments, a DISPID twice, no new value named in a put, or one in a get
+-- 1. There are more names than arguments, a DISPID is named twice, a put names no new value, or a get names one.
 
 abbrev pub repeats : List ℤ → Bool
 repeats [] = false
@@ -29,13 +29,13 @@ names_well Put named = names_value named
 abbrev pub is_consistent : Kind → List ℤ → ℕ → Bool
 is_consistent kind named count = if nat_lt count (length named) || repeats named then false else names_well kind named
 
--- 2. more arguments than one for each parameter, and the new value of a put
+-- 2. There are more arguments than one for each parameter and the new value of a put.
 
 abbrev pub most : Kind → List Parameter → ℕ
 most Get parameters = length parameters
 most Put parameters = length parameters + 1
 
--- 3. a name, the new value's aside, that is of no parameter, or of one that is given by position too
+-- 3. A name other than that of the new value is that of no parameter, or of one that is also given by position.
 
 abbrev pub names_none : ℕ → ℕ → ℤ → Bool
 names_none positions parameters id =
@@ -47,7 +47,7 @@ well_named parameters kind named count = do
   few ← unless disp_e_badparamcount (nat_lt (most kind parameters) count)
   unless_at disp_e_paramnotfound (position_from (names_none (by_position named count) (length parameters)) 0 named)
 
--- 4. a parameter that may not be left out, and for which none is given, or one that says that it is missing
+-- 4. A required parameter has no argument, or one that is marked as missing.
 
 abbrev pub lacks : Given → ℕ → Parameter → Bool
 lacks call place p = not (is_optional p) && is_none (argument_for call place)

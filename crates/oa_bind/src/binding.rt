@@ -1,4 +1,4 @@
-//! Binding a call.
+//! Binds the arguments of a call.
 ghost use Rattle.std.specs.Prelude.{◌≡◌, ◌≤◌, length, map, IfErr};
 ghost use Rattle.oa_model.specs.Limits.{max_arguments, max_parameters};
 ghost use Rattle.oa_typelib.specs.Bindable.{IsBindable};
@@ -17,17 +17,21 @@ use oa_typelib::{Kind, Member};
 use oa_variant::{Scalar, Variant};
 use std::alloc::Global;
 
-/// The call of a property that the arguments make (MS-OAUT section 3.1.4.4). They stand as in rgvarg: the first are named, each by the
-/// DISPID at its index in `named`, and the others are given by position, the last of them for the first parameter. A parameter's DISPID
-/// is its place from 0, and a put's new value is named -3. At most 32 are named, as in a record: each name is compared with each.
+/// Binds the arguments of a call of a property (MS-OAUT section 3.1.4.4). The arguments are in the order of rgvarg: the first ones are
+/// named, each by the DISPID at its index in `named`; the others are given by position, the last of them for the first parameter. The
+/// DISPID of a parameter is its position, counted from 0. The DISPID of a put's new value is -3. `member` is one that a `Dispinterface` has
+/// returned. At most 32 arguments are named, as in a record, since each name is compared with each other one.
 ///
-/// Err, in this order: E_INVALIDARG where more are named than there are, a DISPID stands twice, or -3 does not stand in a put or stands
-/// in a get; DISP_E_BADPARAMCOUNT where there are more than the parameters and a put's new value; DISP_E_PARAMNOTFOUND with the lowest
-/// index whose name is that of no parameter, or of one that is given by position too; DISP_E_PARAMNOTOPTIONAL where a parameter that may
-/// not be left out has no argument, or one that says that it is missing (ERROR DISP_E_PARAMNOTFOUND); and then by the parameters' places,
-/// the new value last, DISP_E_TYPEMISMATCH or DISP_E_OVERFLOW with the index of an argument that can't be coerced. E_OUTOFMEMORY without
-/// an index where a growth was refused: only for a property with parameters, or in a put of one of an array type, and never in place of one
-/// of the first four.
+/// Errors, in this order:
+/// - E_INVALIDARG: there are more names than arguments, a DISPID is named twice, or -3 is missing in a put or named in a get.
+/// - DISP_E_BADPARAMCOUNT: there are more arguments than parameters and the new value of a put.
+/// - DISP_E_PARAMNOTFOUND, with the lowest index whose name is that of no parameter, or of one that is also given by position.
+/// - DISP_E_PARAMNOTOPTIONAL: a required parameter has no argument, or one that is marked as missing (ERROR DISP_E_PARAMNOTFOUND).
+/// - DISP_E_TYPEMISMATCH or DISP_E_OVERFLOW, with the index of an argument that cannot be coerced: the first by the positions of the
+///   parameters, the new value last.
+///
+/// E_OUTOFMEMORY without an index if an allocation fails. This occurs only for a property with parameters, or in a put of one of an array
+/// type, and never in place of one of the first four errors.
 pub fn bind(
     alloc: Global,
     member: &Member<'_>,
@@ -52,7 +56,7 @@ pub fn bind(
     )
 }
 
-/// The same of a property with these parameters, these values of their defaults and this type of values.
+/// As `bind`, for a property with these parameters, values of their defaults, and type.
 #[tactic(auto, unfolding(crate::specs::Bindings::bound_call))]
 fn bind_parts(
     alloc: Global,

@@ -2,7 +2,7 @@
 use oa_variant::{Scalar, Variant};
 use std::marker::Model;
 
-/// A call of a property: which of its values is meant, and for a put what it is to be.
+/// A bound call of a property: the key of the cell, and the new value of a put.
 #[derive(Drop)]
 pub struct BoundCall {
     /// The values of the parameters in their order, each of its parameter's type.

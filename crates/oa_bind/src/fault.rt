@@ -2,26 +2,26 @@
 use oa_model::HResult;
 use std::alloc::{AllocError, AllocFailed};
 
-/// Why a call is refused: the code of its reply, and the index in rgvarg of the argument that the refusal speaks of.
+/// Why a call is refused: the code of the reply, and the index in rgvarg of the argument that it is about.
 #[derive(Clone, Copy, Debug, PartialEq, Eq)]
 pub struct BindFault {
-    /// The code (MS-ERREF section 2.1); E_OUTOFMEMORY where no memory was found.
+    /// The code (MS-ERREF section 2.1); E_OUTOFMEMORY if an allocation fails.
     pub code: HResult,
-    /// The index; None where the refusal speaks of no argument.
+    /// The index; None if the error is about no argument.
     pub index: Option<u32>,
 }
 
 impl BindFault {
     ghost use Rattle.std.specs.Prelude.{◌≡◌, None, Some};
 
-    /// A refusal that speaks of no argument.
+    /// Makes an error about no argument.
     pub fn of(code: HResult) -> BindFault
         ensures { result ≡ record { code = code; index = None } }
     {
         BindFault { code, index: None }
     }
 
-    /// A refusal that speaks of the argument at an index of rgvarg.
+    /// Makes an error about the argument at an index of rgvarg.
     pub fn at(code: HResult, index: u32) -> BindFault
         ensures { result ≡ record { code = code; index = Some index } }
     {

@@ -1,4 +1,4 @@
-//! Which argument is given for which DISPID.
+//! Finds the argument for a DISPID.
 ghost use Rattle.std.specs.Prelude.{◌≡◌, ◌≢◌, ◌<◌, ◌≤◌, ℕ, length, slice_get, Some, IfSome};
 ghost use Rattle.std.specs.List.{position_from};
 ghost use Rattle.std.specs.Ordering.{int_eq};
@@ -7,17 +7,17 @@ ghost use Rattle.oa_bind.specs.Given.{argument_index, is_parameter, says_missing
 use oa_model::HResult;
 use oa_variant::{Scalar, Variant};
 
-/// What stands for a missing argument: the ERROR DISP_E_PARAMNOTFOUND.
+/// The code of an argument that is marked as missing: the ERROR DISP_E_PARAMNOTFOUND.
 pub(crate) const MISSING: u32 = HResult::DISP_E_PARAMNOTFOUND.0;
 
-/// Whether a DISPID is that of one of the first n parameters.
+/// Returns whether a DISPID is that of one of the first n parameters.
 pub(crate) fn is_parameter(n: usize, id: i32) -> bool
     ensures { result ≡ is_parameter n id }
 {
     id >= 0 && (id.unsigned_abs() as usize) < n
 }
 
-/// The index of the argument that is given for a DISPID, of so many arguments.
+/// Returns the index of the argument for a DISPID, among `count` arguments.
 #[tactic(auto, unfolding(crate::specs::Given::argument_index))]
 pub(crate) fn index_of(named: &[i32], count: usize, id: i32) -> Option<usize>
     requires { length named.now ≤ count }
@@ -30,7 +30,7 @@ pub(crate) fn index_of(named: &[i32], count: usize, id: i32) -> Option<usize>
     first_named(named, id)
 }
 
-/// The first index at which a DISPID stands.
+/// Returns the first index of a DISPID in `named`.
 fn first_named(named: &[i32], id: i32) -> Option<usize>
     ensures value { result ≡ position_from (λ n. int_eq n id) 0 named.now }
     ensures within { IfSome result (λ i. i < length named.now) }
@@ -43,7 +43,7 @@ fn first_named(named: &[i32], id: i32) -> Option<usize>
     None
 }
 
-/// Whether an argument says that it is missing.
+/// Returns whether an argument is marked as missing.
 pub(crate) fn says_missing(argument: &Variant) -> bool
     ensures { result ≡ says_missing argument.now }
 {
@@ -53,7 +53,7 @@ pub(crate) fn says_missing(argument: &Variant) -> bool
     }
 }
 
-/// Takes the argument at an index out, and leaves EMPTY in its place: no argument moves or is copied.
+/// Moves the argument at an index out and leaves EMPTY in its place, so that no other argument is moved or copied.
 pub(crate) fn take(arguments: &mut Vec<Variant>, i: usize) -> Variant
     requires { i < length arguments.old.items }
     ensures taken { slice_get arguments.old.items i ≡ Some result }

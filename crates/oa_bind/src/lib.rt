@@ -1,9 +1,8 @@
-//! Binding: which call of a property the arguments of an INVOKE make, or the first reason why they make none.
+//! Binding: from the arguments of an INVOKE to the call of a property, or the first reason why there is none.
 //!
-//! Its contract: `bind` answers the call that the arguments make of a property, or the first refusal in the
-//! stated order with its index.
+//! Contract: `bind` returns the call of the property that the arguments make, or the first error in the documented order, with its index.
 //!
-//! What stands on it: oa_decision, for INVOKE and for requests on elements and locks.
+//! Used by oa_decision for INVOKE and for requests on elements, bounds and locks.
 #![tactic(auto)]
 
 mod binding;

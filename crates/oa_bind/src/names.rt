@@ -1,4 +1,4 @@
-//! What is refused before any argument is coerced. None of it takes memory.
+//! The checks before any argument is coerced. They allocate nothing.
 ghost use Rattle.std.specs.Prelude.{◌≡◌, ◌≢◌, ◌≤◌, ◌<◌, ◌+◌, length, true, IfErr, IfSome, OnOk};
 ghost use Rattle.std.specs.List.{position_from};
 ghost use Rattle.oa_model.specs.Limits.{max_arguments, max_parameters};
@@ -14,7 +14,7 @@ use oa_model::{HResult, PROPERTY_PUT_DISPID};
 use oa_typelib::Kind;
 use oa_variant::Variant;
 
-/// Whether a DISPID stands twice. Each is compared with those behind it.
+/// Returns whether a DISPID occurs twice. Each is compared with those after it.
 fn has_repeat(named: &[i32]) -> bool
     requires { length named.now ≤ max_arguments }
     ensures { result ≡ repeats named.now }
@@ -27,7 +27,7 @@ fn has_repeat(named: &[i32]) -> bool
     false
 }
 
-/// Whether no more arguments are named than there are, none twice, and a new value in a put alone.
+/// Returns whether there are no more names than arguments, none occurs twice, and a put names its new value and a get none.
 fn is_consistent(kind: Kind, named: &[i32], count: usize) -> bool
     requires { length named.now ≤ max_arguments }
     ensures test { result ≡ is_consistent kind named.now count }
@@ -43,7 +43,7 @@ fn is_consistent(kind: Kind, named: &[i32], count: usize) -> bool
     }
 }
 
-/// How many arguments there are at most.
+/// Returns the largest number of arguments.
 fn most(kind: Kind, parameters: &[Parameter]) -> usize
     requires { length parameters.now ≤ max_parameters }
     ensures { result ≡ most kind parameters.now }
@@ -54,14 +54,14 @@ fn most(kind: Kind, parameters: &[Parameter]) -> usize
     }
 }
 
-/// Whether a DISPID, the new value's aside, is that of no parameter, or of one that is given by position too.
+/// Returns whether a DISPID other than that of the new value is that of no parameter, or of one that is also given by position.
 fn names_none(positions: usize, parameters: usize, id: i32) -> bool
     ensures { result ≡ names_none positions parameters id }
 {
     id != PROPERTY_PUT_DISPID && (!is_parameter(parameters, id) || is_parameter(positions, id))
 }
 
-/// The lowest index with such a DISPID.
+/// Returns the lowest index of such a DISPID.
 fn first_unknown(named: &[i32], positions: usize, parameters: usize) -> Option<usize>
     ensures value { result ≡ position_from (names_none positions parameters) 0 named.now }
     ensures within { IfSome result (λ i. i < length named.now) }
@@ -74,7 +74,7 @@ fn first_unknown(named: &[i32], positions: usize, parameters: usize) -> Option<u
     None
 }
 
-/// Whether the parameter at a place may not be left out and is.
+/// Returns whether the parameter at a place is required and missing.
 fn lacks(named: &[i32], arguments: &[Variant], place: usize, parameter: &Parameter) -> bool
     requires place { place < max_parameters }
     requires named { length named.now ≤ length arguments.now }
@@ -89,7 +89,7 @@ fn lacks(named: &[i32], arguments: &[Variant], place: usize, parameter: &Paramet
     }
 }
 
-/// Whether one of the parameters may not be left out and is.
+/// Returns whether some parameter is required and missing.
 #[tactic(auto, unfolding(crate::specs::Refusals::any_at))]
 fn any_lacks(parameters: &[Parameter], named: &[i32], arguments: &[Variant]) -> bool
     requires few { length parameters.now ≤ max_parameters }
@@ -104,7 +104,7 @@ fn any_lacks(parameters: &[Parameter], named: &[i32], arguments: &[Variant]) -> 
     false
 }
 
-/// The refusals by the names and the number of the arguments, in their order.
+/// Checks the names and the number of the arguments, in the order of the errors.
 #[tactic(auto, unfolding(crate::specs::Names::well_named))]
 pub(crate) fn check_names(
     parameters: &[Parameter],
@@ -131,7 +131,7 @@ pub(crate) fn check_names(
     Ok(())
 }
 
-/// The refusal of a call that lacks an argument.
+/// Checks that each required parameter has an argument.
 #[tactic(auto, unfolding(crate::specs::Names::complete))]
 pub(crate) fn check_complete(
     parameters: &[Parameter],

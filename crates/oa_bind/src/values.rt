@@ -1,4 +1,4 @@
-//! The values of the parameters, and the new value of a put.
+//! Makes the values of the parameters, and the new value of a put.
 ghost use Rattle.std.specs.Prelude.{◌≡◌, ◌≢◌, ◌≤◌, ◌<◌, ◌+◌, ℕ, true, false, length, map, pos, slice_get, Some, IfErr, IfOk, OnErr, OnOk};
 ghost use Rattle.oa_model.specs.Limits.{max_arguments, max_parameters};
 ghost use Rattle.oa_coerce.specs.Answers.{coerced, is_memory};
@@ -20,7 +20,7 @@ use oa_typelib::Kind;
 use oa_variant::{Scalar, Variant};
 use std::alloc::{AllocError, Global};
 
-/// The type of a parameter's values.
+/// Returns the type of a parameter's values.
 fn scalar_type(declared: ValueType) -> VarType
     ensures { result ≡ scalar_type declared }
 {
@@ -29,7 +29,7 @@ fn scalar_type(declared: ValueType) -> VarType
     }
 }
 
-/// The value of a missing argument for a parameter without a default.
+/// Returns the value of a missing argument for a parameter without a default.
 fn without_default(to: VarType) -> Scalar
     ensures { result ≡ without_default to }
 {
@@ -40,7 +40,7 @@ fn without_default(to: VarType) -> Scalar
     }
 }
 
-/// The value of a missing argument, by the value of the parameter's default.
+/// Returns the value of a missing argument, given the value of the parameter's default.
 fn missing_value(
     alloc: Global,
     parameter: &Parameter,
@@ -55,7 +55,7 @@ fn missing_value(
     }
 }
 
-/// The value of a parameter of a type, by the argument at an index. Takes no memory.
+/// Coerces the argument at an index to a type. Allocates nothing.
 fn value_by(to: VarType, i: usize, argument: Variant) -> Result<Scalar, BindFault>
     requires { i < max_arguments }
     ensures { result ≡ value_by_argument to i argument }
@@ -69,7 +69,7 @@ fn value_by(to: VarType, i: usize, argument: Variant) -> Result<Scalar, BindFaul
     }
 }
 
-/// The value of the parameter at a place. Its argument is taken out; the others stay.
+/// Returns the value of the parameter at a place. Moves its argument out; the others stay.
 fn value(
     alloc: Global,
     parameter: &Parameter,
@@ -97,8 +97,8 @@ fn value(
     value_by(scalar_type(parameter.value_type), i, argument)
 }
 
-/// The values of the parameters in their order, by the values of their defaults. The arguments for them are taken out; the others stay.
-/// Without parameters it takes no memory.
+/// Returns the values of the parameters in their order, given the values of their defaults. Moves their arguments out; the others stay.
+/// Allocates nothing if there are no parameters.
 pub(crate) fn key(
     alloc: Global,
     parameters: &[Parameter],
@@ -130,7 +130,7 @@ pub(crate) fn key(
     Ok(key)
 }
 
-/// Why the argument at an index is refused; want of memory speaks of no argument.
+/// Returns the error for the argument at an index; `Memory` is about no argument.
 fn fault_at(fault: CoerceFault, at: u32) -> BindFault
     ensures memory { is_memory fault ≡ true → result ≡ lacks_memory }
     ensures argument { is_memory fault ≡ false → result ≡ record { code = coercion_code fault; index = Some at } }
@@ -141,7 +141,7 @@ fn fault_at(fault: CoerceFault, at: u32) -> BindFault
     }
 }
 
-/// The new value of a declared type, by the argument at an index.
+/// Coerces the argument at an index to the declared type of a new value.
 fn new_value_by(
     alloc: Global,
     argument: Variant,
@@ -157,7 +157,7 @@ fn new_value_by(
     coerce(alloc, argument, declared).map_err(|(_, fault)| fault_at(fault, at))
 }
 
-/// The new value of a put. Its argument is taken out.
+/// Returns the new value of a put, or None for a get. Moves its argument out.
 pub(crate) fn new_value(
     alloc: Global,
     declared: ValueType,

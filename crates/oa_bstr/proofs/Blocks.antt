@@ -48,20 +48,20 @@ module _ (row : List (Option ℕ)) (block : IsBlock row) where
   pub begin_read : (len : ℕ) (xs : List ℕ) → take len row ≡ map Some xs → xs ≡ take len all
   begin_read len xs e = sym (values_of_full xs) ∙ ap values (sym e ∙ begins len) ∙ values_of_full (take len all)
 
--- the count stands in the first four bytes
+-- The first four bytes are the count.
 pub count_bytes : (bytes : List ℕ) → take 4 (block_of bytes) ≡ to_le_bytes w32 (length bytes)
 count_bytes bytes = ap (take 4) (parts bytes) ∙ take_at (to_le_bytes w32 (length bytes)) (bytes ++ zeros) 4 (length-count (length bytes))
 
 pub count_read : (bytes : List ℕ) → length bytes ≤ max_text_bytes → from_le_bytes w32 (to_le_bytes w32 (length bytes)) ≡ length bytes
 count_read bytes short = from_le_bytes-to_le_bytes_4 (length bytes) (omega (arith, short))
 
--- the text stands behind it
+-- The text follows the count.
 pub text_bytes : (bytes : List ℕ) (end : ℕ) → end ≡ 4 + length bytes → drop 4 (take end (block_of bytes)) ≡ bytes
 text_bytes bytes end e =
     let count = to_le_bytes w32 (length bytes) in let long : length (count ++ bytes) ≡ end = omega (arith, length-append count bytes, length-count (length bytes), e) in
     ap (λ all. drop 4 (take end all)) (parts bytes ∙ sym (append_assoc count bytes zeros)) ∙ ap (drop 4) (take_at (count ++ bytes) zeros end long) ∙ drop_at count bytes 4 (length-count (length bytes))
 
--- a block is made of its parts, one behind the other
+-- A block is made of its parts, one after another.
 pub joined : (bytes : List ℕ) → ([] ++ to_le_bytes w32 (length bytes) ++ bytes) ++ zeros ≡ block_of bytes
 joined bytes = append_assoc (to_le_bytes w32 (length bytes)) bytes zeros ∙ sym (parts bytes)
 

@@ -1,4 +1,4 @@
-//! The block of a text: how it is made, read and freed.
+//! The block of a text: making, reading and freeing it.
 ghost use Rattle.std.specs.Prelude.{◌≡◌, ◌+◌, ◌≤◌, length, take, IfOk};
 ghost use Rattle.oa_bstr.specs.Block.{block_of, block_text, IsBlock};
 ghost use Rattle.oa_model.specs.Limits.{max_text_bytes};
@@ -6,12 +6,12 @@ ghost use Rattle.oa_model.specs.Limits.{max_text_bytes};
 use oa_cells::{Partial, Row};
 use std::alloc::{AllocError, Global};
 
-/// The bytes before the text, which hold its count, and those behind it, the 16-bit zero.
+/// The number of bytes before the text, which encode its length, and of those after it, which are a 16-bit zero.
 const COUNT_BYTES: usize = 4;
 
 const ZERO_BYTES: usize = 2;
 
-/// A new block of a text.
+/// Makes the block of a text. Err: the allocation fails.
 pub(crate) fn new_block(alloc: Global, bytes: &[u8]) -> Result<Row<u8>, AllocError>
     requires { length bytes.now ≤ max_text_bytes }
     ensures { IfOk result (λ r. IsBlock r × (block_text r ≡ bytes.now)) }
@@ -24,7 +24,7 @@ pub(crate) fn new_block(alloc: Global, bytes: &[u8]) -> Result<Row<u8>, AllocErr
     Ok(part.full())
 }
 
-/// The first `len` bytes of a block.
+/// Returns the first `len` bytes of a block.
 fn begin(row: &Row<u8>, len: usize) -> &[u8]
     requires { IsBlock row.now × (len ≤ length (block_text row.now) + 6) }
     ensures bytes { result.now ≡ take len (block_of (block_text row.now)) }
@@ -33,7 +33,7 @@ fn begin(row: &Row<u8>, len: usize) -> &[u8]
     row.first(len)
 }
 
-/// How many bytes the text in a block has, by its count.
+/// Returns the number of bytes of the text in a block, which its first 4 bytes encode.
 pub(crate) fn count(row: &Row<u8>) -> u32
     requires { IsBlock row.now }
     ensures { result ≡ length (block_text row.now) }
@@ -42,7 +42,7 @@ pub(crate) fn count(row: &Row<u8>) -> u32
     u32::from_le_bytes([head[0], head[1], head[2], head[3]])
 }
 
-/// The text in a block.
+/// Returns the text in a block.
 pub(crate) fn text(row: &Row<u8>) -> &[u8]
     requires { IsBlock row.now }
     ensures bytes { result.now ≡ block_text row.now }
@@ -53,7 +53,7 @@ pub(crate) fn text(row: &Row<u8>) -> &[u8]
     &head_and_text[COUNT_BYTES..]
 }
 
-/// Frees a block, in one step.
+/// Frees a block in one step.
 pub(crate) fn free(row: Row<u8>)
     requires { IsBlock row }
 {

@@ -21,10 +21,10 @@ use std::cmp::Ordering;
 use std::fmt;
 use std::marker::Model;
 
-/// A BSTR: null, or a text of at most `MAX_TEXT_BYTES`. Null and the empty text are two values.
+/// A BSTR: null, or a text of at most `MAX_TEXT_BYTES`. Null and the empty text are different values.
 ///
-/// A text has a raw block of its own, as MS-OAUT 2.2.23 lays it out: a 32-bit little-endian count of the bytes,
-/// the bytes, and a 16-bit zero. The block is freed with the `Bstr`, in one step.
+/// A text has a block of memory of its own with the layout of MS-OAUT section 2.2.23: a 32-bit little-endian count of the bytes, the bytes,
+/// and a 16-bit zero. The block is freed with the `Bstr`, in one step.
 pub struct Bstr {
     row: Option<Row<u8>>,
 }
@@ -38,17 +38,17 @@ impl Model for Bstr {
 }
 
 impl Bstr {
-    /// The null BSTR, which has no block. Takes no memory.
+    /// Returns the null BSTR, which has no block. Allocates nothing.
     pub fn null() -> Bstr
         ensures { result ≡ None }
     {
         Bstr { row: None }
     }
 
-    /// A text of these bytes, in a block of its own.
+    /// Makes a text of these bytes, in a block of its own.
     ///
-    /// `TooLong` exactly where there are more than `MAX_TEXT_BYTES`, and then no memory was asked for;
-    /// `Memory` where there is no block for the text.
+    /// Errors: `TooLong` if and only if there are more than `MAX_TEXT_BYTES`, before any allocation; `Memory` if the allocation of the
+    /// block fails.
     pub fn from_bytes(alloc: Global, bytes: &[u8]) -> Result<Bstr, BstrError>
         ensures value { IfOk result (λ b. b ≡ Some bytes.now) }
         ensures too_long { IsErrOf result TooLong ↔ (max_text_bytes < length bytes.now) }
@@ -60,14 +60,14 @@ impl Bstr {
         Ok(Bstr { row: Some(row) })
     }
 
-    /// Is this the null BSTR, and not a text?
+    /// Returns whether this is the null BSTR.
     pub fn is_null(&self) -> bool
         ensures { IsTrue result ↔ (self.now ≡ None) }
     {
         self.row.is_none()
     }
 
-    /// How many bytes the text has: 0 for null. At most `MAX_TEXT_BYTES`.
+    /// Returns the number of bytes of the text, at most `MAX_TEXT_BYTES`; 0 for null.
     pub fn byte_len(&self) -> u32
         ensures count { result ≡ length (bytes_of self.now) }
         ensures short { result ≤ max_text_bytes }
@@ -78,7 +78,7 @@ impl Bstr {
         }
     }
 
-    /// The bytes of the text: none for null. At most `MAX_TEXT_BYTES`.
+    /// Returns the bytes of the text, at most `MAX_TEXT_BYTES`; none for null.
     pub fn as_bytes(&self) -> &[u8]
         ensures bytes { result.now ≡ bytes_of self.now }
         ensures short { length result.now ≤ max_text_bytes }
@@ -89,8 +89,8 @@ impl Bstr {
         }
     }
 
-    /// The `i`-th 16-bit unit of the text, which are the bytes `2 * i` (low) and `2 * i + 1` (high).
-    /// Where the text ends with the low byte, the high one is 0.
+    /// Returns the `i`-th 16-bit unit of the text, made of the bytes `2 * i` (low) and `2 * i + 1` (high). The text must have the low byte;
+    /// the high one is 0 if the text ends before it.
     pub fn unit(&self, i: usize) -> u16
         requires { 2 * i < length (bytes_of self.now) }
         ensures { result ≡ unit_of (bytes_of self.now) i }
@@ -104,7 +104,7 @@ impl Bstr {
         low as u16 + 256 * high as u16
     }
 
-    /// The same text in a block of its own, or null again, which takes no memory.
+    /// Returns an equal BSTR: a text in a block of its own, or null, which allocates nothing. Err: the allocation fails.
     pub fn copy(&self, alloc: Global) -> Result<Bstr, AllocError>
         ensures value { IfOk result (λ b. b ≡ self.now) }
         ensures null { self.now ≡ None → IsOk result }
@@ -152,7 +152,7 @@ impl PartialOrd for Bstr {
     }
 }
 
-/// Null stands first; texts follow by their bytes, lexicographically.
+/// Null comes first, followed by the texts in lexicographic order of their bytes.
 impl Ord for Bstr {
     ghost cmp = { text_cmp };
 

@@ -1,14 +1,14 @@
-//! Why a BSTR could not be made.
+//! Why no BSTR is made.
 ghost use Rattle.std.specs.Prelude.{◌≡◌};
 ghost use Rattle.oa_bstr.specs.declared.error.BstrError.TheVariants.{Memory};
 
 use std::alloc::AllocError;
 use thiserror::Error;
 
-/// Why a BSTR could not be made.
+/// Why no BSTR is made.
 #[derive(Clone, Copy, Debug, PartialEq, Eq, Error)]
 pub enum BstrError {
-    /// The allocator had no block for it.
+    /// The allocation of its block fails.
     #[error("out of memory")]
     Memory,
     /// The text has more than `MAX_TEXT_BYTES`.

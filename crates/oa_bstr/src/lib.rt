@@ -1,9 +1,9 @@
 //! The BSTR: null, or a counted block of bytes.
 //!
-//! Its contract: a `Bstr` is none or its list of bytes: `from_bytes` refuses exactly what is above the limit,
-//! `as_bytes` gives them back; null and empty differ.
+//! Contract: a `Bstr` is None or its list of bytes. `from_bytes` refuses a text if and only if it is above the limit, and `as_bytes`
+//! returns the same bytes again. Null and the empty text differ.
 //!
-//! What stands on it: oa_variant, and through it every crate that knows values.
+//! Used by oa_variant, and through it by every crate that handles values.
 #![tactic(auto)]
 
 mod block;

@@ -19,7 +19,7 @@ some_seen d = record { some = true; default = d }
 unmarked_may : (d m : Bool) → m ≡ false → not (m && d) ≡ true
 unmarked_may d m e = rw e refl
 
--- entries that are no default may stand behind any others
+-- Entries that are no default may follow any others.
 unmarked : (d f : Bool) (es : List Entry) → list_any (λ e. e.is_default) es ≡ false → AreEntries (some_seen d) es
     → AreEntries (some_seen f) es
 unmarked d f [] e h = refl

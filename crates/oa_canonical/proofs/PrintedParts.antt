@@ -133,7 +133,7 @@ no_quote : (b : ℕ) → is_escaped b ≡ false → ((b == 34) ≡ false) × ((b
 no_quote b e = by_test (b == 34) (λ (x : (b == 34) ≡ true). absurd (clash (rw x refl) e)) (λ (x : (b == 34) ≡ false).
     by_test (b == 92) (λ (y : (b == 92) ≡ true). absurd (clash (rw (x, y) refl) e)) (λ (y : (b == 92) ≡ false). (x, y)))
 
--- where a printed string closes
+-- The end of a printed string.
 string_end : (cs bs : List ℕ)
     → end_from Quote false (flat_map character_text cs ++ 34 ∷ bs) ≡ Some (suc (length (flat_map character_text cs)))
 unfolding end_from character_text

@@ -20,7 +20,7 @@ use Rattle.oa_canonical.specs.Printable.{IsNameText}
 abbrev pub word : TokenKind → List ℕ → forms.Word
 word kind text = record { kind = kind; text = text }
 
--- which words bytes have, wherever they stand
+-- The words of bytes, at any offset.
 pub data HasWords : List ℕ → List forms.Word → Type 0 where
   Nil : HasWords [] []
   Skip : (n : ℕ) (bs : List ℕ) (ws : List forms.Word) → 0 < length bs → front bs ≡ Gap n → HasWords (drop n bs) ws → HasWords bs ws
@@ -47,7 +47,7 @@ tokens_at text p _ _ at (Take n kind bs ws lt is h) =
       words = λ i. word kind (take (size i) (at i)) ∷ r.words i;
     }
 
--- ---- what stands at the front
+-- ---- The first piece.
 
 -- a byte that ends a name and a number
 abbrev pub EndsWord : List ℕ → Type 0
@@ -66,7 +66,7 @@ and_false : (a b : Bool) → (a ≡ true → b ≡ false) → (a && b) ≡ false
 and_false true b h = h refl
 and_false false b h = refl
 
--- a test of ranges, by what it says of numbers
+-- A test of ranges, as an order of numbers.
 in_range : (lo hi b : ℕ) → is_in_range lo hi b ≡ true → (lo ≤ b) × (b ≤ hi)
 in_range lo hi b e = by_test (nat_le lo b)
     (λ (x : nat_le lo b ≡ true). by_test (nat_le b hi) (λ (y : nat_le b hi ≡ true). (leb-true lo b x, leb-true b hi y)) (λ (y : nat_le b hi ≡ false). absurd (clash e (rw (x, y) refl))))
@@ -110,7 +110,7 @@ run_append p (x ∷ xs) b bs e stop = by_test (p x)
 
 -- ---- names and numbers are no GUIDs
 
--- behind hexadecimal digits stands no hyphen
+-- No hyphen follows hexadecimal digits.
 not_hyphen : (xs : List ℕ) (b : ℕ) (bs : List ℕ) → run (is_in classes.Named) xs ≡ length xs → EndsWord (b ∷ bs)
     → (get_or (xs ++ b ∷ bs) (run (is_in classes.Hexadecimal) (xs ++ b ∷ bs)) 0 == 45) ≡ false
 unfolding run

@@ -219,7 +219,7 @@ each_limit t h limits.Coclasses = h.coclasses
 each_limit t h limits.Members = h.members
 each_limit t h limits.Params = h.parameters
 
--- a canonical text stands for its tree
+-- A canonical text is parsed as its tree.
 pub is_read : (t : TreeValue) → IsPrintable t → MayBeText (canonical t) → IsTree (canonical t) t
 is_read t h short =
     let r = tree_spelled t h [] Nil in

@@ -1,4 +1,4 @@
--- What words stand for: what is known of each name, number, GUID, type and string that was read.
+-- The meaning of words: facts about each name, number, GUID, type and string that has been read.
 use Rattle.std.proofs.Common.{◌≡◌, ℕ, zero, suc, ◌+◌, ◌-◌, ◌*◌, ◌^◌, ◌<◌, ◌≤◌, Bool, true, false, cond, List, [], ◌∷◌, ◌++◌, length, take}
 use Rattle.std.proofs.Common.{drop, map, get_or, Option, Some, None, refl, sym, ap, subst, ◌∙◌, arith, ltb-true, ltb-false, leb-true}
 use Rattle.std.specs.Prelude.{◌&&◌, ◌||◌, ◌==◌, not, nat_lt, nat_le, ℤ, pos, negsuc, neg_ℤ, is_some, slice_index, codes}
@@ -53,7 +53,7 @@ some_is x y e = cc
 pub no_some : {A B : Type 0} (x : A) → none_of A ≡ Some x → B
 no_some x e = absurd cc
 
--- ---- what is known of a word
+-- ---- Facts about a word.
 
 abbrev pub OfKind : TokenKind → List ℕ → Type 0
 OfKind kinds.Name text = IsNameText text

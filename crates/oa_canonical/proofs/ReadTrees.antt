@@ -1,4 +1,4 @@
--- A tree that a text stands for can be printed so that it is read again.
+-- The tree of a text can be printed so that it is parsed again.
 use Rattle.std.proofs.Common.{◌≡◌, ℕ, ◌+◌, ◌<◌, Bool, true, false, List, [], ◌∷◌, ◌++◌, length, Option, Some, None, refl, sym, subst, arith}
 use Rattle.std.specs.Prelude.{ℤ, ◌==◌, if◌then◌else◌, codes}
 use Rattle.std.specs.List.{AllByRecursion}
@@ -200,7 +200,7 @@ separated_read false p ws f h = parameter_read p f.back f.second (second_fine ws
 
 -- ---- lists
 
--- what is known of each item, and of the end
+-- Facts about each item, and about the end.
 list_read : {S A B : Type 0} (F : S → A → List Word → Type 0) (grow : S → A → S) (apart : A → Word → Bool) (E : S → B → List Word → Type 0)
     (P : A → Type 0) (Q : Type 0) (b : B)
     → ((s : S) (x : A) (ws : List Word) → F s x ws → AllFine ws → P x) → ((s : S) (ws : List Word) → E s b ws → AllFine ws → Q)

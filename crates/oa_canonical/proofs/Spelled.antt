@@ -1,4 +1,4 @@
--- Bytes that spell a form: its words stand at their front, before those of the bytes that follow.
+-- Bytes of a form: they begin with its words, followed by the words of the remaining bytes.
 use Rattle.std.specs.Prelude.{codes}
 use Rattle.std.proofs.Common.{◌≡◌, ℕ, suc, ◌+◌, ◌<◌, Bool, true, List, [], ◌∷◌, ◌++◌, length, take, drop, Option, Some, refl, sym, ap}
 use Rattle.std.proofs.Common.{subst, ◌∙◌, append_assoc, arith}
@@ -38,11 +38,11 @@ pub ◌▹◌ : {F G : List forms.Word → Type 0} {x y z : List ℕ} → Spells
       has = subst (HasWords x) (sym (append_assoc a.words b.words ws)) a.has;
     }
 
--- the same bytes, said otherwise
+-- The same bytes, written otherwise.
 pub at : {F : List forms.Word → Type 0} {x y z : List ℕ} → x ≡ y → Spells F y z → Spells F x z
 at {F} {x} {y} {z} e f ws h = let r = f ws h in record { words = r.words; form = r.form; has = subst (λ (bs : List ℕ). HasWords bs (r.words ++ ws)) (sym e) r.has }
 
--- the same words, said otherwise
+-- The same words, by another form.
 pub said : {F G : List forms.Word → Type 0} {x y : List ℕ} → ((ws : List forms.Word) → F ws → G ws) → Spells F x y → Spells G x y
 said to f ws h = let r = f ws h in record { words = r.words; form = to r.words r.form; has = r.has }
 
@@ -191,7 +191,7 @@ attributes_spelled s b a may f g = open_mark ▹ (λ ws h.
       has = subst (HasWords _) (sym (append_assoc first.words rest.words ws)) first.has;
     })
 
--- ---- what follows is behind a blank, or in the next line
+-- ---- The following word is after a space, or in the next line.
 
 pub then_blank : {F : List forms.Word → Type 0} {x y : List ℕ} → Spells F x (32 ∷ y) → Spells F x y
 unfolding front is_guid group run is_in

@@ -6,14 +6,16 @@ use Rattle.oa_idl.specs.declared.parts.Entry.{Entry}
 use Rattle.oa_idl.specs.declared.items.Item.{Item}
 use Rattle.oa_idl.specs.declared.items.Item.TheVariants.{Interface, Coclass}
 
--- Where no entry is marked as the default, the first one is.
+-- The entry, marked as the default.
 abbrev pub mark : Entry → Entry
 mark e = record { is_default = true; interface = e.interface }
 
+-- The entries with the first one marked as the default.
 abbrev pub mark_first : List Entry → List Entry
 mark_first [] = []
 mark_first (e ∷ es) = mark e ∷ es
 
+-- The entries with a default: the first one is marked if none is.
 abbrev pub marked_entries : List Entry → List Entry
 marked_entries es = if list_any (λ e. e.is_default) es then es else mark_first es
 
@@ -21,6 +23,6 @@ abbrev pub marked_item : Item → Item
 marked_item (Interface i) = Interface i
 marked_item (Coclass c) = Coclass (record { guid = c.guid; name = c.name; entries = marked_entries c.entries })
 
--- a tree with one default interface marked in each coclass
+-- The tree with one default interface marked in each coclass.
 abbrev pub marked : TreeValue → TreeValue
 marked tree = record { guid = tree.guid; version = tree.version; name = tree.name; items = map marked_item tree.items }

@@ -1,10 +1,10 @@
-//! The canonical text of a library's tree: the one among the texts that stand for it which this project writes.
+//! The canonical text of a library's tree: the one that this project prints, of all texts with that tree.
 //!
-//! Its contract: `print` answers the canonical text of a tree (`canonical`); by `laws` this text stands for that tree again,
-//! wherever the tree is that of a text (`IsPrintable`), with its defaults marked or as it is, unless it is too long for a text.
+//! Contract: `print` returns the canonical text of a tree (`canonical`). Theorems in `laws` say that this text is parsed as the same tree
+//! again, if the tree is that of a text (`IsPrintable`), with or without marked defaults, unless the text is too long.
 //!
-//! What stands on it: oa_checks, whose last breach is a canonical text that is too long, oa_typelib, which keeps the text, and
-//! what says of a library that its text is read again: oa_turn, oa_server, oa_history.
+//! Used by oa_checks, whose last error is a canonical text that is too long, by oa_typelib, which stores the text, and by oa_turn,
+//! oa_server and oa_history, whose contracts say that it is parsed again.
 #![tactic(auto)]
 
 pub mod laws;

@@ -1,4 +1,4 @@
-//! The canonical text of a tree.
+//! Prints the canonical text of a tree.
 ghost use Rattle.std.specs.Prelude.{◌≡◌, ◌++◌, ℕ, List, codes, IfOk};
 ghost use Rattle.std.specs.List.{flat_map};
 ghost use Rattle.std.specs.Fmt.{decimal, signed_decimal};
@@ -16,6 +16,7 @@ use oa_model::{ValueType, VarType};
 use std::alloc::{AllocError, Global};
 use uuid::Uuid;
 
+/// Appends bytes.
 fn put(out: &mut Vec<u8>, bytes: &[u8]) -> Result<(), AllocError>
     ensures { IfOk result (λ _. out.new.items ≡ out.old.items ++ bytes.now) }
 {
@@ -23,16 +24,16 @@ fn put(out: &mut Vec<u8>, bytes: &[u8]) -> Result<(), AllocError>
     Ok(())
 }
 
-/// A part of a tree that stands in a list.
+/// A part of a tree that occurs in lists.
 trait Listed {
     ghost text: { Self → List ℕ };
 
-    /// Adds its text.
+    /// Appends the text of the part.
     fn put(&self, alloc: Global, out: &mut Vec<u8>) -> Result<(), AllocError>
         ensures { IfOk result (λ _. out.new.items ≡ out.old.items ++ text self.now) };
 }
 
-/// Adds the texts of a list.
+/// Appends the texts of a list.
 fn put_all<T: Listed>(alloc: Global, out: &mut Vec<u8>, all: &[T]) -> Result<(), AllocError>
     ensures { IfOk result (λ _. out.new.items ≡ out.old.items ++ flat_map T.text all.now) }
 {
@@ -42,6 +43,7 @@ fn put_all<T: Listed>(alloc: Global, out: &mut Vec<u8>, all: &[T]) -> Result<(),
     Ok(())
 }
 
+/// Returns the IDL name of a scalar type.
 #[tactic(auto, unfolding(crate::specs::Canonical::type_text))]
 fn type_word(value_type: VarType) -> &'static [u8]
     ensures { result.now ≡ type_text value_type }
@@ -67,6 +69,7 @@ fn type_word(value_type: VarType) -> &'static [u8]
     }
 }
 
+/// Appends a type.
 #[tactic(auto, unfolding(crate::specs::Canonical::value_type_text))]
 fn put_type(out: &mut Vec<u8>, value_type: ValueType) -> Result<(), AllocError>
     ensures { IfOk result (λ _. out.new.items ≡ out.old.items ++ value_type_text value_type) }
@@ -81,6 +84,7 @@ fn put_type(out: &mut Vec<u8>, value_type: ValueType) -> Result<(), AllocError>
     }
 }
 
+/// Appends the type of a result, or `void`.
 #[tactic(auto, unfolding(crate::specs::Canonical::result_text))]
 fn put_result(out: &mut Vec<u8>, value_type: Option<ValueType>) -> Result<(), AllocError>
     ensures { IfOk result (λ _. out.new.items ≡ out.old.items ++ result_text value_type) }
@@ -91,6 +95,7 @@ fn put_result(out: &mut Vec<u8>, value_type: Option<ValueType>) -> Result<(), Al
     }
 }
 
+/// Appends a part of a version.
 fn put_unsigned(alloc: Global, out: &mut Vec<u8>, number: u16) -> Result<(), AllocError>
     ensures { IfOk result (λ _. out.new.items ≡ out.old.items ++ decimal number) }
 {
@@ -98,6 +103,7 @@ fn put_unsigned(alloc: Global, out: &mut Vec<u8>, number: u16) -> Result<(), All
     put(out, text.as_bytes())
 }
 
+/// Appends the number of an `id`.
 fn put_id_number(alloc: Global, out: &mut Vec<u8>, number: i32) -> Result<(), AllocError>
     ensures { IfOk result (λ _. out.new.items ≡ out.old.items ++ signed_decimal number) }
 {
@@ -105,6 +111,7 @@ fn put_id_number(alloc: Global, out: &mut Vec<u8>, number: i32) -> Result<(), Al
     put(out, text.as_bytes())
 }
 
+/// Appends the number of a default.
 fn put_amount(alloc: Global, out: &mut Vec<u8>, number: i128) -> Result<(), AllocError>
     ensures { IfOk result (λ _. out.new.items ≡ out.old.items ++ signed_decimal number) }
 {
@@ -112,7 +119,7 @@ fn put_amount(alloc: Global, out: &mut Vec<u8>, number: i128) -> Result<(), Allo
     put(out, text.as_bytes())
 }
 
-/// What stands for one character of a string.
+/// The text of one character of a string, with a backslash before a quote or a backslash.
 impl Listed for u8 {
     ghost text = { character_text };
 
@@ -126,6 +133,7 @@ impl Listed for u8 {
     }
 }
 
+/// Appends a default.
 #[tactic(auto, unfolding(crate::specs::Canonical::literal_text))]
 fn put_literal(alloc: Global, out: &mut Vec<u8>, value: &Literal) -> Result<(), AllocError>
     ensures { IfOk result (λ _. out.new.items ≡ out.old.items ++ literal_text value.now) }
@@ -142,6 +150,7 @@ fn put_literal(alloc: Global, out: &mut Vec<u8>, value: &Literal) -> Result<(), 
     }
 }
 
+/// Appends an attribute if it is `there`, after a comma if `before` is true, otherwise after the opening bracket.
 #[tactic(auto, unfolding(crate::specs::Canonical::mark_text))]
 fn put_mark(out: &mut Vec<u8>, before: bool, there: bool, text: &[u8]) -> Result<(), AllocError>
     ensures { IfOk result (λ _. out.new.items ≡ out.old.items ++ mark_text before there text.now) }
@@ -153,6 +162,7 @@ fn put_mark(out: &mut Vec<u8>, before: bool, there: bool, text: &[u8]) -> Result
     put(out, text)
 }
 
+/// Appends a `defaultvalue` attribute, if there is one.
 #[tactic(auto, unfolding(crate::specs::Canonical::default_text))]
 fn put_default(
     alloc: Global,
@@ -170,6 +180,7 @@ fn put_default(
     put(out, b")")
 }
 
+/// Appends the attributes of a parameter, if it has any.
 #[tactic(auto, unfolding(crate::specs::Canonical::parameter_marks))]
 fn put_marks(alloc: Global, out: &mut Vec<u8>, p: &Parameter) -> Result<(), AllocError>
     ensures { IfOk result (λ _. out.new.items ≡ out.old.items ++ parameter_marks p.now) }
@@ -183,6 +194,7 @@ fn put_marks(alloc: Global, out: &mut Vec<u8>, p: &Parameter) -> Result<(), Allo
     Ok(())
 }
 
+/// Appends a space and a name.
 fn put_name(out: &mut Vec<u8>, name: &Name) -> Result<(), AllocError>
     ensures { IfOk result (λ _. out.new.items ≡ out.old.items ++ codes " " ++ name.now) }
 {
@@ -190,6 +202,7 @@ fn put_name(out: &mut Vec<u8>, name: &Name) -> Result<(), AllocError>
     put(out, name.as_bytes())
 }
 
+/// Appends a parameter.
 #[tactic(auto, unfolding(crate::specs::Canonical::parameter_text, crate::specs::Canonical::named_text))]
 fn put_parameter(alloc: Global, out: &mut Vec<u8>, p: &Parameter) -> Result<(), AllocError>
     ensures { IfOk result (λ _. out.new.items ≡ out.old.items ++ parameter_text p.now) }
@@ -199,7 +212,7 @@ fn put_parameter(alloc: Global, out: &mut Vec<u8>, p: &Parameter) -> Result<(), 
     put_name(out, &p.name)
 }
 
-/// A parameter that is not the first.
+/// The text of a parameter that is not the first.
 impl Listed for Parameter {
     ghost text = { further_text };
 
@@ -210,6 +223,7 @@ impl Listed for Parameter {
     }
 }
 
+/// Appends parameters, separated by commas.
 #[tactic(auto, unfolding(crate::specs::Canonical::parameters_text))]
 fn put_parameters(alloc: Global, out: &mut Vec<u8>, all: &[Parameter]) -> Result<(), AllocError>
     ensures { IfOk result (λ _. out.new.items ≡ out.old.items ++ parameters_text all.now) }
@@ -221,6 +235,7 @@ fn put_parameters(alloc: Global, out: &mut Vec<u8>, all: &[Parameter]) -> Result
     put_all(alloc, out, rest)
 }
 
+/// Appends an `id` attribute and the end of the list of attributes.
 #[tactic(auto, unfolding(crate::specs::Canonical::id_text))]
 fn put_id(alloc: Global, out: &mut Vec<u8>, id: i32, end: &[u8]) -> Result<(), AllocError>
     ensures { IfOk result (λ _. out.new.items ≡ out.old.items ++ id_text id end.now) }
@@ -230,6 +245,7 @@ fn put_id(alloc: Global, out: &mut Vec<u8>, id: i32, end: &[u8]) -> Result<(), A
     put(out, end)
 }
 
+/// Returns the end of a property's attributes.
 fn readonly_mark(readonly: bool) -> &'static [u8]
     ensures { result.now ≡ readonly_text readonly }
 {
@@ -248,6 +264,7 @@ impl Listed for Property {
     }
 }
 
+/// Returns the end of a method's attributes.
 fn kind_mark(kind: MethodKind) -> &'static [u8]
     ensures { result.now ≡ kind_text kind }
 {
@@ -258,6 +275,7 @@ fn kind_mark(kind: MethodKind) -> &'static [u8]
     }
 }
 
+/// Appends parameters in parentheses.
 #[tactic(auto, unfolding(crate::specs::Canonical::list_text))]
 fn put_list(alloc: Global, out: &mut Vec<u8>, all: &[Parameter]) -> Result<(), AllocError>
     ensures { IfOk result (λ _. out.new.items ≡ out.old.items ++ list_text all.now) }
@@ -279,6 +297,7 @@ impl Listed for Method {
     }
 }
 
+/// Returns the start of an entry's line.
 fn entry_word(is_default: bool) -> &'static [u8]
     ensures { result.now ≡ entry_word_text is_default }
 {
@@ -300,6 +319,7 @@ impl Listed for Entry {
     }
 }
 
+/// Appends the digits of a GUID.
 #[tactic(auto, unfolding(crate::specs::Canonical::digits_text))]
 fn put_digits(alloc: Global, out: &mut Vec<u8>, guid: Uuid) -> Result<(), AllocError>
     ensures { IfOk result (λ _. out.new.items ≡ out.old.items ++ digits_text guid) }
@@ -308,6 +328,7 @@ fn put_digits(alloc: Global, out: &mut Vec<u8>, guid: Uuid) -> Result<(), AllocE
     put(out, text.as_bytes())
 }
 
+/// Appends a `uuid` attribute and its opening bracket.
 #[tactic(auto, unfolding(crate::specs::Canonical::guid_text))]
 fn put_guid(alloc: Global, out: &mut Vec<u8>, guid: Uuid) -> Result<(), AllocError>
     ensures { IfOk result (λ _. out.new.items ≡ out.old.items ++ guid_text guid) }
@@ -317,6 +338,7 @@ fn put_guid(alloc: Global, out: &mut Vec<u8>, guid: Uuid) -> Result<(), AllocErr
     put(out, b")")
 }
 
+/// Returns the text between the GUID and the name of an interface.
 #[tactic(auto, unfolding(crate::specs::Canonical::interface_line))]
 fn interface_line() -> &'static [u8]
     ensures { result.now ≡ interface_line }
@@ -324,6 +346,7 @@ fn interface_line() -> &'static [u8]
     b"]\ndispinterface "
 }
 
+/// Returns the line of the section `properties:`.
 #[tactic(auto, unfolding(crate::specs::Canonical::properties_line))]
 fn properties_line() -> &'static [u8]
     ensures { result.now ≡ properties_line }
@@ -331,6 +354,7 @@ fn properties_line() -> &'static [u8]
     b"properties:\n"
 }
 
+/// Appends the section `properties:`.
 #[tactic(auto, unfolding(crate::specs::Canonical::properties_text))]
 fn put_first_section(alloc: Global, out: &mut Vec<u8>, all: &[Property]) -> Result<(), AllocError>
     ensures { IfOk result (λ _. out.new.items ≡ out.old.items ++ properties_text all.now) }
@@ -339,6 +363,7 @@ fn put_first_section(alloc: Global, out: &mut Vec<u8>, all: &[Property]) -> Resu
     put_all(alloc, out, all)
 }
 
+/// Appends the section `methods:` and the closing brace.
 #[tactic(auto, unfolding(crate::specs::Canonical::methods_text))]
 fn put_second_section(alloc: Global, out: &mut Vec<u8>, all: &[Method]) -> Result<(), AllocError>
     ensures { IfOk result (λ _. out.new.items ≡ out.old.items ++ methods_text all.now) }
@@ -348,6 +373,7 @@ fn put_second_section(alloc: Global, out: &mut Vec<u8>, all: &[Method]) -> Resul
     put(out, b"}\n")
 }
 
+/// Appends the first lines of an item, up to its opening brace.
 #[tactic(auto, unfolding(crate::specs::Canonical::title_text))]
 fn put_title(
     alloc: Global,
@@ -364,6 +390,7 @@ fn put_title(
     put(out, b" {\n")
 }
 
+/// Appends an interface.
 #[tactic(auto, unfolding(crate::specs::Canonical::interface_text))]
 fn put_interface(alloc: Global, out: &mut Vec<u8>, d: &Interface) -> Result<(), AllocError>
     ensures { IfOk result (λ _. out.new.items ≡ out.old.items ++ interface_text d.now) }
@@ -373,6 +400,7 @@ fn put_interface(alloc: Global, out: &mut Vec<u8>, d: &Interface) -> Result<(), 
     put_second_section(alloc, out, d.methods.as_slice())
 }
 
+/// Appends a coclass.
 #[tactic(auto, unfolding(crate::specs::Canonical::coclass_text))]
 fn put_coclass(alloc: Global, out: &mut Vec<u8>, c: &Coclass) -> Result<(), AllocError>
     ensures { IfOk result (λ _. out.new.items ≡ out.old.items ++ coclass_text c.now) }
@@ -394,6 +422,7 @@ impl Listed for Item {
     }
 }
 
+/// Appends the `version` attribute and the keyword of a library.
 #[tactic(auto, unfolding(crate::specs::Canonical::version_text))]
 fn put_version(alloc: Global, out: &mut Vec<u8>, version: Version) -> Result<(), AllocError>
     ensures { IfOk result (λ _. out.new.items ≡ out.old.items ++ version_text version) }
@@ -405,6 +434,7 @@ fn put_version(alloc: Global, out: &mut Vec<u8>, version: Version) -> Result<(),
     put(out, b")]\nlibrary ")
 }
 
+/// Appends a whole tree.
 #[tactic(auto, unfolding(crate::specs::Canonical::canonical, crate::specs::Canonical::title_text))]
 fn put_tree(alloc: Global, out: &mut Vec<u8>, tree: &Tree) -> Result<(), AllocError>
     ensures { IfOk result (λ _. out.new.items ≡ out.old.items ++ canonical tree.now) }
@@ -417,8 +447,8 @@ fn put_tree(alloc: Global, out: &mut Vec<u8>, tree: &Tree) -> Result<(), AllocEr
     put(out, b"}\n")
 }
 
-/// The canonical text of a tree, one of the texts that stand for it (docs/idl.md): a line for each member, its words in one order, GUIDs
-/// in lower case and numbers decimal. An Err comes where no memory was found.
+/// Returns the canonical text of a tree, which is one of the texts with this tree (docs/reference/idl.md): a line for each member, the
+/// attributes in a fixed order, GUIDs in lower case and numbers in decimal. Err: an allocation fails.
 pub fn print(alloc: Global, tree: &Tree) -> Result<Vec<u8>, AllocError>
     ensures { IfOk result (λ text. text.items ≡ canonical tree.now) }
 {

@@ -1,4 +1,4 @@
--- The cells that a closure answered, with their indices.
+-- The elements that a closure returned, with their indices.
 use Rattle.std.proofs.Common.{◌≡◌, refl, sym, ap, subst, ◌∙◌, ℕ, zero, suc, ◌+◌, ◌-◌, ◌≤◌, ◌<◌, List, [], ◌∷◌, ◌++◌, length, arith}
 use Rattle.std.specs.Prelude.{Option, Some, None, Ok, min, slice_get}
 use Rattle.std.proofs.lemmas.List.{length-append}
@@ -25,7 +25,7 @@ slice_get_behind (x ∷ front) cells n (suc k) long le =
     slice_get_behind front cells (n - 1) k (omega (arith, more)) (omega (arith, more, le)) ∙ ap (slice_get cells) one_less
 
 module _ {S X E : Type 0} (step : S → ℕ → Result X E → S → Type 0) where
-  -- each cell is what the call at its index answered
+  -- Each element is the result of the call with its index.
   each_call : (first last : S) (from : ℕ) (cells : List X)
       → FoldsTo (λ f cell g. step f cell.0 (Ok cell.1) g) first (enumerate_from from cells) last
       → (k at : ℕ) → at ≡ from + k → (x : X) → slice_get cells k ≡ Some x → (p : S) × (q : S) × step p at (Ok x) q
@@ -39,7 +39,7 @@ module _ {S X E : Type 0} (step : S → ℕ → Result X E → S → Type 0) whe
       → slice_get cells k ≡ Some x → (p : S) × (q : S) × step p at (Ok x) q
   each_cell first from cells filled = each_call first filled.last from cells filled.calls
 
-  -- the cells behind others, by their index among all n: there are others up to `from`, if n is above it
+  -- The elements after others, by their index among all n: there are others up to `from`, if n is above it.
   pub each_behind : (first : S) (front cells : List X) (from n : ℕ) → length front ≡ min n from → length front + length cells ≡ n
       → IsFilledBy step first from cells
       → (k : ℕ) (x : X) → from ≤ k → slice_get (front ++ cells) k ≡ Some x → (p : S) × (q : S) × step p k (Ok x) q

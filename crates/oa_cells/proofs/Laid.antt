@@ -96,7 +96,7 @@ module _ {X : Type 0} where
   unwrapped d None = d
   unwrapped d (Some x) = x
 
-  -- ---- a block of len places, whose values stand from the index from on and below the index to
+  -- ---- A block of `len` places, whose values are at the indices from `from` to below `to`.
   module _ (row : List (Option X)) (from to len : ℕ) (count : from + length (values row) ≡ to) (fits : to ≤ len)
       (shape : row ≡ laid from (values row) (len - to)) where
     pub length-row : length row ≡ len

@@ -14,7 +14,7 @@ use denote.Shares.{Shares-less}
 use denote.Struct.Lending.{Lends, Lends-both, Lends-nothing, Lends-said, Lends-false}
 use Rattle.oa_cells.specs.Ownership.{place_owned, row_owned, place_lent, row_lent, bounded, places_owned, places_lent}
 
--- what a `&` shows can be copied, and used at a shorter lifetime
+-- The content of a shared reference can be copied, and used at a shorter lifetime.
 module _ (R : RattleType) (copies : RowLaws R) where
   row_laws : (block o : ℕ) (slots : List (Option R.Denot)) → ShrLaws (row_lent R block o slots)
   row_laws block o [] = nothing_shr_laws
@@ -25,7 +25,7 @@ module _ (R : RattleType) (copies : RowLaws R) where
   places_laws null_ptr slots = said_shr_laws ffalse tt
   places_laws (block_ptr block o) slots = beside_shr_laws _ _ (said_shr_laws (bounded R slots) tt) (row_laws block o slots)
 
--- a borrow of the places becomes what the `&` shows
+-- A borrow of the places becomes the content of the shared reference.
 module _ {M : Type 1} {𝓤 : Ura M} (𝓛 : Logic 𝓤) (life : Lft) (R : RattleType) (laws : Laws R) (within : Incl life R.lives) where
   place_lends : (block o : ℕ) (slot : Option R.Denot) → Lends 𝓛 (place_owned R block o slot) (place_lent R block o slot) life
   place_lends block o None = Lends-nothing 𝓛 (place_owned R block o None) life

@@ -1,22 +1,23 @@
--- A row of places whose values stand side by side.
+-- A row of places whose values are next to each other.
 use Rattle.std.specs.Prelude.{◌≡◌, ℕ, List, [], ◌∷◌, ◌++◌, map, replicate, Option, Some, None}
 
--- empty places, then values, then empty places
+-- The number of empty places, the values, and the number of empty places after them.
 pub record FilledWindow (X : Type 0) : Type 0 where
   pub before : ℕ
   pub items : List X
   pub after : ℕ
 
 module _ {X : Type 0} where
+  -- The window has these numbers of empty places and these values.
   abbrev pub IsWindow : FilledWindow X → ℕ → List X → ℕ → Type 0
   IsWindow window before items after = (window.before ≡ before) × (window.items ≡ items) × (window.after ≡ after)
 
-  -- the values of a row, in order
+  -- The values of a row, in order.
   abbrev pub values : List (Option X) → List X
   values [] = []
   values (None ∷ slots) = values slots
   values (Some x ∷ slots) = x ∷ values slots
 
-  -- the row of a window
+  -- The row of a window.
   unfoldable pub laid : ℕ → List X → ℕ → List (Option X)
   laid before items after = replicate before None ++ (map Some items ++ replicate after None)

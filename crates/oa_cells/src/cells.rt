@@ -1,4 +1,4 @@
-//! An array of cells.
+//! Arrays in one block of memory.
 ghost use Rattle.std.specs.Prelude.{◌≡◌, ℕ, ◌+◌, ◌-◌, ◌<◌, ◌≤◌, ◌⊎◌, List, ◌++◌, Some, Ok, map, length, min, take, slice_get, slice_set};
 ghost use Rattle.std.specs.Prelude.{IfOk, IfErr};
 ghost use Rattle.std.specs.Allocator.{alloc_error};
@@ -14,8 +14,8 @@ use core::mem::replace_with;
 use std::alloc::{AllocError, Global};
 use std::marker::Model;
 
-/// An array of cells in one raw block, each of which holds a value: seen as the list of its cells.
-/// Its length is fixed until `resized`. It takes two words.
+/// An array of elements in one block of memory. Contracts see it as the list of its elements. Its length changes only by `resized`. The
+/// struct has two words.
 pub struct Cells<T> {
     row: Row<T>,
     len: usize,
@@ -30,21 +30,21 @@ impl<T> Model for Cells<T> {
 }
 
 impl<T> Cells<T> {
-    /// How many cells there are.
+    /// Returns the number of elements.
     pub fn len(&self) -> usize
         ensures { result ≡ length self.now }
     {
         self.len
     }
 
-    /// All cells, in order.
+    /// Returns all elements, in order.
     pub fn as_slice(&self) -> &[T]
         ensures { result.now ≡ self.now }
     {
         self.row.first(self.len)
     }
 
-    /// The cell at an index below the length.
+    /// Returns the element at an index below the length.
     pub fn get(&self, index: usize) -> &T
         requires { index < length self.now }
         ensures { slice_get self.now index ≡ Some result.now }
@@ -52,7 +52,7 @@ impl<T> Cells<T> {
         &self.as_slice()[index]
     }
 
-    /// Puts a value into the cell at an index below the length, and hands back what was there.
+    /// Replaces the element at an index below the length, and returns the old one.
     pub fn replace(&mut self, index: usize, cell: T) -> T
         requires { index < length self.old }
         ensures was { slice_get self.old index ≡ Some result }
@@ -65,10 +65,10 @@ impl<T> Cells<T> {
 }
 
 impl<T: Drop> Cells<T> {
-    /// An array of `len` cells, filled by what `fill` answers at each index below `len` in turn.
+    /// Makes an array of `len` elements: `fill` is called with each index below `len` in turn and returns the element.
     ///
-    /// At the first error of `fill` the cells made so far are dropped, the block is freed and the error is returned.
-    /// Where there is no block for the cells, the error is made of an `AllocError`.
+    /// At the first error of `fill`, the elements made so far are dropped, the block is freed and the error is returned. If the allocation
+    /// of the block fails, the error is made from an `AllocError`.
     pub fn filled_by<E: From<AllocError>, F: FnMut(usize) -> Result<T, E>>(
         alloc: Global,
         len: usize,
@@ -88,10 +88,10 @@ impl<T: Drop> Cells<T> {
         })
     }
 
-    /// Changes the length. The first cells stay, each at its index; those beyond `len` are dropped;
-    /// new ones are what `fill` answers at each new index in turn.
+    /// Changes the length. The first elements stay, each at its index. Those from `len` on are dropped. New ones are made by `fill`, which
+    /// is called with each new index in turn.
     ///
-    /// At an error, of `fill` or made of an `AllocError`, the cells are as before, and new ones made so far are dropped.
+    /// At an error, of `fill` or made from an `AllocError`, the elements are unchanged, and new ones made so far are dropped.
     pub fn resized<E: From<AllocError>, F: FnMut(usize) -> Result<T, E>>(
         &mut self,
         len: usize,
@@ -113,8 +113,8 @@ impl<T: Drop> Cells<T> {
         Ok(())
     }
 
-    /// The first cells, as many as `part` has empty places before its values, moved into these places.
-    /// The other cells are dropped, and their block is freed.
+    /// Moves the first elements into the empty places of `part` before its values, as many as there are such places. The other elements are
+    /// dropped, and their block is freed.
     fn moved(self, mut part: Partial<T>, len: usize) -> Cells<T>
         requires { (part.before ≤ length self) × (part.after ≡ 0) × (len ≡ part.before + length part.items) }
         ensures { result ≡ take part.before self ++ part.items }
@@ -140,8 +140,8 @@ impl<T: Drop> Drop for Cells<T> {
     }
 }
 
-/// A new block of `len` places: empty ones for as many of the `kept` cells as it has room for,
-/// and behind them what `fill` answers.
+/// Makes a block of `len` places: empty ones for the first `kept` elements, or for as many of them as fit, followed by the values that
+/// `fill` returns.
 fn new_behind<T: Drop, E: From<AllocError>, F: FnMut(usize) -> Result<T, E>>(
     alloc: Global,
     kept: usize,

@@ -1,4 +1,4 @@
-//! Places that a closure fills, one after another.
+//! Fills the places of a block by a closure, one after another.
 ghost use Rattle.std.specs.Prelude.{◌≡◌, ◌+◌, ◌-◌, ◌≤◌, [], length, Ok, IfOk, IfErr};
 ghost use Rattle.std.specs.Array.{index_steps};
 ghost use Rattle.std.specs.Iterator.{CallableAtEachTurn};
@@ -7,8 +7,8 @@ ghost use Rattle.oa_cells.specs.Windows.{IsWindow};
 
 use crate::partial::Partial;
 
-/// Fills the places from `from` to `to`, the end of the block, by what `fill` answers at each of these indices in turn.
-/// At the first error the values made so far are dropped and the block is freed.
+/// Fills the places from `from` to `to`, which is the end of the block: `fill` is called with each of these indices in turn. At the first
+/// error, the values made so far are dropped and the block is freed.
 pub(crate) fn fill_to_end<T: Drop, E, F: FnMut(usize) -> Result<T, E>>(
     mut part: Partial<T>,
     from: usize,

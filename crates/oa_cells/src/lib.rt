@@ -1,10 +1,10 @@
-//! Raw memory seen as lists: a block of places, and an array of cells over it.
+//! Raw memory as lists: a block of places, and an array on top of it.
 //!
-//! Its contract: `Cells` is a list: `filled_by` fills it, `replace` changes one place, `resized` its length; no
-//! block is used outside its bounds or freed twice.
+//! Contract: `Cells` behaves as a list: `filled_by` fills it, `replace` changes one element, `resized` changes its length. No block is
+//! accessed outside its bounds or freed twice.
 //!
-//! What stands on it: oa_bstr and oa_array keep their bytes and cells in it, oa_wire_array and oa_layout fill
-//! it as they read.
+//! Used by oa_bstr and oa_array, which store their bytes and elements in it, and by oa_wire_array and oa_layout, which fill it while they
+//! decode.
 #![tactic(auto)]
 
 mod cells;

@@ -8,7 +8,7 @@ use std::marker::Model;
 
 /// A block that is being filled or emptied: empty places, then values, then empty places.
 ///
-/// It is not `Drop`: it ends in `full`, and inside this crate also in `free` or `clear`.
+/// It does not implement `Drop`: its owner must call `full`, or inside this crate `free` or `clear`.
 pub struct Partial<T> {
     row: Row<T>,
     from: usize,
@@ -29,7 +29,7 @@ impl<T> Model for Partial<T> {
 }
 
 impl<T> Partial<T> {
-    /// A new block of `len` empty places, whose values will stand from the index `at` on.
+    /// Allocates a block of `len` empty places, whose values will begin at the index `at`, at most `len`. Err: the allocation fails.
     pub fn vacant(alloc: Global, len: usize, at: usize) -> Result<Partial<T>, AllocError>
         requires { at ≤ len }
         ensures { IfOk result (λ p. IsWindow p at [] (len - at)) }
@@ -43,7 +43,7 @@ impl<T> Partial<T> {
         })
     }
 
-    /// A full block of `len` values, to be emptied.
+    /// Makes a block of a full row of `len` values, in order to empty it.
     pub(crate) fn of_full(row: Row<T>, len: usize) -> Partial<T>
         requires { (row ≡ map Some (values row)) × (len ≡ length row) }
         ensures { IsWindow result 0 (values row) 0 }
@@ -56,21 +56,21 @@ impl<T> Partial<T> {
         }
     }
 
-    /// How many values there are.
+    /// Returns the number of values.
     pub(crate) fn count(&self) -> usize
         ensures { result ≡ length self.now.items }
     {
         self.to - self.from
     }
 
-    /// How many places before the values are empty.
+    /// Returns the number of empty places before the values.
     pub(crate) fn before(&self) -> usize
         ensures { result ≡ self.now.before }
     {
         self.from
     }
 
-    /// Puts a value behind the others.
+    /// Appends a value after the others.
     pub(crate) fn push_back(&mut self, item: T)
         requires { 0 < self.old.after }
         ensures { IsWindow self.new self.old.before (self.old.items ++ item ∷ []) (self.old.after - 1) }
@@ -79,7 +79,7 @@ impl<T> Partial<T> {
         self.to += 1;
     }
 
-    /// Puts a value before the others.
+    /// Adds a value before the others.
     pub(crate) fn push_front(&mut self, item: T)
         requires { 0 < self.old.before }
         ensures { IsWindow self.new (self.old.before - 1) (item ∷ self.old.items) self.old.after }
@@ -88,7 +88,7 @@ impl<T> Partial<T> {
         self.row.put(self.from, item);
     }
 
-    /// Moves the last value out.
+    /// Removes the last value and returns it.
     pub(crate) fn pop_back(&mut self) -> T
         requires { 0 < length self.old.items }
         ensures { (self.old.items ≡ self.new.items ++ result ∷ []) × (self.new.before ≡ self.old.before)
@@ -98,7 +98,7 @@ impl<T> Partial<T> {
         self.row.take(self.to)
     }
 
-    /// The block, once it is full.
+    /// Returns the row, which is full.
     pub fn full(self) -> Row<T>
         requires { (self.before ≡ 0) × (self.after ≡ 0) }
         ensures { result ≡ map Some self.items }
@@ -112,7 +112,7 @@ impl<T> Partial<T> {
         row
     }
 
-    /// Frees the block, once it is empty.
+    /// Frees the block, which is empty.
     pub(crate) fn free(self)
         requires { self.items ≡ [] }
     {
@@ -127,7 +127,7 @@ impl<T> Partial<T> {
 }
 
 impl<T: Copy> Partial<T> {
-    /// Puts copies of these values behind the others.
+    /// Appends copies of these values after the others. As many places must be empty there.
     pub fn extend_from_slice(&mut self, items: &[T])
         requires { length items.now ≤ self.old.after }
         ensures { IsWindow self.new self.old.before (self.old.items ++ items.now) (self.old.after - length items.now) }
@@ -141,7 +141,7 @@ impl<T: Copy> Partial<T> {
 }
 
 impl<T: Drop> Partial<T> {
-    /// Drops the values beyond the first `keep`, the last one first.
+    /// Drops the values after the first `keep`, the last one first.
     pub(crate) fn shorten(&mut self, keep: usize)
         requires { keep ≤ length self.old.items }
         ensures { IsWindow self.new self.old.before (take keep self.old.items) (self.old.after + (length self.old.items - keep)) }
@@ -151,7 +151,7 @@ impl<T: Drop> Partial<T> {
         }
     }
 
-    /// Drops the values and frees the block. It has no clause, since nothing is left to speak of.
+    /// Drops the values and frees the block. It has no contract, since nothing is left to describe.
     pub(crate) fn clear(mut self) {
         self.shorten(0);
         self.free();

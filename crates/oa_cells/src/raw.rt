@@ -1,7 +1,7 @@
-//! The raw core: the only functions of this crate that touch a pointer. Each has a proof by hand.
+//! The functions of this crate that use a pointer; no others do. Each is proved by hand.
 //!
-//! A block is held by three parts, none of which can be lost or used twice: where it begins, its places,
-//! and the right to free it. All of what they know stands in ghost fields; together they take one word.
+//! Three values together own a block: its start, its places, and the right to free it. None of them can be lost or used twice. What they
+//! know is in ghost fields; at run time they take one word.
 ghost use Rattle.std.specs.Prelude.{◌≡◌, ℕ, ◌<◌, List, Option, Some, None, map, length, take, replicate, get_or, slice_set, IfOk, ⊤};
 ghost use Rattle.std.specs.Vec.Ownership.{FitsInBlock};
 ghost use base.Fml.{ftrue};
@@ -14,7 +14,7 @@ use std::marker::{Model, PhantomData};
 use std::mem::{align_of, size_of};
 use std::slice;
 
-/// Where a block begins. It owns nothing, so it may be copied.
+/// The start of a block. It owns nothing, so it may be copied.
 pub struct Start<T> {
     ptr: *mut T,
 }
@@ -31,7 +31,7 @@ impl<T> Clone for Start<T> {
 
 impl<T> Copy for Start<T> {}
 
-/// The places of a block and the values in them: `slots` says of each place whether it is empty, and else its value.
+/// The places of a block and the values in them. `slots` contains for each place None if it is empty, otherwise its value.
 pub struct Places<T> {
     mark: PhantomData<*const T>,
     ghost at: { Ptr },
@@ -44,7 +44,7 @@ impl<T> Model for Places<T> {
     ghost also_shares = { λ p _ κ. places_lent T.row p.at p.slots κ };
 }
 
-/// The right to hand the block of `len` places at `at` back to the allocator `alloc`, which gave it.
+/// The right to free the block of `len` places at `at`, which the allocator `alloc` has allocated.
 pub struct FreeRight<T, A: Allocator> {
     mark: PhantomData<*const (T, A)>,
     ghost at: { Ptr },
@@ -58,7 +58,7 @@ impl<T, A: Allocator> Model for FreeRight<T, A> {
     ghost also_shares = { λ _ _ _. ftrue };
 }
 
-/// A block of `len` empty places, by one call of the allocator.
+/// Allocates a block of `len` empty places by one call of the allocator.
 pub(crate) fn allocate<T, A: Allocator>(
     alloc: &A,
     len: usize,
@@ -82,8 +82,8 @@ pub(crate) fn allocate<T, A: Allocator>(
     }
 }
 
-/// Hands the block back in one step. Values that still stand in it are forgotten, not dropped:
-/// the callers of `Row::freed` ask that there are none, or that values of their type have nothing to drop.
+/// Frees the block in one step. Values that are still in it are forgotten, not dropped. The callers of `Row::freed` require that there are
+/// none, or that values of their type need no drop.
 pub(crate) fn release<T, A: Allocator>(
     alloc: &A,
     start: Start<T>,
@@ -102,7 +102,7 @@ pub(crate) fn release<T, A: Allocator>(
 }
 
 impl<T> Places<T> {
-    /// Puts a value into an empty place.
+    /// Writes a value into an empty place.
     pub(crate) fn write(&mut self, start: Start<T>, index: usize, item: T)
         requires { (start.ptr ≡ self.old.at) × (index < length self.old.slots) × (get_or self.old.slots index None ≡ None) }
         ensures { (self.new.at ≡ self.old.at) × (self.new.slots ≡ slice_set self.old.slots index (Some item)) }
@@ -110,7 +110,7 @@ impl<T> Places<T> {
         unsafe { start.ptr.add(index).write(item) }
     }
 
-    /// Moves a value out of its place, which is empty then.
+    /// Moves a value out of its place, which is empty afterwards.
     pub(crate) fn read(&mut self, start: Start<T>, index: usize) -> T
         requires { (start.ptr ≡ self.old.at) × HasValue self.old.slots index }
         ensures { (get_or self.old.slots index None ≡ Some result) × (self.new.at ≡ self.old.at)
@@ -119,7 +119,7 @@ impl<T> Places<T> {
         unsafe { start.ptr.add(index).read() }
     }
 
-    /// The values of the first `len` places, which are all filled.
+    /// Returns the values of the first `len` places, all of which are filled.
     pub(crate) fn first(&self, start: Start<T>, len: usize) -> &[T]
         requires { (start.ptr ≡ self.now.at) × BeginsFilled self.now.slots len }
         ensures { take len self.now.slots ≡ map Some result.now }

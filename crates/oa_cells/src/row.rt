@@ -1,4 +1,4 @@
-//! A block of memory as a list of places, with no pointer in sight.
+//! A block of memory as a list of places, without pointers.
 ghost use Rattle.std.specs.Prelude.{◌≡◌, ◌<◌, List, Option, Some, None, map, length, take, replicate, get_or, slice_set, IfOk};
 ghost use Rattle.oa_cells.specs.Places.{HasValue, BeginsFilled};
 
@@ -7,10 +7,10 @@ use std::alloc::{AllocError, Global};
 use std::marker::Model;
 use std_alloc::room::may_hold;
 
-/// A block of memory: a row of places, each empty or holding a value. It takes one word.
+/// A block of memory: a row of places, each empty or with a value. The struct has one word.
 ///
-/// A row is not `Drop`: whoever holds one has to free it, by `free_plain` where its values have nothing to drop,
-/// and else inside this crate by `free`, once each place is empty.
+/// A row does not implement `Drop`: its owner must free it, by `free_plain` if its values need no drop, or inside this crate by `free`,
+/// after each place has become empty.
 pub struct Row<T> {
     start: Start<T>,
     places: Places<T>,
@@ -28,8 +28,8 @@ impl<T> Model for Row<T> {
 }
 
 impl<T> Row<T> {
-    /// A new block of `len` empty places. `Err` where the allocator has none, or where there would be
-    /// 2 ^ 63 places or bytes, or more; the allocator is not asked then.
+    /// Allocates a block of `len` empty places. Err: the allocation fails, or the block would have 2 ^ 63 places or bytes or more; then the
+    /// allocator is not called.
     pub(crate) fn vacant(alloc: Global, len: usize) -> Result<Row<T>, AllocError>
         ensures { IfOk result (λ r. r ≡ replicate len None) }
     {
@@ -45,12 +45,12 @@ impl<T> Row<T> {
         })
     }
 
-    /// The allocator that the block is from.
+    /// Returns the allocator of the block.
     pub(crate) fn allocator(&self) -> Global {
         self.alloc
     }
 
-    /// Puts a value into an empty place.
+    /// Writes a value into an empty place.
     pub(crate) fn put(&mut self, index: usize, item: T)
         requires { (index < length self.old) × (get_or self.old index None ≡ None) }
         ensures { self.new ≡ slice_set self.old index (Some item) }
@@ -58,7 +58,7 @@ impl<T> Row<T> {
         self.places.write(self.start, index, item);
     }
 
-    /// Moves a value out of its place, which is empty then.
+    /// Moves a value out of its place, which is empty afterwards.
     pub(crate) fn take(&mut self, index: usize) -> T
         requires { HasValue self.old index }
         ensures value { get_or self.old index None ≡ Some result }
@@ -67,7 +67,7 @@ impl<T> Row<T> {
         self.places.read(self.start, index)
     }
 
-    /// The values of the first `len` places, which are all filled.
+    /// Returns the values of the first `len` places, all of which are filled.
     pub fn first(&self, len: usize) -> &[T]
         requires { BeginsFilled self.now len }
         ensures { take len self.now ≡ map Some result.now }
@@ -82,7 +82,7 @@ impl<T> Row<T> {
         self.freed(len);
     }
 
-    /// Hands the block back in one step, whatever stands in it.
+    /// Frees the block in one step, whatever is in it.
     fn freed(self, len: usize)
         requires { length self ≡ len }
     {
@@ -97,7 +97,7 @@ impl<T> Row<T> {
 }
 
 impl<T: Copy> Row<T> {
-    /// Frees the block of `len` places in one step, with the values in it, which have nothing to drop.
+    /// Frees the block of `len` places in one step, with the values in it, which need no drop.
     pub fn free_plain(self, len: usize)
         requires { length self ≡ len }
     {

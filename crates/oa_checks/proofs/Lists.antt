@@ -17,7 +17,7 @@ module _ {K : Type 0} (eq : K → K → Bool) where
   unrepeated false None none = (refl, refl)
   unrepeated false (Some n) none = absurd (cc)
 
-  -- a key that is among those before it and those of xs, where no key of xs repeats one
+  -- A key that equals one of those before it or of xs, if xs has no repeated key.
   pub repeat_here : (before xs : List K) (y : K) (zs : List K) → repeat_at eq before xs ≡ None → list_any (eq y) (before ++ xs) ≡ true → repeat_at eq before (xs ++ y ∷ zs) ≡ Some (length xs)
   unfolding repeat_at
   repeat_here before [] y zs none some =
@@ -81,7 +81,7 @@ module _ {A B : Type 0} (f : A → B) where
       let r : repeat_at e (map f before ++ f k ∷ []) (map f ks) ≡ repeat_at (λ a b. e (f a) (f b)) (before ++ k ∷ []) ks = rw map-append at rest in
       rw (list_any-map (e (f k)) before, r) refl
 
--- what is at the first place that passes a test
+-- The entry at the first place that passes a test.
 module _ {X : Type 0} (p : X → Bool) where
   pub position_finds : (xs : List X) → option_and_then (slice_get xs) (position p xs) ≡ find p xs
   position_finds xs = by (nat_lt (position_or_len p xs) (length xs)) refl

@@ -1,4 +1,4 @@
--- Loops that add to one list what each member of another gives.
+-- Loops that append to one list a result for each entry of another.
 use Rattle.std.proofs.Common.{◌≡◌, ◌<◌, ◌+◌, ℕ, List, [], ◌∷◌, ◌++◌, length, map, take, get_or, sym, ap, ◌∙◌}
 use Rattle.std.proofs.lemmas.List.{take_more, map-append}
 

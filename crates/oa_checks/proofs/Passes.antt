@@ -1,4 +1,4 @@
--- Passes over a list that stop at the first breach.
+-- Passes over a list that stop at the first error.
 use Rattle.std.proofs.Common.{◌≡◌, ◌<◌, ◌≤◌, ◌+◌, ◌-◌, ℕ, zero, suc, Bool, true, false, List, [], ◌∷◌, ◌++◌, length, map, take, drop}
 use Rattle.std.proofs.Common.{get_or, slice_get, position, Option, None, Some, Bor, Vec, Global, Result, Ok, Err, refl, sym}
 use Rattle.std.proofs.Common.{ap, subst, ◌∙◌, arith, add-one, is_some, if◌then◌else◌, IsErr, true≢false, option_copied}
@@ -22,7 +22,7 @@ use Rattle.oa_checks.specs.Libraries.{same, same_name, item_name, as_interface, 
 use Rattle.std.specs.List.{list_any}
 use Rattle.oa_checks.proofs.Lists.{list_any-map, repeat_by_place, repeat_at-map, position-map, position_finds, length-mapped}
 
--- ---- what a refusal says, made larger
+-- ---- The statement of a refusal, weakened.
 pub for_memory : {P Q : Type 0} (e : CheckError) → (P → Q) → UnlessMemory e P → UnlessMemory e Q
 for_memory (DuplicateName n) f h = f h
 for_memory (DuplicateId n) f h = f h
@@ -98,12 +98,12 @@ interface_by_place items names name e =
     let f = position_finds (λ (i : Item). same_name name (item_name i)) items in
     rw (e, p) (ap (option_and_then as_interface) (sym f))
 
--- ---- an error that `?` hands on
+-- ---- An error that `?` returns.
 pub refused : {X : Type 0} (breach : Option CheckError) (P : X → Type 0) (e : CheckError) (r : Result X CheckError) → IsErr r → IsErrAnd r (λ e'. e' ≡ e) → UnlessMemory e (breach ≡ Some e) → RefusesBreach breach P r
 refused breach P e (Ok x) is and h = absurd (true≢false (sym is))
 refused breach P e (Err e') is and h = subst (λ (d : CheckError). UnlessMemory d (breach ≡ Some d)) (sym and) h
 
--- ---- what a search for a repeated key told
+-- ---- The result of a search for a repeated key.
 module _ {K : Type 0} (eq : K → K → Bool) (keys : List K) where
   pub told_none : (d : Distinct K) → TellsDistinct eq keys d → repeat_of d ≡ None → repeat_at eq [] keys ≡ None
   told_none (All seen) h is = h.0
@@ -123,7 +123,7 @@ repeats_later eq (k ∷ ks) place is = by (repeat_at eq (k ∷ []) ks) is
     by None is = absurd (cc)
     by (Some n) is = let e : suc n ≡ place = cc in omega (arith, e)
 
--- a member behind the first one
+-- An entry after the first one.
 pub behind_first : {X Y : Type 0} (f : X → Y) (y : Y) (xs : List X) (place : ℕ) (x : X) → 1 ≤ place → place - 1 < length xs → x ≡ get_or xs (place - 1) x → f x ≡ get_or (y ∷ map f xs) place (f x)
 behind_first f y xs zero x some within is = absurd (omega (arith, some))
 behind_first f y xs (suc n) x some within is =
@@ -169,7 +169,7 @@ pub same_list : {X : Type 0} (xs : List X) → xs ≡ map (λ x. x) xs
 same_list [] = refl
 same_list (x ∷ xs) = ap (λ ys. x ∷ ys) (same_list xs)
 
--- the last kind of breach, after the others
+-- The last kind of error, after the others.
 pub breach_before : {X : Type 0} (a b : Option X) (x : X) → a ≡ Some x → option_or a b ≡ Some x
 breach_before a b x is = rw is refl
 

@@ -23,7 +23,7 @@ use Rattle.oa_checks.specs.declared.member_checks.Rule.{Rule}
 use Rattle.oa_checks.specs.declared.member_checks.Rule.TheVariants as rules
 use Rattle.oa_checks.proofs.Walks.{Keeps_it, keeps_more, told_by_last, none_passes, last_within, place_at, length-places}
 
--- ---- what is compared is the same or not
+-- ---- Comparisons of declarations are symmetric and transitive.
 
 literal_congr : (x y z : Literal) → same_literal x y ≡ true → same_literal x z ≡ same_literal y z
 literal_congr (literals.Number a) (literals.Number b) (literals.Number c) e = int_eq_equiv.congr a b c e

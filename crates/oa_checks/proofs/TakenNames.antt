@@ -1,4 +1,4 @@
--- The names that declarations take.
+-- The names that declarations occupy.
 use Rattle.std.proofs.Common.{◌≡◌, ◌<◌, ◌+◌, ℕ, Bool, true, false, not, cond, ◌&&◌, ◌||◌, if◌then◌else◌}
 use Rattle.std.proofs.Common.{List, [], ◌∷◌, ◌++◌, length, map, take, get_or, Some, refl, sym, ap, ◌∙◌}
 use Rattle.std.proofs.lemmas.List.{take_more}
@@ -32,7 +32,7 @@ appended takes (x ∷ xs) ys = by (takes x.kind) (appended takes xs ys)
 pub taken_more : (takes : DeclarationKind → Bool) (ds : List DeclarationValue) (i : ℕ) (d : DeclarationValue) → i < length ds → d ≡ get_or ds i d → names_taken takes (take (i + 1) ds) ≡ names_taken takes (take i ds) ++ names_taken takes (d ∷ [])
 taken_more takes ds i d h is = ap (names_taken takes) (take_more ds i d h) ∙ appended takes (take i ds) (get_or ds i d ∷ []) ∙ ap (λ e. names_taken takes (take i ds) ++ names_taken takes (e ∷ [])) (sym is)
 
--- ---- what clashes is taken
+-- ---- A name that clashes is occupied.
 
 either_taken : (k : DeclarationKind) → true ≡ (takes_reading k || takes_setting k)
 either_taken kinds.Property = refl
@@ -62,7 +62,8 @@ both_take kinds.Method k = either_taken k
 both_take kinds.Get k = by_get k
 both_take kinds.Put k = by_put k
 
--- t: the names are equal; a, b: the later declaration takes its name for reading, for setting; r, s: the earlier; m, n: one before it has
+-- t: the names are equal; a, b: the later declaration occupies its name for reading, for setting; r, s: so does the
+-- earlier one; m, n: one before it does.
 joined : (t a b r s m n : Bool) → ((t && ((a && r) || (b && s))) || ((a && m) || (b && n))) ≡ ((a && (cond r (t || m) m)) || (b && (cond s (t || n) n)))
 joined true true true true true m n = refl
 joined true true true true false m n = refl

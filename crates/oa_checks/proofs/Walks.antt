@@ -63,7 +63,7 @@ at_here x y ys n z is = is ∙ ap (λ k. get_or (y ∷ ys) k x) z
 at_there : {X : Type 0} (x y : X) (ys : List X) (n m : ℕ) → n ≡ suc m → x ≡ get_or (y ∷ ys) n x → x ≡ get_or ys m x
 at_there x y ys n m z is = is ∙ ap (λ k. get_or (y ∷ ys) k x) z
 
--- what is there
+-- The place is inside the list.
 pub last_within : {X : Type 0} (test : X → Bool) (xs : List X) (n : ℕ) → last_place test xs ≡ Some n → n < length xs
 unfolding last_place
 last_within test [] n e = absurd (cc)
@@ -170,7 +170,7 @@ module _ {X : Type 0} (s r : X → X → Bool) where
       let h = neither (breaks_it d x) (list_any (breaks_it d) xs) none in
       (all_more (λ y. breaks_it y x ≡ false) xs d k.0 h.0, keeps_more xs d k.1 h.1)
 
-  -- members that are alike and keep it are told apart from others alike
+  -- Entries that are alike and satisfy the rule agree in their comparison with others that are alike.
   carried : IsEquivalence s → IsEquivalence r → (d x e : X) → s d x ≡ true → breaks_it d x ≡ false → breaks_it x e ≡ false → breaks_it d e ≡ false
   carried es er d x e alike kept before =
       rw (es.congr d x e alike, er.congr d x e (not_both (s d x) (r d x) kept alike)) before
@@ -180,7 +180,7 @@ module _ {X : Type 0} (s r : X → X → Bool) where
   same_or true false h = absurd (true≢false (h refl))
   same_or false c h = refl
 
-  -- whether one is broken is told by the last member that is alike
+  -- The last entry that is alike decides whether one violates the rule.
   pub told_by_last : IsEquivalence s → IsEquivalence r → (d : X) (xs : List X) (n : ℕ) (x : X) → Keeps_it xs → last_place (λ e. s e d) xs ≡ Some n → x ≡ get_or xs n x → list_any (breaks_it d) xs ≡ breaks_it d x
   unfolding last_place
   told_by_last es er d [] n x k e is = absurd (cc)

@@ -1,4 +1,4 @@
--- The value of a parameter's default, by the parameter's type (this project's choice).
+-- The value of a parameter's default, in the parameter's type (this project's choice).
 use Rattle.std.specs.Prelude.{ℕ, ℤ, pos, negsuc, Bool, true, false, nat_lt, nat_le, ◌*ℤ◌, ◌^◌}
 use Rattle.std.specs.Prelude.{unsigned_abs, if◌then◌else◌, List, [], ◌∷◌, length, map, Option, Some, None}
 use Rattle.std.specs.Int.{is_negative}
@@ -15,24 +15,24 @@ use Rattle.oa_idl.specs.declared.parts.Literal.TheVariants as literals
 use Rattle.oa_idl.specs.declared.parts.Parameter.{Parameter}
 use Rattle.oa_checks.specs.DeclarationValues.{DeclarationValue}
 
--- a number from 0 to below a bound
+-- The number, if it is from 0 to below the bound.
 abbrev pub natural : ℕ → ℤ → Option ℕ
 natural bound (pos n) = if nat_lt n bound then Some n else None
 natural bound (negsuc n) = None
 
--- a number from minus a bound to below the bound
+-- The number, if it is from minus the bound to below the bound.
 abbrev pub whole : ℕ → ℤ → Option ℤ
 whole bound (pos n) = if nat_lt n bound then Some (pos n) else None
 whole bound (negsuc n) = if nat_lt n bound then Some (negsuc n) else None
 
--- a whole number of fewer than 97 bits, with scale 0; zero is positive
+-- The DECIMAL of scale 0 with this value, if its magnitude is below 2^96. Zero has no minus sign.
 abbrev pub decimal_from : ℤ → Option DecimalValue
 decimal_from z =
     if nat_lt (unsigned_abs z) (2 ^ 96)
     then Some (record { negative = is_negative z; scale = 0; magnitude = unsigned_abs z })
     else None
 
--- a number as a value of a type
+-- A number as a value of a type; None if the type has no such value.
 unfoldable pub number_as : VarType → ℤ → Option Scalar
 number_as types.I1 z = option_map scalars.I1 (whole 128 z)
 number_as types.I2 z = option_map scalars.I2 (whole 32768 z)
@@ -50,40 +50,43 @@ number_as types.Decimal z = option_map scalars.Decimal (decimal_from z)
 number_as types.Variant z = option_map scalars.I4 (whole 2147483648 z)
 number_as t z = None
 
--- ASCII characters as 16-bit units, low byte first
+-- ASCII characters as 16-bit units, low byte first.
 unfoldable pub wide : List ℕ → List ℕ
 wide [] = []
 wide (c ∷ cs) = c ∷ 0 ∷ wide cs
 
+-- A string can be a default of this type.
 abbrev pub holds_texts : VarType → Bool
 holds_texts types.Bstr = true
 holds_texts types.Variant = true
 holds_texts t = false
 
--- at most 131,072 characters, so 262,144 bytes
+-- A string as a value of a type. It has at most 131,072 characters, which are 262,144 bytes.
 abbrev pub text_as : VarType → List ℕ → Option Scalar
 text_as t cs = if holds_texts t then (if nat_le (length cs) 131072 then Some (scalars.Bstr (Some (wide cs))) else None)
     else None
 
+-- `TRUE` or `FALSE` can be a default of this type.
 abbrev pub holds_truths : VarType → Bool
 holds_truths types.Bool = true
 holds_truths types.Variant = true
 holds_truths t = false
 
+-- A truth value as a value of a type.
 abbrev pub truth_as : VarType → Bool → Option Scalar
 truth_as t b = if holds_truths t then Some (scalars.Bool b) else None
 
--- no array has a default
+-- A default as a value of the parameter's type. A parameter of an array type has no default.
 abbrev pub default_of : ValueType → Literal → Option Scalar
 default_of (values.One t) (literals.Number z) = number_as t z
 default_of (values.One t) (literals.Text cs) = text_as t cs
 default_of (values.One t) (literals.Bool b) = truth_as t b
 default_of (values.Array t) l = None
 
--- the value of a parameter's default; None where it has no default, or none of its type
+-- The value of a parameter's default; None if it has no default, or if its type has no such value.
 abbrev pub default_value : Parameter → Option Scalar
 default_value p = option_and_then (default_of p.value_type) p.default
 
--- the values of the defaults of a declaration's parameters
+-- The values of the defaults of a declaration's parameters.
 abbrev pub defaults_of : DeclarationValue → List (Option Scalar)
 defaults_of d = map default_value d.parameters

@@ -5,8 +5,8 @@ use Rattle.oa_idl.specs.Trees.{TreeValue}
 use Rattle.oa_checks.specs.Breaches.{first_breach}
 use Rattle.oa_checks.specs.Libraries.{marked}
 
--- The text stands for a tree that breaks none of the checks, and the library is what the tree says, with its defaults
--- marked.
+-- The text encodes a tree that passes all checks, and the library is this tree with one default interface marked in
+-- each coclass.
 pub record IsLibrary (text : List ℕ) (library : TreeValue) : Type 0 where
   pub tree : TreeValue
   pub stands : IsTree text tree

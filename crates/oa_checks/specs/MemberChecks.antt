@@ -11,20 +11,21 @@ use Rattle.oa_checks.specs.declared.member_checks.MemberCheck.TheVariants as che
 use Rattle.oa_checks.specs.declared.member_checks.Rule.{Rule}
 use Rattle.oa_checks.specs.declared.member_checks.Rule.TheVariants as rules
 
--- a rule is for declarations that are alike
+-- The rule applies to these two declarations.
 abbrev pub alike : Rule → DeclarationValue → DeclarationValue → Bool
 alike rules.OneMember d e = int_eq d.id e.id
 alike rules.Agreement d e = same_name d.name e.name
 
--- and asks this of them
+-- The two declarations satisfy the rule.
 abbrev pub suits : Rule → DeclarationValue → DeclarationValue → Bool
 suits rules.OneMember d e = same_name d.name e.name
 suits rules.Agreement d e = agree d e
 
+-- The rule applies to the two declarations, and they violate it.
 abbrev pub breaks : Rule → DeclarationValue → DeclarationValue → Bool
 breaks rule d e = alike rule d e && not (suits rule d e)
 
--- whether a declaration breaks a rule with the one at a place of a list
+-- The declaration violates a rule together with another one, or with the one at a place of a list.
 abbrev pub broken_with : Rule → DeclarationValue → Option DeclarationValue → Bool
 broken_with rule d None = false
 broken_with rule d (Some e) = breaks rule d e
@@ -33,6 +34,7 @@ abbrev pub broken_at : Rule → List DeclarationValue → DeclarationValue → O
 broken_at rule all d None = false
 broken_at rule all d (Some n) = broken_with rule d (slice_get all n)
 
+-- The name that a check of an interface's declarations finds first.
 abbrev pub breach_by : MemberCheck → List DeclarationValue → Option (List ℕ)
 breach_by checks.Ids = first_broken shares_id
 breach_by checks.Forms = first_broken disagrees

@@ -1,4 +1,4 @@
-//! When the get and the put of a property agree.
+//! The agreement of the get and the put of a property.
 ghost use Rattle.std.specs.Prelude.{◌≡◌};
 ghost use Rattle.std.specs.Cmp.Lexicographic.{pointwise};
 ghost use Rattle.oa_checks.specs.Agreement.{same_value_type, same_result, same_literal, same_default, is_optional, same_parameter, agree};
@@ -8,20 +8,21 @@ use crate::declaration::Declaration;
 use oa_idl::{Literal, Name, Parameter};
 use oa_model::ValueType;
 
-/// Whether two names are equal, A to Z folded.
+/// Returns whether two names are equal without regard to the case of A to Z.
 pub fn is_same_name(a: &Name, b: &Name) -> bool
     ensures { result ≡ same_name a.now b.now }
 {
     a.as_bytes().eq_ignore_ascii_case(b.as_bytes())
 }
 
+/// Returns whether two types are equal.
 fn same_type(a: ValueType, b: ValueType) -> bool
     ensures { result ≡ same_value_type a b }
 {
     a.vt() == b.vt()
 }
 
-/// Whether two results are the same: none, or of one type.
+/// Returns whether both are None, or both are the same type.
 pub fn same_result(a: Option<ValueType>, b: Option<ValueType>) -> bool
     ensures { result ≡ same_result a b }
 {
@@ -32,6 +33,7 @@ pub fn same_result(a: Option<ValueType>, b: Option<ValueType>) -> bool
     }
 }
 
+/// Returns whether two defaults are the same number, text or truth value.
 fn same_literal(a: &Literal, b: &Literal) -> bool
     ensures { result ≡ same_literal a.now b.now }
 {
@@ -43,6 +45,7 @@ fn same_literal(a: &Literal, b: &Literal) -> bool
     }
 }
 
+/// Returns whether both have no default, or the same one.
 fn same_default(a: &Option<Literal>, b: &Option<Literal>) -> bool
     ensures { result ≡ same_default a.now b.now }
 {
@@ -53,13 +56,14 @@ fn same_default(a: &Option<Literal>, b: &Option<Literal>) -> bool
     }
 }
 
-/// Whether it may be left out: it is optional, or it has a default.
+/// Returns whether a call may omit the parameter: it is declared `optional`, or it has a default.
 pub fn is_optional(parameter: &Parameter) -> bool
     ensures { result ≡ is_optional parameter.now }
 {
     parameter.is_optional || parameter.default.is_some()
 }
 
+/// Returns whether two parameters agree, as `same_parameters` says.
 #[tactic(auto, unfolding(crate::specs::Agreement::same_parameter))]
 fn same_parameter(a: &Parameter, b: &Parameter) -> bool
     ensures { result ≡ same_parameter a.now b.now }
@@ -71,8 +75,8 @@ fn same_parameter(a: &Parameter, b: &Parameter) -> bool
         && same_default(&a.default, &b.default)
 }
 
-/// Whether two lists of parameters are of one length and each two agree: in name with A to Z folded, type, direction, default, and
-/// whether it may be left out.
+/// Returns whether two lists of parameters have the same length and agree one by one: in the name without regard to the case of A to Z, the
+/// type, `in`, the default, and whether a call may omit the parameter.
 pub fn same_parameters(a: &[Parameter], b: &[Parameter]) -> bool
     ensures { result ≡ pointwise same_parameter a.now b.now }
 {
@@ -87,7 +91,7 @@ pub fn same_parameters(a: &[Parameter], b: &[Parameter]) -> bool
     true
 }
 
-/// Whether a get and a put agree in DISPID, type of what the property holds, and parameters.
+/// Returns whether a get and a put agree: in the DISPID, the type of the property's value, and the parameters.
 #[tactic(auto, unfolding(crate::specs::Agreement::agree))]
 pub(crate) fn agree(a: &Declaration<'_>, b: &Declaration<'_>) -> bool
     ensures { result ≡ agree a.now b.now }

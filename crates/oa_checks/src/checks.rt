@@ -1,4 +1,4 @@
-//! The passes of `check`, one for each kind of breach.
+//! The passes of `check_tree`, one for each kind of error.
 ghost use Rattle.std.specs.Prelude.{◌≡◌, ◌++◌, ◌∷◌, [], IfOk, is_some, map};
 ghost use Rattle.std.specs.Option.{option_map, option_or};
 ghost use Rattle.oa_model.specs.Folding.{folded_name};
@@ -26,7 +26,7 @@ use oa_idl::{Coclass, Entry, Interface, Item, Name, Parameter, Tree};
 use std::alloc::{AllocError, Global};
 use uuid::Uuid;
 
-/// An item's name.
+/// Returns the name of an item.
 pub fn item_name(item: &Item) -> &Name
     ensures { result.now ≡ item_name item.now }
 {
@@ -36,6 +36,7 @@ pub fn item_name(item: &Item) -> &Name
     }
 }
 
+/// Returns the GUID of an item.
 pub(crate) fn item_guid(item: &Item) -> Uuid
     ensures { result ≡ item_guid item.now }
 {
@@ -45,7 +46,7 @@ pub(crate) fn item_guid(item: &Item) -> Uuid
     }
 }
 
-/// The names of interfaces that a coclass's entries give, in their order. Err where memory is refused.
+/// Returns the names in a coclass's entries, in their order. Err: an allocation fails.
 pub fn entry_names(alloc: Global, entries: &[Entry]) -> Result<Vec<&Name>, AllocError>
     ensures { IfOk result (λ v. map (λ n. n.now) v.items ≡ map (λ e. e.interface) entries.now) }
 {
@@ -56,6 +57,7 @@ pub fn entry_names(alloc: Global, entries: &[Entry]) -> Result<Vec<&Name>, Alloc
     Ok(names)
 }
 
+/// Returns the names of parameters.
 fn parameter_names(alloc: Global, parameters: &[Parameter]) -> Result<Vec<&Name>, AllocError>
     ensures { IfOk result (λ v. map (λ n. n.now) v.items ≡ map (λ p. p.name) parameters.now) }
 {
@@ -66,6 +68,7 @@ fn parameter_names(alloc: Global, parameters: &[Parameter]) -> Result<Vec<&Name>
     Ok(names)
 }
 
+/// Folds each name.
 fn all_folded(alloc: Global, names: &[&Name]) -> Result<Vec<Vec<u16>>, AllocError>
     ensures { IfOk result (λ v. map (λ k. k.items) v.items ≡ map (λ n. folded_name n.now) names.now) }
 {
@@ -76,7 +79,7 @@ fn all_folded(alloc: Global, names: &[&Name]) -> Result<Vec<Vec<u16>>, AllocErro
     Ok(keys)
 }
 
-/// The first name that repeats one before it.
+/// Returns the first name that equals one before it.
 fn first_repeated<'a>(alloc: Global, names: &[&'a Name]) -> Result<Option<&'a Name>, AllocError>
     ensures { IfOk result (λ r. option_map (λ n. n.now) r ≡ repeated_name (map (λ n. n.now) names.now)) }
 {
@@ -87,7 +90,7 @@ fn first_repeated<'a>(alloc: Global, names: &[&'a Name]) -> Result<Option<&'a Na
     Ok(Some(names[place]))
 }
 
-/// Refuses names of which one repeats one before it.
+/// Fails with `DuplicateName` if a name equals one before it.
 fn check_repeated(alloc: Global, names: &[&Name]) -> Result<(), CheckError>
     ensures { RefusesBreach (option_map DuplicateName (repeated_name (map (λ n. n.now) names.now))) (λ _. Unit {0}) result }
 {
@@ -97,7 +100,7 @@ fn check_repeated(alloc: Global, names: &[&Name]) -> Result<(), CheckError>
     }
 }
 
-/// Adds a declaration's name to those of the declarations before it.
+/// Adds the name of a declaration to those of the declarations before it, and checks the names of its parameters.
 fn admit_declaration(
     alloc: Global,
     taken: &mut Taken,
@@ -114,6 +117,7 @@ fn admit_declaration(
     check_repeated(alloc, names.as_slice())
 }
 
+/// Checks the names of an interface's declarations.
 fn check_declared(alloc: Global, all: &[Declaration<'_>]) -> Result<(), CheckError>
     ensures { RefusesBreach (option_map DuplicateName (first_after declared_breach [] all.now)) (λ _. Unit {0}) result }
 {
@@ -124,6 +128,7 @@ fn check_declared(alloc: Global, all: &[Declaration<'_>]) -> Result<(), CheckErr
     Ok(())
 }
 
+/// Checks the names of an interface's declarations and their parameters.
 fn check_interface_names(alloc: Global, interface: &Interface) -> Result<(), CheckError>
     ensures { RefusesBreach (option_map DuplicateName (first_after declared_breach [] (declarations interface.now))) (λ _. Unit {0}) result }
 {
@@ -131,6 +136,7 @@ fn check_interface_names(alloc: Global, interface: &Interface) -> Result<(), Che
     check_declared(alloc, all.as_slice())
 }
 
+/// Checks that no two entries of a coclass have the same name.
 fn check_coclass_names(alloc: Global, class: &Coclass) -> Result<(), CheckError>
     ensures { RefusesBreach (option_map DuplicateName (repeated_name (map (λ e. e.interface) class.now.entries))) (λ _. Unit {0}) result }
 {
@@ -138,6 +144,7 @@ fn check_coclass_names(alloc: Global, class: &Coclass) -> Result<(), CheckError>
     check_repeated(alloc, names.as_slice())
 }
 
+/// Checks the names inside an item.
 fn check_inner_names(alloc: Global, item: &Item) -> Result<(), CheckError>
     ensures { RefusesBreach (option_map DuplicateName (inner_breach item.now)) (λ _. Unit {0}) result }
 {
@@ -147,7 +154,7 @@ fn check_inner_names(alloc: Global, item: &Item) -> Result<(), CheckError>
     }
 }
 
-/// Adds an item's name to those of the items before it.
+/// Adds the name of an item to those of the items before it, and checks the names inside it.
 fn admit(alloc: Global, seen: &mut FoldedNames, item: &Item) -> Result<(), CheckError>
     ensures refuses { RefusesBreach (option_map DuplicateName (repeated_in seen.old item.now))
         (λ _. seen.new ≡ seen.old ++ folded_name (item_name item.now) ∷ []) result }
@@ -159,7 +166,7 @@ fn admit(alloc: Global, seen: &mut FoldedNames, item: &Item) -> Result<(), Check
     check_inner_names(alloc, item)
 }
 
-/// The items' names, which differ, as do the names inside each.
+/// Checks that no two items have the same name, and the names inside each; returns the items' folded names.
 fn check_names(alloc: Global, items: &[Item]) -> Result<FoldedNames, CheckError>
     ensures { RefusesBreach (option_map DuplicateName (name_breach items.now)) (λ names. names ≡ folded_names items.now) result }
 {
@@ -170,7 +177,7 @@ fn check_names(alloc: Global, items: &[Item]) -> Result<FoldedNames, CheckError>
     Ok(seen)
 }
 
-/// No two members of an interface have one DISPID.
+/// Checks that no two members of an interface have the same DISPID.
 fn check_ids(alloc: Global, items: &[Item]) -> Result<(), CheckError>
     ensures { RefusesBreach (option_map DuplicateId (id_breach items.now)) (λ _. Unit {0}) result }
 {
@@ -180,6 +187,7 @@ fn check_ids(alloc: Global, items: &[Item]) -> Result<(), CheckError>
     }
 }
 
+/// Returns the library's GUID followed by those of the items.
 fn all_guids(alloc: Global, library: Uuid, items: &[Item]) -> Result<Vec<Uuid>, AllocError>
     ensures { IfOk result (λ v. v.items ≡ library ∷ map item_guid items.now) }
 {
@@ -191,7 +199,7 @@ fn all_guids(alloc: Global, library: Uuid, items: &[Item]) -> Result<Vec<Uuid>, 
     Ok(guids)
 }
 
-/// The items' GUIDs, which differ from each other and from the library's.
+/// Checks that no two items have the same GUID, and none has the library's; returns the items' GUIDs.
 fn check_guids(alloc: Global, library: Uuid, items: &[Item]) -> Result<Guids, CheckError>
     ensures { RefusesBreach (option_map DuplicateGuid (guid_breach library items.now)) (λ guids. guids ≡ map item_guid items.now) result }
 {
@@ -200,12 +208,12 @@ fn check_guids(alloc: Global, library: Uuid, items: &[Item]) -> Result<Guids, Ch
             let _ = set.shift_remove_index(0);
             Ok(Guids::from_set(set))
         }
-        // The library's stands first, and repeats none.
+        // The library's GUID is the first, so it equals none before it.
         Distinct::Repeat(place) => Err(CheckError::DuplicateGuid(item_guid(&items[place - 1]))),
     }
 }
 
-/// Whether an item of that name is an interface.
+/// Returns whether an item of that name is an interface.
 fn is_interface(
     alloc: Global,
     names: &FoldedNames,
@@ -221,6 +229,7 @@ fn is_interface(
     Ok(interface_at(items, place).is_some())
 }
 
+/// Checks that each entry names an interface.
 fn check_entries(
     alloc: Global,
     names: &FoldedNames,
@@ -238,6 +247,7 @@ fn check_entries(
     Ok(())
 }
 
+/// Checks the entries of an item, if it is a coclass.
 fn check_item(
     alloc: Global,
     names: &FoldedNames,
@@ -253,7 +263,7 @@ fn check_item(
     }
 }
 
-/// Each entry of a coclass names an interface.
+/// Checks that each entry of each coclass names an interface.
 fn check_interfaces(alloc: Global, names: &FoldedNames, items: &[Item]) -> Result<(), CheckError>
     requires { names.now ≡ folded_names items.now }
     ensures { RefusesBreach (option_map UnknownInterface (interface_breach items.now)) (λ _. Unit {0}) result }
@@ -264,7 +274,7 @@ fn check_interfaces(alloc: Global, names: &FoldedNames, items: &[Item]) -> Resul
     Ok(())
 }
 
-/// The get and the put of each property agree.
+/// Checks that the get and the put of each property agree.
 fn check_forms(alloc: Global, items: &[Item]) -> Result<(), CheckError>
     ensures { RefusesBreach (option_map GetPutDisagree (form_breach items.now)) (λ _. Unit {0}) result }
 {
@@ -274,7 +284,7 @@ fn check_forms(alloc: Global, items: &[Item]) -> Result<(), CheckError>
     }
 }
 
-/// No parameter of a property is an array.
+/// Checks that no parameter of a property is an array.
 fn check_arrays(alloc: Global, items: &[Item]) -> Result<(), CheckError>
     ensures { RefusesBreach (option_map ArrayParameter (array_breach items.now)) (λ _. Unit {0}) result }
 {
@@ -284,7 +294,7 @@ fn check_arrays(alloc: Global, items: &[Item]) -> Result<(), CheckError>
     }
 }
 
-/// Each default has a value of its parameter's type, and no new value has one.
+/// Checks that each default has a value of its parameter's type, and that no new value of a put has a default or is optional.
 fn check_defaults(alloc: Global, items: &[Item]) -> Result<(), CheckError>
     ensures { RefusesBreach (option_map BadDefault (default_breach items.now)) (λ _. Unit {0}) result }
 {
@@ -294,7 +304,7 @@ fn check_defaults(alloc: Global, items: &[Item]) -> Result<(), CheckError>
     }
 }
 
-/// The forms of properties and the parameters, after names, DISPIDs and interfaces.
+/// Checks the gets and puts of properties and the parameters. Runs after the checks of names, DISPIDs and interfaces.
 fn check_form_kinds(alloc: Global, items: &[Item]) -> Result<(), CheckError>
     ensures { RefusesBreach (form_breaches items.now) (λ _. Unit {0}) result }
 {
@@ -304,16 +314,16 @@ fn check_form_kinds(alloc: Global, items: &[Item]) -> Result<(), CheckError>
     Ok(())
 }
 
-/// What the checks of a tree leave: its items' names and GUIDs, by their places.
+/// The names and GUIDs of a tree's items by their places, which a successful check returns.
 #[derive(Drop)]
 pub struct Checked {
-    /// The names, folded.
+    /// The folded names.
     pub names: FoldedNames,
-    /// The GUIDs, without the library's.
+    /// The GUIDs of the items, without the library's.
     pub guids: Guids,
 }
 
-/// Names, DISPIDs and GUIDs.
+/// Checks names, DISPIDs and GUIDs.
 fn check_keys(alloc: Global, tree: &Tree) -> Result<Checked, CheckError>
     ensures { RefusesBreach (key_breaches tree.now)
         (λ c. (c.names ≡ folded_names tree.now.items) × (c.guids ≡ map item_guid tree.now.items)) result }
@@ -325,7 +335,7 @@ fn check_keys(alloc: Global, tree: &Tree) -> Result<Checked, CheckError>
     Ok(Checked { names, guids })
 }
 
-/// The entries of coclasses, the forms of properties and the parameters, after the names of all items.
+/// Checks the entries of coclasses, the gets and puts of properties, and the parameters. Runs after the check of names.
 fn check_contents(alloc: Global, tree: &Tree, names: &FoldedNames) -> Result<(), CheckError>
     requires { names.now ≡ folded_names tree.now.items }
     ensures { RefusesBreach (option_or (option_map UnknownInterface (interface_breach tree.now.items)) (form_breaches tree.now.items))
@@ -336,7 +346,8 @@ fn check_contents(alloc: Global, tree: &Tree, names: &FoldedNames) -> Result<(),
     check_form_kinds(alloc, items)
 }
 
-/// All checks of a tree but that of its text's length, in their order. Err names the first breach, never `TextTooLong`, or is `Memory`.
+/// Runs all checks of a tree in their order, except that of its text's length. Err contains the first error, which is never `TextTooLong`,
+/// or `Memory` if an allocation fails.
 pub fn check_tree(alloc: Global, tree: &Tree) -> Result<Checked, CheckError>
     ensures { RefusesBreach (tree_breach tree.now)
         (λ c. (c.names ≡ folded_names tree.now.items) × (c.guids ≡ map item_guid tree.now.items)) result }

@@ -1,4 +1,4 @@
-//! What an interface declares.
+//! The declarations of an interface.
 ghost use Rattle.std.specs.Prelude.{◌≡◌, ◌++◌, IfOk, OnOk, map, option_copied};
 ghost use Rattle.oa_checks.specs.Declarations.{kind_of_property, kind_of_method, of_property, of_method, declarations};
 ghost use Rattle.oa_checks.specs.Declarations.{is_put, is_form, own_parameters, new_value, type_of_value};
@@ -11,22 +11,23 @@ use oa_variant::Scalar;
 use std::alloc::{AllocError, Global};
 use std::marker::Model;
 
-/// What a declaration declares (MS-OAUT sections 2.2.14 and 2.2.18: INVOKEKIND, VARFLAG_FREADONLY).
+/// The kind of a declaration (MS-OAUT sections 2.2.14 and 2.2.18: INVOKEKIND, VARFLAG_FREADONLY).
 #[derive(Clone, Copy, Debug, PartialEq, Eq)]
 pub enum DeclarationKind {
     /// A property of `properties:` that can be read and set.
     Property,
-    /// A property of `properties:` that can be read.
+    /// A property of `properties:` that can only be read.
     ReadonlyProperty,
     /// A method.
     Method,
-    /// The get form of a property.
+    /// The get of a property.
     Get,
-    /// The put form of a property. Its last parameter is the new value.
+    /// The put of a property. Its last parameter is the new value.
     Put,
 }
 
 impl DeclarationKind {
+    /// Returns the kind of a property of `properties:`.
     fn of_property(readonly: bool) -> DeclarationKind
         ensures { result ≡ kind_of_property readonly }
     {
@@ -37,6 +38,7 @@ impl DeclarationKind {
         }
     }
 
+    /// Returns the kind of a member of `methods:`.
     fn of_method(kind: MethodKind) -> DeclarationKind
         ensures { result ≡ kind_of_method kind }
     {
@@ -47,14 +49,14 @@ impl DeclarationKind {
         }
     }
 
-    /// Whether it is a put.
+    /// Returns whether it is a put.
     pub fn is_put(self) -> bool
         ensures { result ≡ is_put self }
     {
         matches!(self, DeclarationKind::Put)
     }
 
-    /// Whether it is a get or a put.
+    /// Returns whether it is a get or a put.
     pub(crate) fn is_form(self) -> bool
         ensures { result ≡ is_form self }
     {
@@ -62,18 +64,18 @@ impl DeclarationKind {
     }
 }
 
-/// One thing that an interface declares: a property of `properties:`, or a method, a get or a put of `methods:`.
+/// A declaration of an interface: a property of `properties:`, or a method, a get or a put of `methods:`.
 #[derive(Drop)]
 pub struct Declaration<'a> {
-    /// Its DISPID.
+    /// The DISPID.
     pub id: i32,
-    /// Its name, as written.
+    /// The name, spelled as in the text.
     pub name: &'a Name,
-    /// What it declares.
+    /// The kind.
     pub kind: DeclarationKind,
-    /// As written; None is void.
+    /// The type in the text; None is void.
     pub value_type: Option<ValueType>,
-    /// As written, so with the new value of a put, the last.
+    /// The parameters in the text. The last one of a put is the new value.
     pub parameters: &'a [Parameter],
 }
 
@@ -86,7 +88,7 @@ impl<'a> Model for Declaration<'a> {
 }
 
 impl<'a> Declaration<'a> {
-    /// What a property of `properties:` declares: itself, with no parameter.
+    /// Makes the declaration of a property of `properties:`, which has no parameters.
     pub fn of_property(property: &'a Property) -> Declaration<'a>
         ensures { result ≡ of_property property.now }
     {
@@ -99,7 +101,7 @@ impl<'a> Declaration<'a> {
         }
     }
 
-    /// What a method, a get or a put of `methods:` declares: itself.
+    /// Makes the declaration of a method, a get or a put of `methods:`.
     pub fn of_method(method: &'a Method) -> Declaration<'a>
         ensures { result ≡ of_method method.now }
     {
@@ -112,7 +114,7 @@ impl<'a> Declaration<'a> {
         }
     }
 
-    /// Its parameters without the new value of a put.
+    /// Returns the parameters without the new value of a put.
     pub fn own_parameters(&self) -> &'a [Parameter]
         ensures { result.now ≡ own_parameters self.now }
     {
@@ -123,7 +125,7 @@ impl<'a> Declaration<'a> {
         }
     }
 
-    /// The values of its parameters' defaults without that of a put's new value.
+    /// Returns those of the values of the parameters' defaults that belong to `own_parameters`.
     pub fn own_values<'b>(&self, defaults: &'b [Option<Scalar>]) -> &'b [Option<Scalar>]
         requires { defaults.now ≡ defaults_of self.now }
         ensures { result.now ≡ map default_value (own_parameters self.now) }
@@ -135,7 +137,7 @@ impl<'a> Declaration<'a> {
         }
     }
 
-    /// The new value of a put, its last parameter.
+    /// Returns the new value of a put, its last parameter; None if it is no put.
     pub(crate) fn new_value(&self) -> Option<&'a Parameter>
         ensures { option_copied result ≡ new_value self.now }
     {
@@ -146,7 +148,7 @@ impl<'a> Declaration<'a> {
         }
     }
 
-    /// The type of what a property holds, of a put that of its new value; or the type of a method's result.
+    /// Returns the type of the property's value, which of a put is the type of its new value; or the type of a method's result.
     pub fn type_of_value(&self) -> Option<ValueType>
         ensures { result ≡ type_of_value self.now }
     {
@@ -158,6 +160,7 @@ impl<'a> Declaration<'a> {
     }
 }
 
+/// Returns the declarations of the section `properties:`.
 fn of_properties<'a>(
     alloc: Global,
     properties: &'a [Property],
@@ -171,6 +174,7 @@ fn of_properties<'a>(
     Ok(all)
 }
 
+/// Appends the declarations of the section `methods:`.
 fn add_methods<'a>(all: &mut Vec<Declaration<'a>>, methods: &'a [Method]) -> Result<(), AllocError>
     ensures { OnOk result (all.new.items ≡ all.old.items ++ map of_method methods.now) }
 {
@@ -180,7 +184,7 @@ fn add_methods<'a>(all: &mut Vec<Declaration<'a>>, methods: &'a [Method]) -> Res
     Ok(())
 }
 
-/// The declarations of an interface: its properties and then its methods, each in the text's order. Err where memory is refused.
+/// Returns the declarations of an interface: the properties followed by the methods, each in the text's order. Err: an allocation fails.
 pub fn declarations(
     alloc: Global,
     interface: &Interface,

@@ -1,4 +1,4 @@
-//! The defaults of parameters.
+//! The values of parameters' defaults.
 ghost use Rattle.std.specs.Prelude.{◌≡◌, ◌*ℤ◌, pos, IfOk, is_some};
 ghost use Rattle.oa_checks.specs.Defaults.{whole, decimal_from, number_as, wide, holds_texts};
 ghost use Rattle.oa_checks.specs.Defaults.{text_as, holds_truths, default_of, default_value};
@@ -9,18 +9,19 @@ use oa_model::{ValueType, VarType};
 use oa_variant::{Decimal, Scalar};
 use std::alloc::{AllocError, Global};
 
-/// The longest default string, in characters.
+/// The largest number of characters of a default string.
 const MAX_CHARACTERS: usize = 131_072;
-/// The magnitude of a DECIMAL is below this, 2^96.
+/// The magnitude of a DECIMAL is below this bound, 2^96.
 const MAGNITUDE_BOUND: u128 = 1 << 96;
 
-/// A number as a count of ten-thousandths.
+/// Returns a number as a count of ten-thousandths, if it fits an i64.
 fn as_currency(n: i128) -> Option<i64>
     ensures { result ≡ whole 9223372036854775808 (n *ℤ pos 10000) }
 {
     i64::try_from(n.checked_mul(10_000)?).ok()
 }
 
+/// Returns a number as a DECIMAL of scale 0, if it fits.
 fn as_decimal(n: i128) -> Option<Decimal>
     ensures { result ≡ decimal_from n }
 {
@@ -32,7 +33,7 @@ fn as_decimal(n: i128) -> Option<Decimal>
     }
 }
 
-/// A number as a value of a type. Takes no memory.
+/// Returns a number as a value of a type; None if the type has no such value. Allocates nothing.
 #[tactic(auto, unfolding(crate::specs::Defaults::number_as))]
 fn number_as(t: VarType, n: i128) -> Option<Scalar>
     ensures { result ≡ number_as t n }
@@ -55,19 +56,21 @@ fn number_as(t: VarType, n: i128) -> Option<Scalar>
     }
 }
 
+/// Returns whether a string can be a default of this type.
 fn holds_texts(t: VarType) -> bool
     ensures { result ≡ holds_texts t }
 {
     matches!(t, VarType::Bstr | VarType::Variant)
 }
 
+/// Returns whether `TRUE` or `FALSE` can be a default of this type.
 fn holds_truths(t: VarType) -> bool
     ensures { result ≡ holds_truths t }
 {
     matches!(t, VarType::Bool | VarType::Variant)
 }
 
-/// Characters as 16-bit units, low byte first.
+/// Encodes ASCII characters as 16-bit units, low byte first.
 #[tactic(auto, unfolding(crate::specs::Defaults::wide))]
 fn wide(alloc: Global, characters: &[u8]) -> Result<Vec<u8>, AllocError>
     ensures { IfOk result (λ v. v.items ≡ wide characters.now) }
@@ -79,7 +82,7 @@ fn wide(alloc: Global, characters: &[u8]) -> Result<Vec<u8>, AllocError>
     Ok(bytes)
 }
 
-/// A text as a value of a type.
+/// Returns a string as a value of a type; None if the type has no such value.
 fn text_as(alloc: Global, t: VarType, text: &Characters) -> Result<Option<Scalar>, AllocError>
     ensures { IfOk result (λ s. s ≡ text_as t text.now) }
 {
@@ -94,7 +97,7 @@ fn text_as(alloc: Global, t: VarType, text: &Characters) -> Result<Option<Scalar
     }
 }
 
-/// Whether a default has a value of the parameter's type. Takes no memory.
+/// Returns whether a default has a value of the parameter's type. Allocates nothing.
 pub(crate) fn has_default(value_type: ValueType, default: &Literal) -> bool
     ensures { result ≡ is_some (default_of value_type default.now) }
 {
@@ -108,8 +111,8 @@ pub(crate) fn has_default(value_type: ValueType, default: &Literal) -> bool
     }
 }
 
-/// The value of a default, of the parameter's type: a number of that type, a count of ten-thousandths for CURRENCY, a DECIMAL with scale
-/// 0, an I4 for VARIANT; a truth value; or a text in 16-bit units for BSTR and VARIANT. None where the type has no such value, and for
+/// Converts a default to a value of the parameter's type: a number of that type, a count of ten-thousandths for CURRENCY, a DECIMAL of
+/// scale 0, an I4 for VARIANT; a BOOL; or a text of 16-bit units for BSTR and VARIANT. Returns None if the type has no such value, and for
 /// each array type.
 pub(crate) fn default_value(
     alloc: Global,
@@ -132,7 +135,8 @@ pub(crate) fn default_value(
     }
 }
 
-/// The value of a parameter's default. None where it has no default, or none of its type. Err where memory is refused.
+/// Returns the value of a parameter's default, in the parameter's type. None if the parameter has no default, or if the type has no such
+/// value. Err: an allocation fails.
 pub fn value_of_default(alloc: Global, parameter: &Parameter) -> Result<Option<Scalar>, AllocError>
     ensures { IfOk result (λ value. value ≡ default_value parameter.now) }
 {

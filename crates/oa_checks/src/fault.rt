@@ -1,4 +1,4 @@
-//! Why a tree is no library.
+//! Why a tree is not a library.
 ghost use Rattle.std.specs.Prelude.{◌≡◌, IfOk};
 ghost use Rattle.oa_checks.specs.declared.fault.CheckError.TheVariants.{Memory};
 
@@ -10,7 +10,7 @@ use std::marker::Model;
 use thiserror::Error;
 use uuid::Uuid;
 
-/// A name as it is written in the text, to be shown.
+/// A name, spelled as in the text, for an error message.
 #[derive(Drop)]
 pub struct WrittenName {
     name: Name,
@@ -25,7 +25,7 @@ impl Model for WrittenName {
 }
 
 impl WrittenName {
-    /// A copy of a name.
+    /// Copies a name.
     pub(crate) fn copy(alloc: Global, name: &Name) -> Result<WrittenName, AllocError>
         ensures { IfOk result (λ w. w ≡ name.now) }
     {
@@ -35,7 +35,7 @@ impl WrittenName {
         })
     }
 
-    /// Its bytes.
+    /// Returns the bytes of the name.
     pub fn as_bytes(&self) -> &[u8]
         ensures { result.now ≡ self.now }
     {
@@ -58,36 +58,37 @@ impl Debug for WrittenName {
     }
 }
 
-/// Why a tree is no library. A refusal names the later one of two items that clash, or the parameter, as it is written.
+/// Why a tree is not a library. An error contains the name or GUID of the later of two items that clash, or the name of the parameter,
+/// spelled as in the text.
 #[derive(Debug, Drop, Error)]
 pub enum CheckError {
-    /// An interface, a coclass, a member, a parameter or an entry of a coclass has the name of another, A to Z folded;
-    /// but the get and the put of a property have one name.
+    /// Two items of the library, two members of an interface, two parameters of a member or two entries of a coclass have the same name,
+    /// without regard to the case of A to Z. The get and the put of a property have one name.
     #[error("duplicate name {0}")]
     DuplicateName(WrittenName),
-    /// A member has the DISPID of another of its interface.
+    /// Two members of an interface have the same DISPID.
     #[error("duplicate id {0}")]
     DuplicateId(WrittenName),
-    /// An interface or a coclass has the GUID of another or the library's.
+    /// An interface or a coclass has the GUID of another one, or that of the library.
     #[error("duplicate guid {0}")]
     DuplicateGuid(Uuid),
-    /// An entry of a coclass names no interface.
+    /// An entry of a coclass does not name an interface.
     #[error("unknown interface {0}")]
     UnknownInterface(WrittenName),
-    /// The get and the put of a property differ in their DISPID, in the type of what the property holds, or in a parameter's name, type,
-    /// flags or default.
+    /// The get and the put of a property differ in the DISPID, in the type of the property's value, or in a parameter's name, type, flags
+    /// or default.
     #[error("get and put disagree {0}")]
     GetPutDisagree(WrittenName),
     /// A parameter of a property has an array type.
     #[error("array parameter {0}")]
     ArrayParameter(WrittenName),
-    /// A parameter's default has no value of its type, or the new value of a put has a default or is optional.
+    /// A parameter's default has no value of its type; or the new value of a put has a default or is optional.
     #[error("bad default {0}")]
     BadDefault(WrittenName),
     /// The canonical text has more than 262,144 bytes.
     #[error("limit text")]
     TextTooLong,
-    /// Memory was refused.
+    /// An allocation fails.
     #[error("out of memory")]
     Memory,
 }

@@ -1,4 +1,4 @@
-//! Names with A to Z folded.
+//! Names folded to lower case.
 ghost use Rattle.std.specs.Prelude.{◌≡◌, IfOk};
 ghost use Rattle.oa_model.specs.Folding.{folded_name};
 
@@ -6,7 +6,7 @@ use oa_idl::Name;
 use oa_model::fold;
 use std::alloc::{AllocError, Global};
 
-/// A declared name with A to Z folded, in UTF-16 units. Err where memory is refused.
+/// Returns a declared name in UTF-16 units, with A to Z replaced by a to z. Err: an allocation fails.
 pub fn folded(alloc: Global, name: &Name) -> Result<Vec<u16>, AllocError>
     ensures { IfOk result (λ v. v.items ≡ folded_name name.now) }
 {

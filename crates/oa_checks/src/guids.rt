@@ -1,4 +1,4 @@
-//! GUIDs as pairs of numbers: two are compared without a look at each byte.
+//! GUIDs as pairs of u64, so that two are compared without a loop over their bytes.
 ghost use Rattle.std.specs.Prelude.{◌≡◌, length, take, drop, position, IfNone, IfSome, None, Some};
 ghost use Rattle.std.specs.Int.{from_le_bytes, to_le_bytes, w64};
 ghost use Rattle.oa_checks.specs.Libraries.{item_guid, same};
@@ -8,10 +8,10 @@ use crate::checks::item_guid;
 use oa_idl::Item;
 use uuid::Uuid;
 
-/// How many items are looked at before all GUIDs are hashed.
+/// The number of items that are compared before a hash of all GUIDs is used.
 const FRONT: usize = 8;
 
-/// The number of 8 bytes.
+/// Returns the u64 of 8 bytes, little-endian.
 fn number(bytes: &[u8]) -> u64
     requires { length bytes.now ≡ 8 }
     ensures number { result ≡ from_le_bytes w64 bytes.now }
@@ -22,7 +22,7 @@ fn number(bytes: &[u8]) -> u64
     ])
 }
 
-/// The numbers of its two halves.
+/// Returns the two halves of a GUID as numbers.
 fn halves(guid: &Uuid) -> (u64, u64)
     ensures numbers { result ≡ (from_le_bytes w64 (take 8 guid.now), from_le_bytes w64 (drop 8 guid.now)) }
     ensures first { to_le_bytes w64 result.0 ≡ take 8 guid.now }
@@ -32,7 +32,7 @@ fn halves(guid: &Uuid) -> (u64, u64)
     (number(first), number(second))
 }
 
-/// Whether two GUIDs are one.
+/// Returns whether two GUIDs are equal.
 fn is_same(one: &Uuid, other: &Uuid) -> bool
     ensures { result ≡ same one.now other.now }
 {
@@ -41,14 +41,15 @@ fn is_same(one: &Uuid, other: &Uuid) -> bool
     first == other_first && second == other_second
 }
 
-/// Whether it is the zero GUID.
+/// Returns whether it is the zero GUID.
 pub fn is_zero_guid(guid: &Uuid) -> bool
     ensures { result ≡ is_nil_bytes guid.now }
 {
     is_same(guid, &Uuid::nil())
 }
 
-/// The place, from 0, of the item with a GUID, where it is one of the first eight. So an item of a small library is found without hashing.
+/// Returns the place, counted from 0, of the item with a GUID, if it is one of the first eight items. An item of a small library is so
+/// found without hashing.
 pub fn place_in_front(items: &[Item], guid: &Uuid) -> Option<usize>
     ensures found { IfSome result (λ place. position (λ i. same guid.now (item_guid i)) items.now ≡ Some place) }
     ensures none { IfNone result (position (λ i. same guid.now (item_guid i)) (take 8 items.now) ≡ None) }

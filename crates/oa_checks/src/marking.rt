@@ -1,17 +1,18 @@
-//! One default interface marked in each coclass.
+//! Marks one default interface in each coclass.
 ghost use Rattle.std.specs.Prelude.{◌≡◌, map};
 ghost use Rattle.std.specs.List.{list_any};
 ghost use Rattle.oa_checks.specs.Libraries.{marked_entries, marked_item, marked};
 
 use oa_idl::{Entry, Item, Tree};
 
+/// Returns whether some entry is marked as the default.
 fn marks_default(entries: &[Entry]) -> bool
     ensures { result ≡ list_any (λ e. e.is_default) entries.now }
 {
     entries.iter().any(|e| e.is_default)
 }
 
-/// Marks the first entry where none is marked.
+/// Marks the first entry if none is marked.
 fn mark_entries(entries: &mut [Entry])
     ensures { entries.new ≡ marked_entries entries.old }
 {
@@ -20,6 +21,7 @@ fn mark_entries(entries: &mut [Entry])
     }
 }
 
+/// Marks a default interface, if the item is a coclass.
 fn mark_item(item: &mut Item)
     ensures { item.new ≡ marked_item item.old }
 {
@@ -28,6 +30,7 @@ fn mark_item(item: &mut Item)
     }
 }
 
+/// Marks a default interface in each coclass.
 fn mark_items(items: &mut [Item])
     ensures { items.new ≡ map marked_item items.old }
 {
@@ -36,7 +39,7 @@ fn mark_items(items: &mut [Item])
     }
 }
 
-/// Marks one default interface in each coclass.
+/// Marks one default interface in each coclass: the first entry, unless another one is marked.
 pub fn mark(tree: Tree) -> Tree
     ensures { result ≡ marked tree }
 {

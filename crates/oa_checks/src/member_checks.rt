@@ -1,4 +1,4 @@
-//! The checks of an interface's declarations that are made on one after another.
+//! The checks of an interface's declarations, each for one interface at a time.
 ghost use Rattle.std.specs.Prelude.{◌≡◌, [], IfOk, map, find, option_copied};
 ghost use Rattle.std.specs.Option.{option_map, option_and_then};
 ghost use Rattle.oa_model.specs.Folding.{folded_name};
@@ -17,28 +17,29 @@ use oa_idl::{Interface, Item, Name, Parameter};
 use oa_model::ValueType;
 use std::alloc::{AllocError, Global};
 
-/// A check of each interface's declarations by themselves.
+/// A check of the declarations of one interface.
 #[derive(Clone, Copy)]
 pub(crate) enum MemberCheck {
-    /// No two members have one DISPID.
+    /// No two members have the same DISPID.
     Ids,
     /// The get and the put of a property agree.
     Forms,
     /// No parameter of a property is an array.
     Arrays,
-    /// Each default has a value of the parameter's type.
+    /// Each default has a value of the parameter's type, and no new value of a put is optional or has a default.
     Defaults,
 }
 
-/// A rule for two declarations of an interface.
+/// A rule for two declarations of one interface.
 #[derive(Clone, Copy)]
 pub(crate) enum Rule {
-    /// Where they have one DISPID, they have one name.
+    /// If they have the same DISPID, they have the same name.
     OneMember,
-    /// Where they have one name, they agree.
+    /// If they have the same name, they agree.
     Agreement,
 }
 
+/// Returns whether two declarations violate a rule.
 fn breaks(rule: Rule, later: &Declaration<'_>, earlier: &Declaration<'_>) -> bool
     ensures { result ≡ breaks rule later.now earlier.now }
 {
@@ -48,12 +49,14 @@ fn breaks(rule: Rule, later: &Declaration<'_>, earlier: &Declaration<'_>) -> boo
     }
 }
 
+/// Returns the DISPIDs of declarations.
 fn ids(alloc: Global, all: &[Declaration<'_>]) -> Result<Vec<i32>, AllocError>
     ensures { IfOk result (λ v. v.items ≡ map (λ d. d.id) all.now) }
 {
     all.iter().map(|d| d.id).collect(alloc)
 }
 
+/// Returns the folded names of declarations.
 fn folded_names(alloc: Global, all: &[Declaration<'_>]) -> Result<Vec<Vec<u16>>, AllocError>
     ensures { IfOk result (λ v. map (λ k. k.items) v.items ≡ map (λ d. folded_name d.name) all.now) }
 {
@@ -64,7 +67,7 @@ fn folded_names(alloc: Global, all: &[Declaration<'_>]) -> Result<Vec<Vec<u16>>,
     Ok(keys)
 }
 
-/// For each declaration the last one before it with the same DISPID.
+/// Returns for each declaration the last place before it with the same DISPID.
 fn same_ids_before(alloc: Global, all: &[Declaration<'_>]) -> Result<Vec<Option<usize>>, AllocError>
     ensures { IfOk result (λ v. v.items ≡ places_before (alike OneMember) [] all.now) }
 {
@@ -72,7 +75,7 @@ fn same_ids_before(alloc: Global, all: &[Declaration<'_>]) -> Result<Vec<Option<
     earlier(alloc, keys)
 }
 
-/// For each declaration the last one before it with the same name.
+/// Returns for each declaration the last place before it with the same name.
 fn same_names_before(
     alloc: Global,
     all: &[Declaration<'_>],
@@ -83,7 +86,7 @@ fn same_names_before(
     earlier(alloc, keys)
 }
 
-/// For each declaration the last one before it that a rule compares with it.
+/// Returns for each declaration the last place before it to which a rule applies.
 fn places_before(
     alloc: Global,
     rule: Rule,
@@ -97,7 +100,7 @@ fn places_before(
     }
 }
 
-/// Whether a declaration breaks a rule with the one at a place.
+/// Returns whether a declaration violates a rule together with the one at the place `other`.
 fn is_broken(
     rule: Rule,
     all: &[Declaration<'_>],
@@ -115,7 +118,7 @@ fn is_broken(
     breaks(rule, later, earlier)
 }
 
-/// The first declaration that breaks a rule with one before it.
+/// Returns the name of the first declaration that violates a rule together with one before it.
 fn first_broken<'a>(
     rule: Rule,
     all: &[Declaration<'a>],
@@ -134,6 +137,7 @@ fn first_broken<'a>(
     None
 }
 
+/// Returns the name of the first declaration that violates a rule together with one before it. Err: an allocation fails.
 fn check_rule<'a>(
     alloc: Global,
     rule: Rule,
@@ -145,18 +149,21 @@ fn check_rule<'a>(
     Ok(first_broken(rule, all, before.as_slice()))
 }
 
+/// Returns whether it is an array type.
 fn is_array(value_type: ValueType) -> bool
     ensures { result ≡ is_array value_type }
 {
     matches!(value_type, ValueType::Array(_))
 }
 
+/// Returns the first parameter with an array type.
 fn find_array(parameters: &[Parameter]) -> Option<&Parameter>
     ensures { option_copied result ≡ find (λ p. is_array p.value_type) parameters.now }
 {
     parameters.iter().find(|p| is_array(p.value_type))
 }
 
+/// Returns the name of a parameter.
 fn name_of(parameter: Option<&Parameter>) -> Option<&Name>
     ensures { option_copied result ≡ option_map (λ p. p.name) (option_copied parameter.entry) }
 {
@@ -166,7 +173,7 @@ fn name_of(parameter: Option<&Parameter>) -> Option<&Name>
     }
 }
 
-/// The first array among the parameters of a property.
+/// Returns the name of the first array among the parameters of a property.
 fn array_in<'a>(declaration: &Declaration<'a>) -> Option<&'a Name>
     ensures { option_copied result ≡ array_in declaration.now }
 {
@@ -177,7 +184,7 @@ fn array_in<'a>(declaration: &Declaration<'a>) -> Option<&'a Name>
     }
 }
 
-/// Whether a parameter has a default without a value of its type.
+/// Returns whether the parameter has a default without a value of its type.
 fn is_bad(parameter: &Parameter) -> bool
     ensures { result ≡ is_bad parameter.now.value_type parameter.now.default }
 {
@@ -187,13 +194,14 @@ fn is_bad(parameter: &Parameter) -> bool
     }
 }
 
+/// Returns the first parameter whose default has no value of its type.
 fn find_bad(parameters: &[Parameter]) -> Option<&Parameter>
     ensures { option_copied result ≡ find (λ p. is_bad p.value_type p.default) parameters.now }
 {
     parameters.iter().find(|p| is_bad(p))
 }
 
-/// The new value of a put, where it may be left out.
+/// Returns the name of the new value of a put, if it is optional or has a default.
 fn optional_value<'a>(declaration: &Declaration<'a>) -> Option<&'a Name>
     ensures { option_copied result ≡ option_and_then if_optional (new_value declaration.now) }
 {
@@ -205,7 +213,8 @@ fn optional_value<'a>(declaration: &Declaration<'a>) -> Option<&'a Name>
     }
 }
 
-/// The first parameter of a declaration whose default has no value of its type; a new value has none at all.
+/// Returns the name of the first parameter of a declaration whose default has no value of its type, or of a new value that is optional or
+/// has a default.
 fn bad_default_in<'a>(declaration: &Declaration<'a>) -> Option<&'a Name>
     ensures { option_copied result ≡ bad_default_in declaration.now }
 {
@@ -215,6 +224,7 @@ fn bad_default_in<'a>(declaration: &Declaration<'a>) -> Option<&'a Name>
     }
 }
 
+/// Returns the name of the first array among the parameters of properties.
 fn first_array<'a>(all: &[Declaration<'a>]) -> Option<&'a Name>
     ensures { option_copied result ≡ first_answer array_in all.now }
 {
@@ -226,6 +236,7 @@ fn first_array<'a>(all: &[Declaration<'a>]) -> Option<&'a Name>
     None
 }
 
+/// Returns the name of the first parameter with a bad default.
 fn first_bad_default<'a>(all: &[Declaration<'a>]) -> Option<&'a Name>
     ensures { option_copied result ≡ first_answer bad_default_in all.now }
 {
@@ -237,6 +248,7 @@ fn first_bad_default<'a>(all: &[Declaration<'a>]) -> Option<&'a Name>
     None
 }
 
+/// Runs a check of an interface's declarations.
 fn check_declarations<'a>(
     alloc: Global,
     check: MemberCheck,
@@ -252,6 +264,7 @@ fn check_declarations<'a>(
     }
 }
 
+/// Runs a check of an interface.
 fn check_interface(
     alloc: Global,
     check: MemberCheck,
@@ -263,6 +276,7 @@ fn check_interface(
     check_declarations(alloc, check, all.as_slice())
 }
 
+/// Runs a check of an item, if it is an interface.
 fn check_inside(alloc: Global, check: MemberCheck, item: &Item) -> Result<Option<&Name>, AllocError>
     ensures { IfOk result (λ name. option_copied name ≡ in_interface (breach_by check) item.now) }
 {
@@ -272,7 +286,7 @@ fn check_inside(alloc: Global, check: MemberCheck, item: &Item) -> Result<Option
     }
 }
 
-/// The name that a check of each interface's declarations finds first.
+/// Runs a check of all interfaces and returns the first name that it finds.
 pub(crate) fn check_members(
     alloc: Global,
     check: MemberCheck,

@@ -1,18 +1,18 @@
-//! Items by their places.
+//! Items by their places, counted from 0.
 ghost use Rattle.std.specs.Prelude.{◌≡◌, option_copied, slice_get};
 ghost use Rattle.std.specs.Option.{option_and_then};
 ghost use Rattle.oa_checks.specs.Libraries.{as_interface, as_class};
 
 use oa_idl::{Coclass, Interface, Item, Tree};
 
-/// The member of a list at a place.
+/// Returns the entry of a list at a place, or None.
 pub fn at<T>(items: &[T], place: usize) -> Option<&T>
     ensures { option_copied result ≡ slice_get items.now place }
 {
     items.get(place)
 }
 
-/// The interface at a place.
+/// Returns the interface at a place. None if the item is a coclass, or if there is none.
 pub fn interface_at(items: &[Item], place: usize) -> Option<&Interface>
     ensures { option_copied result ≡ option_and_then as_interface (slice_get items.now place) }
 {
@@ -22,7 +22,7 @@ pub fn interface_at(items: &[Item], place: usize) -> Option<&Interface>
     }
 }
 
-/// The coclass at a place.
+/// Returns the coclass at a place. None if the item is an interface, or if there is none.
 pub fn class_at(items: &[Item], place: usize) -> Option<&Coclass>
     ensures { option_copied result ≡ option_and_then as_class (slice_get items.now place) }
 {
@@ -32,7 +32,7 @@ pub fn class_at(items: &[Item], place: usize) -> Option<&Coclass>
     }
 }
 
-/// A tree's items.
+/// Returns the tree's items.
 pub fn items_of(tree: &Tree) -> &[Item]
     ensures { result.now ≡ tree.now.items }
 {

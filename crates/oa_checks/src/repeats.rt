@@ -1,4 +1,4 @@
-//! Lists whose keys have to differ.
+//! Lists whose keys must differ.
 ghost use Rattle.std.specs.Prelude.{◌≡◌, [], IfOk};
 ghost use Rattle.oa_checks.specs.Keys.{TellsDistinct, repeat_of};
 ghost use Rattle.oa_checks.specs.Repeats.{places_before};
@@ -7,7 +7,7 @@ use indexmap::{IndexMap, IndexSet};
 use std::alloc::{AllocError, Global};
 use std::hash::Hash;
 
-/// The keys of a list by their places, or the first place whose key stands at an earlier one too.
+/// The keys of a list by their places, or the first place whose key equals one at an earlier place.
 #[derive(Drop)]
 pub(crate) enum Distinct<K: Eq + Hash + Drop> {
     All(IndexSet<K>),
@@ -15,6 +15,7 @@ pub(crate) enum Distinct<K: Eq + Hash + Drop> {
 }
 
 impl<K: Eq + Hash + Drop> Distinct<K> {
+    /// Returns the first place of a repeated key, if there is one.
     pub(crate) fn repeat(self) -> Option<usize>
         ensures { result ≡ repeat_of self }
     {
@@ -25,6 +26,7 @@ impl<K: Eq + Hash + Drop> Distinct<K> {
     }
 }
 
+/// Collects the keys, or finds the first place of a repeated one. Err: an allocation fails.
 pub(crate) fn told_apart<K: Eq + Hash + Drop>(
     alloc: Global,
     keys: Vec<K>,
@@ -41,7 +43,7 @@ pub(crate) fn told_apart<K: Eq + Hash + Drop>(
     Ok(Distinct::All(seen))
 }
 
-/// For each key the last place before it with an equal one.
+/// Returns for each key the last place before it with an equal key.
 pub(crate) fn earlier<K: Eq + Hash + Drop>(
     alloc: Global,
     keys: Vec<K>,

@@ -9,12 +9,12 @@ use std::alloc::{AllocError, Global};
 use std::marker::Model;
 use uuid::Uuid;
 
-/// Names with A to Z folded, each once.
+/// Distinct folded names.
 pub struct FoldedNames {
     keys: IndexSet<Vec<u16>>,
 }
 
-// Its own, so that a function that holds some lets go of them in one step.
+// An implementation by hand: a function that owns the names drops them in one step.
 impl Drop for FoldedNames {
     fn drop(self) {
         let FoldedNames { keys: _keys } = self;
@@ -30,6 +30,7 @@ impl Model for FoldedNames {
 }
 
 impl FoldedNames {
+    /// Makes an empty set.
     pub(crate) fn new(alloc: Global) -> FoldedNames
         ensures { result ≡ [] }
     {
@@ -38,6 +39,7 @@ impl FoldedNames {
         }
     }
 
+    /// Adds a folded name; returns false if it is a member already.
     pub(crate) fn insert(&mut self, name: Vec<u16>) -> Result<bool, AllocError>
         ensures added { IfOk result (λ b. b ≡ not (list_any (same name.items) self.old)) }
         ensures keys { OnOk result (self.new ≡ insert_key same self.old name.items) }
@@ -45,7 +47,7 @@ impl FoldedNames {
         Ok(self.keys.insert(name)?)
     }
 
-    /// The place of a folded name; None where it is not among them.
+    /// Returns the place of a folded name, or None.
     pub fn place(&self, name: &[u16]) -> Option<usize>
         ensures { result ≡ position (same name.now) self.now }
     {
@@ -58,7 +60,7 @@ pub struct Guids {
     keys: IndexSet<Uuid>,
 }
 
-// Its own, so that a function that holds some lets go of them in one step.
+// An implementation by hand: a function that owns the GUIDs drops them in one step.
 impl Drop for Guids {
     fn drop(self) {
         let Guids { keys: _keys } = self;
@@ -74,13 +76,14 @@ impl Model for Guids {
 }
 
 impl Guids {
+    /// Makes the list of the GUIDs of a set.
     pub(crate) fn from_set(keys: IndexSet<Uuid>) -> Guids
         ensures { result ≡ keys.keys }
     {
         Guids { keys }
     }
 
-    /// The place of a GUID; None where no item has it.
+    /// Returns the place of a GUID. None if no item has it.
     pub fn place(&self, guid: &Uuid) -> Option<usize>
         ensures { result ≡ position (same guid.now) self.now }
     {

@@ -1,4 +1,4 @@
-//! The names that the declarations of an interface take.
+//! The names that the declarations of an interface occupy.
 ghost use Rattle.std.specs.Prelude.{◌≡◌, [], true, not, IfOk};
 ghost use Rattle.oa_checks.specs.Taken.{is_taken, takes_reading, takes_setting, with_taken};
 
@@ -7,19 +7,21 @@ use crate::folding::folded;
 use crate::sets::FoldedNames;
 use std::alloc::{AllocError, Global};
 
-/// The folded names of declarations: those that a get would take, and those that a put would take.
+/// The folded names of declarations: those that a get must not have, and those that a put must not have.
 #[derive(Drop)]
 pub(crate) struct Taken {
     reading: FoldedNames,
     setting: FoldedNames,
 }
 
+/// Returns whether a declaration of this kind occupies its name for reading.
 fn takes_reading(kind: DeclarationKind) -> bool
     ensures { result ≡ takes_reading kind }
 {
     !matches!(kind, DeclarationKind::Put)
 }
 
+/// Returns whether a declaration of this kind occupies its name for setting.
 fn takes_setting(kind: DeclarationKind) -> bool
     ensures { result ≡ takes_setting kind }
 {
@@ -27,6 +29,7 @@ fn takes_setting(kind: DeclarationKind) -> bool
 }
 
 impl Taken {
+    /// Makes empty sets of names.
     pub(crate) fn new(alloc: Global) -> Taken
         ensures reading { result.reading ≡ [] }
         ensures setting { result.setting ≡ [] }
@@ -37,7 +40,7 @@ impl Taken {
         }
     }
 
-    /// Takes a declaration's name, or says that it is taken.
+    /// Adds the name of a declaration. Returns false if it is occupied.
     pub(crate) fn take(
         &mut self,
         alloc: Global,

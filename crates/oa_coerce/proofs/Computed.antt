@@ -1,4 +1,4 @@
--- The computed answer is the coercion.
+-- The computed result is the coercion.
 use Rattle.std.specs.Prelude.{◌≡◌, ◌^◌, Bool, true, false, ℤ, pos, negsuc, cond, Result, Ok, Err, IfOk, IfErr}
 use Rattle.std.proofs.Common.{refl, sym, ap, subst, ◌∙◌, arith}
 use Rattle.std.proofs.lemmas.Bool.{cond_both, cond-true, lt-ltb, ltb-true, false≢true, true≢false}
@@ -224,7 +224,7 @@ value_refused (Array x) (kinds.Array to) Overflow h m = absurd (not_nearest (sam
 value_refused v to TypeMismatch h m = ap (λ r. value_by r v to) h ∙ by_no_rule v to
 value_refused v to Memory h m = absurd (true≢false m)
 
--- a result that is the coercion, or its refusal, is the computed answer
+-- A result that is the coercion, or its refusal, is the computed one.
 pub scalar_result : (s : Scalar) (to : VarType) (r : Result Scalar (Scalar × CoerceFault)) → IfOk r (λ made. CoercesScalar s to made) →
     IfErr r (λ e. (e.0 ≡ s) × RefusesScalar s to e.1) → IsScalarAnswer (coerced_scalar s to) r
 scalar_result s to (Ok made) h g = scalar_answer s made to h

@@ -1,4 +1,4 @@
--- Between what a rule makes of scalars and of values.
+-- The results of a rule for scalars and for values.
 use Rattle.std.specs.Prelude.{◌≡◌, ℤ}
 use Rattle.std.proofs.Common.{refl, ap, subst}
 use Rattle.oa_model.specs.declared.var_type.VarType.{VarType}
@@ -17,7 +17,7 @@ use Rattle.oa_coerce.specs.declared.rule.Rule.{Rule}
 use Rattle.oa_coerce.specs.declared.rule.Rule.TheVariants.{Unchanged, Zero, Nearest, Exact, ToTruth, NoRule}
 use Rattle.oa_coerce.proofs.Nearest.{one_nearest}
 
--- what a rule makes of a scalar it makes of the value
+-- The result of a rule for a scalar is its result for the value.
 pub lifted : (r : Rule) (s : Scalar) (to : VarType) (made : Scalar) → Makes r s to made → MakesValue r (One s) (kinds.One to) (One made)
 lifted Unchanged s to made h = ap One h
 lifted Zero s to made h = ap One h
@@ -26,7 +26,7 @@ lifted Exact s to made h = h
 lifted ToTruth s to made h = h
 lifted NoRule s to made h = h
 
--- and what it makes of the value is one of those
+-- The result of a rule for the value is one for the scalar.
 pub lowered : (r : Rule) (s : Scalar) (to : VarType) (made : Variant) → MakesValue r (One s) (kinds.One to) made
     → (m : Scalar) × (made ≡ One m) × Makes r s to m
 lowered Unchanged s to made h = (s, h, refl)
@@ -40,7 +40,7 @@ lowered ToTruth s to (Array a) h = absurd h
 lowered NoRule s to (One m) h = absurd h
 lowered NoRule s to (Array a) h = absurd h
 
--- where no scalar of the type has the nearest number, none is made
+-- If no scalar of the type has the nearest number, there is no result.
 pub none_in_range : (s : Scalar) (to : VarType) (n : ℤ) (r : Rule) → r ≡ Nearest → IsNearest (number_in s) (decimal_places to) n →
     ((made : Scalar) → IsScalar made → type_of made ≡ to → key_number made ≡ n → ⊥) → (made : Scalar) → Makes r s to made → ⊥
 none_in_range s to n r e near none made h =

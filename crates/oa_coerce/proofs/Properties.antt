@@ -1,4 +1,4 @@
--- What is true of every coercion.
+-- Properties of all coercions.
 use Rattle.std.specs.Prelude.{◌≡◌, true, false}
 use Rattle.std.proofs.Common.{refl, sym, ap, subst, ◌∙◌}
 use Rattle.std.proofs.lemmas.Bool.{cond_both, or_right, false≢true}
@@ -21,7 +21,7 @@ use Rattle.oa_coerce.proofs.Nearest.{one_nearest, nearest_itself}
 use Rattle.oa_coerce.proofs.Rules.{are_same, tests_same, by_rule, same_scalar}
 use Rattle.oa_coerce.proofs.Lifted.{lowered}
 
--- one answer
+-- One result.
 
 one_scalar : (s a b : Scalar) (to : VarType) → CoercesScalar s to a → CoercesScalar s to b → a ≡ b
 one_scalar s a b to = by_rule (λ r. Makes r s to a → Makes r s to b → a ≡ b) (type_of s) to
@@ -47,7 +47,7 @@ one_answer (Array x) a b (kinds.Array to) =
     cond_both (same_type x.elem to) Unchanged NoRule (λ r. MakesValue r (Array x) (kinds.Array to) a → MakesValue r (Array x) (kinds.Array to) b → a ≡ b)
     (λ _ of_a of_b. of_a ∙ sym of_b) (λ _ none _. absurd none)
 
--- the answer fits
+-- The result is of the type.
 
 zero_fits_type : (t : VarType) → fits_type (zero_of t) t ≡ true
 zero_fits_type types.Empty = refl

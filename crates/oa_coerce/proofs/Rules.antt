@@ -1,4 +1,4 @@
--- What is known where a rule applies.
+-- Facts about types for which a rule applies.
 use Rattle.std.specs.Prelude.{◌≡◌, ◌&&◌, ◌||◌, true}
 use Rattle.std.proofs.Common.{refl, sym, ap, ◌∙◌}
 use Rattle.std.proofs.lemmas.Bool.{cond_both, and_parts, or_left, false≢true}
@@ -18,14 +18,14 @@ use Rattle.oa_coerce.specs.Answers.{of_count}
 use Rattle.oa_coerce.specs.declared.rule.Rule.{Rule}
 use Rattle.oa_coerce.specs.declared.rule.Rule.TheVariants.{Unchanged, Zero, Nearest, Exact, ToTruth, NoRule}
 
--- the test of two types for being the same
+-- The test whether two types are the same.
 pub are_same : (t u : VarType) → same_type t u ≡ true → t ≡ u
 are_same t u e = same_true var_type tt t u e
 
 pub tests_same : (t u : VarType) → t ≡ u → same_type t u ≡ true
 tests_same t u e = true_same var_type t u e
 
--- what is true of each rule where its own test passes is true of the rule that applies
+-- A property that each rule has if its own test passes holds for the rule that applies.
 pub by_rule : (P : Rule → Type 0) (from to : VarType) →
     ((same_type to types.Variant || same_type from to) ≡ true → P Unchanged) →
     (same_type from types.Empty ≡ true → P Zero) →

@@ -1,6 +1,6 @@
--- What a value becomes, or its refusal, as a function: for definitions above that must compute, as the first refusal of
--- a call does. That it says the same as the relations of Coercions and Refusals are the laws
--- `scalar_answer_is_coercion` and `answer_is_coercion`. (This project's choice.)
+-- The result of a coercion, or its refusal, as a function, for definitions that must compute it, such as the first
+-- refusal of a call. The theorems `scalar_answer_is_coercion` and `answer_is_coercion` say that it agrees with the
+-- relations of Coercions and Refusals. (This project's choice.)
 use Rattle.std.specs.Prelude.{◌≡◌, ℕ, ℤ, ◌+◌, ◌*◌, ◌/◌, ◌%◌, ◌^◌, ◌==◌, ◌&&◌, ◌||◌, nat_lt, Bool, true, false, not}
 use Rattle.std.specs.Prelude.{if◌then◌else◌, Result, Ok, Err, pos, unsigned_abs}
 use Rattle.std.specs.Int.{is_negative}
@@ -24,17 +24,18 @@ use Rattle.oa_coerce.specs.declared.number.Number.{Number}
 use Rattle.oa_coerce.specs.declared.rule.Rule.{Rule}
 use Rattle.oa_coerce.specs.declared.rule.Rule.TheVariants.{Unchanged, Zero, Nearest, Exact, ToTruth, NoRule}
 
--- the nearest whole number: one more than the quotient where the rest is above half a unit, or is half of it and the
--- quotient odd
+-- The nearest whole number to whole / unit: the quotient, plus 1 if the rest is above half a unit, or if it is half a
+-- unit and the quotient is odd.
 abbrev pub half_even : ℕ → ℕ → ℕ
 half_even whole unit =
     if nat_lt unit (2 * (whole % unit)) || 2 * (whole % unit) == unit && whole / unit % 2 == 1 then whole / unit + 1
     else whole / unit
 
+-- The nearest count of units of 1 / 10^places to a number.
 abbrev pub nearest_count : Number → ℕ → ℤ
 nearest_count x places = signed (is_negative x.count) (half_even (unsigned_abs x.count * 10 ^ places) (10 ^ x.scale))
 
--- the scalar of an integer type, or of CY, with this count of its unit; EMPTY for the other types
+-- The scalar of an integer type, or of CY, with this count of its unit; EMPTY for any other type.
 abbrev pub of_count : VarType → ℤ → Scalar
 of_count types.I1 z = scalars.I1 z
 of_count types.I2 z = scalars.I2 z
@@ -49,9 +50,11 @@ of_count types.Ui8 z = scalars.Ui8 (unsigned_abs z)
 of_count types.Uint z = scalars.Uint (unsigned_abs z)
 of_count t z = scalars.Empty
 
+-- The scalar with this count, if it is in the range of the type; otherwise Overflow.
 abbrev pub within_range : VarType → ℤ → Result Scalar CoerceFault
 within_range to n = if in_range to n then Ok (of_count to n) else Err Overflow
 
+-- The result of a rule for a scalar.
 abbrev pub answer_by : Rule → Scalar → VarType → Result Scalar CoerceFault
 answer_by Unchanged s to = Ok s
 answer_by Zero s to = Ok (zero_of to)
@@ -60,24 +63,28 @@ answer_by Exact s to = Ok (scalars.Decimal (as_decimal (number_in s)))
 answer_by ToTruth s to = Ok (scalars.Bool (not (int_eq (number_in s).count (pos 0))))
 answer_by NoRule s to = Err TypeMismatch
 
+-- The result of the coercion of a scalar to a type.
 unfoldable pub coerced_scalar : Scalar → VarType → Result Scalar CoerceFault
 coerced_scalar s to = answer_by (rule_for (type_of s) to) s to
 
+-- The result for a scalar, as one for a value.
 abbrev pub one : Result Scalar CoerceFault → Result Variant CoerceFault
 one (Ok s) = Ok (One s)
 one (Err f) = Err f
 
+-- The result of a rule for a value.
 abbrev pub value_by : Rule → Variant → ValueType → Result Variant CoerceFault
 value_by Unchanged v to = Ok v
 value_by Zero v to = Ok (zero_value to)
 value_by r (One s) (kinds.One to) = one (answer_by r s to)
 value_by r v to = Err TypeMismatch
 
--- that memory is found for the array that EMPTY becomes is no part of it
+-- The result of the coercion of a value to a declared type. It does not consider whether memory suffices for the array
+-- that EMPTY becomes.
 unfoldable pub coerced : Variant → ValueType → Result Variant CoerceFault
 coerced v to = value_by (rule_of (value_type_of v) to) v to
 
--- a call answered this for a scalar, or handed it back with the refusal of this
+-- The result of a call for a scalar is this one; an error also contains the scalar.
 abbrev pub IsScalarAnswer : Result Scalar CoerceFault → Result Scalar (Scalar × CoerceFault) → Type 0
 IsScalarAnswer answer (Ok made) = answer ≡ Ok made
 IsScalarAnswer answer (Err back) = answer ≡ Err back.1
@@ -86,7 +93,7 @@ abbrev pub is_memory : CoerceFault → Bool
 is_memory Memory = true
 is_memory f = false
 
--- the same for a value, where want of memory says nothing
+-- As `IsScalarAnswer`, for a value; after `Memory` it says nothing.
 abbrev pub IsCoercion : Result Variant CoerceFault → Result Variant (Variant × CoerceFault) → Type 0
 IsCoercion answer (Ok made) = answer ≡ Ok made
 IsCoercion answer (Err back) = is_memory back.1 ≡ false → answer ≡ Err back.1

@@ -1,5 +1,5 @@
--- What a value becomes as one of a type (this project's choice from the conversions of VariantChangeType). Texts are
--- not read as numbers, nor numbers written as texts.
+-- Coercion of values to types (this project's selection from the conversions of VariantChangeType). Texts are not
+-- parsed as numbers, and numbers are not printed as texts.
 use Rattle.std.specs.Prelude.{◌≡◌, ◌&&◌, ◌||◌, not, if◌then◌else◌, pos}
 use Rattle.std.specs.Ordering.{int_eq}
 use Rattle.oa_model.specs.Integers.{is_signed_integer}
@@ -18,8 +18,8 @@ use Rattle.oa_coerce.specs.Numbers.{counts_units, is_number_type, decimal_places
 use Rattle.oa_coerce.specs.declared.rule.Rule.{Rule}
 use Rattle.oa_coerce.specs.declared.rule.Rule.TheVariants.{Unchanged, Zero, Nearest, Exact, ToTruth, NoRule}
 
--- The rule by which a scalar of one type becomes one of another: the first that applies. A whole number in the range of
--- a type is nearest to itself, so integers go by Nearest too.
+-- The rule for the coercion of a scalar from one type to another: the first that applies. A whole number in the range
+-- of a type is nearest to itself, so that `Nearest` also covers the integers.
 abbrev pub rule_for : VarType → VarType → Rule
 rule_for from to =
     if same_type to types.Variant || same_type from to then Unchanged
@@ -30,7 +30,8 @@ rule_for from to =
     else if is_signed_integer from && same_type to types.Bool then ToTruth
     else NoRule
 
--- a rule makes a scalar of a type from one; the number nearest to it must be the number of a scalar of that type
+-- The rule makes the scalar `made` of the type from `s`. With `Nearest`, the nearest number must be that of a scalar of
+-- the type.
 abbrev pub Makes : Rule → Scalar → VarType → Scalar → Type 0
 Makes Unchanged s to made = made ≡ s
 Makes Zero s to made = made ≡ zero_of to
@@ -40,23 +41,24 @@ Makes Exact s to made = made ≡ scalars.Decimal (as_decimal (number_in s))
 Makes ToTruth s to made = made ≡ scalars.Bool (not (int_eq (number_in s).count (pos 0)))
 Makes NoRule s to made = ⊥
 
--- a scalar becomes another one, of a type
+-- The coercion of a scalar to a type has the result `made`.
 abbrev pub CoercesScalar : Scalar → VarType → Scalar → Type 0
 CoercesScalar s to made = Makes (rule_for (type_of s) to) s to made
 
--- the rule for values: an array stays as it is or there is none, and of the scalars EMPTY alone becomes an array
+-- The rule for values: an array is unchanged or refused, and EMPTY is the only scalar that becomes an array.
 abbrev pub rule_of : ValueType → ValueType → Rule
 rule_of (kinds.One from) (kinds.One to) = rule_for from to
 rule_of (kinds.One from) (kinds.Array to) = if same_type from types.Empty then Zero else NoRule
 rule_of (kinds.Array from) (kinds.One to) = if same_type to types.Variant then Unchanged else NoRule
 rule_of (kinds.Array from) (kinds.Array to) = if same_type from to then Unchanged else NoRule
 
+-- The rule makes the value `made` of the declared type from `v`.
 abbrev pub MakesValue : Rule → Variant → ValueType → Variant → Type 0
 MakesValue Unchanged v to made = made ≡ v
 MakesValue Zero v to made = made ≡ zero_value to
 MakesValue r (One s) (kinds.One to) (One made) = Makes r s to made
 MakesValue r v to made = ⊥
 
--- a value becomes another one, of a declared type
+-- The coercion of a value to a declared type has the result `made`.
 abbrev pub Coerces : Variant → ValueType → Variant → Type 0
 Coerces v to made = MakesValue (rule_of (value_type_of v) to) v to made

@@ -1,4 +1,4 @@
--- When a value does not become one of a type, and the codes of these refusals (MS-ERREF section 2.1).
+-- When a value cannot be coerced to a type, and the codes of these refusals (MS-ERREF section 2.1).
 use Rattle.std.specs.Prelude.{◌≡◌}
 use Rattle.oa_model.specs.Codes.{disp_e_overflow, disp_e_typemismatch, e_outofmemory}
 use Rattle.oa_model.specs.declared.hresult.HResult.{HResult}
@@ -19,7 +19,8 @@ coercion_code Overflow = disp_e_overflow
 coercion_code TypeMismatch = disp_e_typemismatch
 coercion_code Memory = e_outofmemory
 
--- numbers are wanted and no scalar of the type has the nearest one; there is no rule; no scalar takes memory
+-- The refusal of the coercion of a scalar is right: the rule is `Nearest` and no scalar of the type has the nearest
+-- number, or there is no rule. Scalars need no memory.
 abbrev pub RefusesScalar : Scalar → VarType → CoerceFault → Type 0
 RefusesScalar s to Overflow = (rule_for (type_of s) to ≡ Nearest) × ((made : Scalar) → CoercesScalar s to made → ⊥)
 RefusesScalar s to TypeMismatch = rule_for (type_of s) to ≡ NoRule
@@ -29,7 +30,7 @@ abbrev pub IsArrayType : ValueType → Type 0
 IsArrayType (kinds.One t) = ⊥
 IsArrayType (kinds.Array t) = Unit {0}
 
--- the same of values, where the zero of an array type takes memory
+-- As `RefusesScalar`, for a value. The zero value of an array type needs memory.
 abbrev pub RefusesCoercion : Variant → ValueType → CoerceFault → Type 0
 RefusesCoercion v to Overflow = (rule_of (value_type_of v) to ≡ Nearest) × ((made : Variant) → Coerces v to made → ⊥)
 RefusesCoercion v to TypeMismatch = rule_of (value_type_of v) to ≡ NoRule

@@ -1,26 +1,26 @@
-//! Why a value is refused.
+//! Why a value is not coerced.
 ghost use Rattle.std.specs.Prelude.{◌≡◌};
 ghost use Rattle.oa_coerce.specs.Refusals.{coercion_code};
 
 use oa_model::HResult;
 use thiserror::Error;
 
-/// Why a value does not become one of the type that is wanted.
+/// Why a value cannot be coerced to a type.
 #[derive(Clone, Copy, Debug, PartialEq, Eq, Error)]
 pub enum CoerceFault {
-    /// Its number, rounded, is none of the type's numbers.
+    /// The number, rounded, is outside the range of the type.
     #[error("the number is out of the range of the type")]
     Overflow,
     /// There is no rule for the two types.
     #[error("no value of that type is made of a value of this one")]
     TypeMismatch,
-    /// No memory was found for the array that EMPTY was to become.
+    /// The allocation of the array to which EMPTY is coerced fails.
     #[error("out of memory")]
     Memory,
 }
 
 impl CoerceFault {
-    /// The code of a reply with this refusal (MS-ERREF section 2.1).
+    /// Returns the code of the reply (MS-ERREF section 2.1): DISP_E_OVERFLOW, DISP_E_TYPEMISMATCH or E_OUTOFMEMORY.
     pub fn code(self) -> HResult
         ensures { result ≡ coercion_code self }
     {

@@ -1,10 +1,9 @@
-//! Coercion: what a value becomes as a value of a declared type. The rules are this project's choice from those
-//! of VariantChangeType.
+//! Coercion of values to declared types. The rules are this project's selection from those of VariantChangeType.
 //!
-//! Its contract: `coerce` answers what a value becomes as one of a declared type, exactly: the rule of the two
-//! types, the nearest count, a half to the even neighbour.
+//! Contract: `coerce` returns the one result that the rule of the two types defines, or the refusal. A number is rounded to the nearest
+//! count of the type's unit, a half to the even neighbour.
 //!
-//! What stands on it: oa_bind, for arguments and new values; oa_decision, for elements.
+//! Used by oa_bind for arguments and new values, and by oa_decision for elements of arrays.
 #![tactic(auto)]
 
 mod fault;

@@ -15,7 +15,7 @@ pub(crate) struct Number {
     pub(crate) scale: u8,
 }
 
-/// The number of a scalar: -1 for true, and 0 where there is none.
+/// Returns the number of a scalar: -1 for true, and 0 if it has none.
 pub(crate) fn number_in(value: &Scalar) -> Number
     ensures value { result ≡ number_in value.now }
     ensures scale { result.scale ≤ 28 }
@@ -44,7 +44,7 @@ pub(crate) fn number_in(value: &Scalar) -> Number
     Number { count, scale }
 }
 
-/// The whole number nearest to whole / unit; of two that are equally near the even one.
+/// Returns the whole number nearest to whole / unit, and the even one of two that are equally near.
 fn nearest_whole(whole: u128, unit: u128) -> u128
     requires unit { (0 < unit) × (unit < 2 ^ 100) }
     requires whole { whole < 2 ^ 120 }
@@ -60,7 +60,7 @@ fn nearest_whole(whole: u128, unit: u128) -> u128
     }
 }
 
-/// The count of units of 1 / 10^places that is nearest to a number; of two that are equally near the even one.
+/// Returns the nearest count of units of 1 / 10^places to a number, and the even one of two that are equally near.
 pub(crate) fn nearest(number: Number, places: u8) -> i128
     requires scale { number.scale ≤ 28 }
     requires count { unsigned_abs number.count < 2 ^ 96 }
@@ -73,7 +73,7 @@ pub(crate) fn nearest(number: Number, places: u8) -> i128
     if number.count < 0 { -count } else { count }
 }
 
-/// The scalar of an integer type, or of CY, whose count of units this is; None where the type has no such scalar.
+/// Returns the scalar of an integer type or of CY with this count of units. None if the type has no such scalar.
 pub(crate) fn with_count(to: VarType, count: i128) -> Option<Scalar>
     requires { IsTrue (counts_units to) }
     ensures some { IfSome result (λ made. (type_of made ≡ to) × (key_number made ≡ count)) }

@@ -1,35 +1,35 @@
-//! The rule that two types pick.
+//! The coercion rule for two types.
 ghost use Rattle.std.specs.Prelude.{◌≡◌, ◌≤◌};
 ghost use Rattle.oa_coerce.specs.Numbers.{counts_units, decimal_places};
 ghost use Rattle.oa_coerce.specs.Coercions.{rule_for};
 
 use oa_model::VarType;
 
-/// What a value becomes.
+/// A coercion rule: the result for a value.
 #[derive(Clone, Copy)]
 pub(crate) enum Rule {
-    /// Itself.
+    /// The value itself.
     Unchanged,
-    /// The zero of the type.
+    /// The zero value of the type.
     Zero,
-    /// The value of the type whose number is nearest.
+    /// The value of the type with the nearest number.
     Nearest,
     /// The DECIMAL with the same number.
     Exact,
-    /// False where its number is 0, else true.
+    /// False if the number is 0, otherwise true.
     ToTruth,
-    /// Nothing: it is refused.
+    /// None: the value is refused.
     NoRule,
 }
 
-/// Whether the values of a type are whole counts of one unit: those of the integer types and of CY.
+/// Returns whether the values of a type are whole counts of one unit: those of the integer types and of CY.
 pub(crate) fn counts_units(one: VarType) -> bool
     ensures { result ≡ counts_units one }
 {
     one.is_integer() || one == VarType::Cy
 }
 
-/// How many decimal places that unit has.
+/// Returns the number of decimal places of that unit: 4 for CY, otherwise 0.
 pub(crate) fn places(one: VarType) -> u8
     ensures value { result ≡ decimal_places one }
     ensures few { result ≤ 4 }
@@ -37,7 +37,7 @@ pub(crate) fn places(one: VarType) -> u8
     if one == VarType::Cy { 4 } else { 0 }
 }
 
-/// The rule by which a scalar of one type becomes one of another.
+/// Returns the rule for the coercion of a scalar from one type to another.
 pub(crate) fn rule_for(from: VarType, to: VarType) -> Rule
     ensures { result ≡ rule_for from to }
 {

@@ -13,8 +13,10 @@ use oa_model::{ValueType, VarType};
 use oa_variant::{Decimal, Scalar, Variant};
 use std::alloc::Global;
 
-/// What a scalar becomes as one of a type; VARIANT takes any. Err hands the scalar back: TypeMismatch exactly where no rule is for the two
-/// types, Overflow exactly where its number, rounded to the type's unit, is none of the type's numbers. Takes no memory.
+/// Coerces a scalar to a type. Every scalar is unchanged as VARIANT. Allocates nothing.
+///
+/// Err contains the scalar and the reason: `TypeMismatch` if and only if there is no rule for the two types; `Overflow` if and only if the
+/// number, rounded to the type's unit, is outside the range of the type.
 pub fn coerce_scalar(value: Scalar, to: VarType) -> Result<Scalar, (Scalar, CoerceFault)>
     ensures made { IfOk result (λ made. CoercesScalar value to made) }
     ensures refused { IfErr result (λ e. (e.0 ≡ value) × RefusesScalar value to e.1) }
@@ -23,7 +25,7 @@ pub fn coerce_scalar(value: Scalar, to: VarType) -> Result<Scalar, (Scalar, Coer
     scalar_by_rule(value, to)
 }
 
-/// The same against the relation alone.
+/// As `coerce_scalar`, with a contract over the relation alone.
 fn scalar_by_rule(value: Scalar, to: VarType) -> Result<Scalar, (Scalar, CoerceFault)>
     ensures made { IfOk result (λ made. CoercesScalar value to made) }
     ensures refused { IfErr result (λ e. (e.0 ≡ value) × RefusesScalar value to e.1) }
@@ -46,9 +48,10 @@ fn scalar_by_rule(value: Scalar, to: VarType) -> Result<Scalar, (Scalar, CoerceF
     }
 }
 
-/// What a value becomes as one of a declared type; VARIANT takes any. Err hands the value back: TypeMismatch exactly where no rule is for
-/// the two types, Overflow exactly where its number, rounded to the type's unit, is none of the type's numbers, Memory only where EMPTY
-/// was to become an array and memory was refused.
+/// Coerces a value to a declared type, which must be a scalar type or that of an array with an sfType. Every value is unchanged as VARIANT.
+///
+/// Err contains the value and the reason: `TypeMismatch` if and only if there is no rule for the two types; `Overflow` if and only if the
+/// number, rounded to the type's unit, is outside the range of the type; `Memory` if EMPTY is to become an array and an allocation fails.
 #[inline(always)]
 pub fn coerce(
     alloc: Global,
@@ -63,7 +66,7 @@ pub fn coerce(
     value_by_rule(alloc, value, declared)
 }
 
-/// The same against the relation alone.
+/// As `coerce`, with a contract over the relation alone.
 #[inline(always)]
 fn value_by_rule(
     alloc: Global,
@@ -80,7 +83,8 @@ fn value_by_rule(
     other_value(alloc, value, declared)
 }
 
-/// Whether a value is a long, as most are, and is to become one. It stays where it stands then, since the caller makes no call.
+/// Returns whether a value is a long, as most are, and the declared type is long. The caller then returns the value without a call, so that
+/// it is not moved.
 #[inline(always)]
 fn is_long(value: &Variant, declared: ValueType) -> bool
     ensures { IsTrue result → fits_declared value.now declared ≡ true }
@@ -91,7 +95,7 @@ fn is_long(value: &Variant, declared: ValueType) -> bool
     }
 }
 
-/// The same of any value.
+/// As `value_by_rule`, for any value.
 fn other_value(
     alloc: Global,
     value: Variant,

@@ -14,17 +14,17 @@ use Rattle.oa_stream.specs.Sink.{Breaks, Output, Writes}
 use Rattle.oa_commands.specs.declared.fault.Fault.{Fault}
 use Rattle.oa_commands.specs.declared.fault.Fault.TheVariants as faults
 
--- the digits of a key, and a hyphen for that of no scalars
+-- the digits of a key; a hyphen for one without scalars
 unfoldable pub key_digits : List Scalar → List ℕ
 key_digits [] = codes "-"
 key_digits (first ∷ rest) = encode_lower (flat_map a_scalar.image (first ∷ rest))
 
--- a cell's line, as far as its key
+-- a cell's line up to its key
 unfoldable pub cell_start : List ℕ → ℤ → List ℕ
 cell_start interface dispid =
     codes "cell " ++ (hyphenated_text lower interface ++ (codes " " ++ (signed_decimal dispid ++ codes " ")))
 
--- and behind it
+-- the rest of it
 unfoldable pub value_digits : Variant → List ℕ
 value_digits value = codes " " ++ encode_lower (a_value.image value) ++ codes "\n"
 
@@ -49,21 +49,21 @@ next_line next = codes "next " ++ (decimal next ++ codes "\n")
 abbrev pub table_lines : TableValue → List ℕ
 table_lines table = next_line table.next ++ flat_map object_lines table.objects
 
--- what is printed of a store: its objects, or its library in their place
+-- what is printed of a store: its objects, or its library instead
 abbrev pub dump : Bool → List ℕ → TableValue → List ℕ
 dump library text table = if library then text else table_lines table
 
 -- ---- what is left where lines are broken off
 
--- a first part of these bytes was put
+-- a prefix of these bytes was put
 pub record PutsFront (old new : Output) (bytes : List ℕ) : Type 0 where
   pub front : List ℕ
   pub rest : List ℕ
   pub parts : bytes ≡ front ++ rest
   pub put : Writes old new front
 
--- This fault is told of bytes that are made and put: the writer has failed in them, or memory was wanting behind a
--- first part of them.
+-- This fault is returned for bytes that are made and put: the writer has failed, or an allocation failed after a
+-- prefix of them.
 abbrev pub BreaksOff : Output → Output → List ℕ → Fault → Type 0
 BreaksOff old new bytes faults.Write = Breaks old new bytes
 BreaksOff old new bytes faults.Memory = PutsFront old new bytes

@@ -1,4 +1,4 @@
--- Names as a line of standard error shows them. (This project's choice.)
+-- Names as they appear on standard error. (This project's choice.)
 use Rattle.std.specs.Prelude.{ℕ, List, if◌then◌else◌}
 use Rattle.std.specs.Char.{encode_utf8, is_control}
 use Rattle.std.specs.Char.Escape.{escape_unicode}

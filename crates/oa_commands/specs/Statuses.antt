@@ -1,4 +1,4 @@
--- The status that a fault ends the program with, and which faults each function tells. (This project's choice.)
+-- The exit status of each fault, and which faults each function returns. (This project's choice.)
 use Rattle.std.specs.Prelude.{◌≡◌, ◌⊎◌, ℕ, Result, Ok, Err, ⊤}
 use Rattle.oa_idl.specs.declared.stop.Limit.TheVariants as limits
 use Rattle.oa_idl.specs.declared.stop.ParseError.{ParseError}
@@ -7,6 +7,8 @@ use Rattle.oa_checks.specs.declared.fault.CheckError.{CheckError}
 use Rattle.oa_checks.specs.declared.fault.CheckError.TheVariants as checking
 use Rattle.oa_disk.specs.declared.disk.DeviceFault.{DeviceFault}
 use Rattle.oa_disk.specs.declared.disk.DeviceFault.TheVariants as devices
+use Rattle.oa_frame.specs.declared.ends.End.{End}
+use Rattle.oa_frame.specs.declared.ends.End.TheVariants as sessions
 use Rattle.oa_share.specs.declared.session_end.SessionEnd.{SessionEnd}
 use Rattle.oa_share.specs.declared.session_end.SessionEnd.TheVariants as ends
 use Rattle.oa_store.specs.declared.fault.FormatFault.{FormatFault}
@@ -26,8 +28,8 @@ abbrev pub status_of_tree : CheckError → ℕ
 status_of_tree checking.Memory = 5
 status_of_tree error = 2
 
--- 1 for a file, a device, a reader or a writer, 2 for a command line or a library, 3 for a store, 4 for a record or a
--- frame, 5 for want of memory
+-- 1 for a file, a device, a reader or a writer; 2 for a command line or a library; 3 for a store; 4 for a record or a
+-- frame; 5 for out of memory
 abbrev pub status_of : Fault → ℕ
 status_of faults.Words = 2
 status_of faults.TwoInputs = 2
@@ -55,7 +57,7 @@ status_of faults.Read = 1
 status_of faults.Write = 1
 status_of faults.Memory = 5
 
--- the faults that a disk and a store tell, as the program tells them
+-- the faults of a disk and of a store, as those of the program
 abbrev pub of_device : DeviceFault → Fault
 of_device devices.Write = faults.DeviceWrite
 of_device devices.Read = faults.DeviceRead
@@ -81,7 +83,16 @@ of_upgrade (upgrades.Damaged place) = faults.Damaged place
 of_upgrade (upgrades.Device fault) = of_device fault
 of_upgrade upgrades.Memory = faults.Memory
 
--- how a session of many clients ends, as the program tells it: the end of the input between two frames is no fault
+-- how a session of one client ends, as the program's result: the end of the input is no fault
+abbrev pub of_end : End → Result (Unit {0}) Fault
+of_end sessions.Closed = Ok tt
+of_end sessions.Cut = Err faults.Cut
+of_end sessions.TooLong = Err faults.TooLong
+of_end (sessions.BadHex line) = Err (faults.BadHex line)
+of_end sessions.ReadFault = Err faults.Read
+of_end sessions.WriteFault = Err faults.Write
+
+-- the end of a session of many clients as the program's result: the end of the input between two frames is no fault
 abbrev pub of_session_end : SessionEnd → Result (Unit {0}) Fault
 of_session_end ends.Closed = Ok tt
 of_session_end ends.Cut = Err faults.FrameCut
@@ -92,53 +103,53 @@ of_session_end ends.WriteFault = Err faults.Write
 
 -- ---- of files
 
--- of a file that is read: it cannot be
+-- of a file that cannot be read
 abbrev pub IsOfReading : Fault → Type 0
 IsOfReading (faults.CannotRead name reason) = ⊤
 IsOfReading faults.Memory = ⊤
 IsOfReading other = ⊥
 
--- of a file that another process has
+-- of a file that another process has locked
 abbrev pub IsOfUse : Fault → Type 0
 IsOfUse (faults.InUse name) = ⊤
 IsOfUse faults.Memory = ⊤
 IsOfUse other = ⊥
 
--- of a file that is opened as a store's, to be read
+-- of a file that is opened as a store's for reading
 abbrev pub IsOfOpening : Fault → Type 0
 IsOfOpening fault = IsOfReading fault ⊎ IsOfUse fault
 
--- of a file that is made, lengthened, or written as far as is needed: it cannot be
+-- of a file that cannot be created, lengthened, or written in the required length
 abbrev pub IsOfMaking : Fault → Type 0
 IsOfMaking (faults.CannotWrite name reason) = ⊤
 IsOfMaking faults.Memory = ⊤
 IsOfMaking other = ⊥
 
--- of a file that is opened as a store's, to be read and written
+-- of a file that is opened as a store's for reading and writing
 abbrev pub IsOfTaking : Fault → Type 0
 IsOfTaking fault = IsOfOpening fault ⊎ IsOfMaking fault
 
 -- ---- of a library
 
--- of bytes that are no UTF-8, or more than a text may have
+-- of bytes that are not UTF-8, or more than a text may have
 abbrev pub IsOfBytes : Fault → Type 0
 IsOfBytes fault = (fault ≡ faults.NotUtf8) ⊎ (fault ≡ faults.Parse (parsing.Limit limits.Text))
 
--- of a library's text that is read
+-- of reading a library's text
 abbrev pub IsOfLibraryText : Fault → Type 0
 IsOfLibraryText fault = IsOfReading fault ⊎ IsOfBytes fault
 
--- of a text that stands for no library
+-- of a text that has no library
 abbrev pub IsOfTree : Fault → Type 0
 IsOfTree (faults.Parse error) = ⊤
 IsOfTree (faults.Check error) = ⊤
 IsOfTree other = ⊥
 
--- of a library that is read
+-- of reading a library
 abbrev pub IsOfLibrary : Fault → Type 0
 IsOfLibrary fault = IsOfLibraryText fault ⊎ IsOfTree fault
 
--- the same, where a place in the text is shown: that of a token that cannot stand there
+-- the same with a place in the text: that of a token that is not allowed there
 abbrev pub IsOfPlace : Fault → Type 0
 IsOfPlace (faults.At (parsing.Syntax byte) place) = ⊤
 IsOfPlace other = ⊥
@@ -148,26 +159,26 @@ IsOfPlacedLibrary fault = IsOfLibrary fault ⊎ IsOfPlace fault
 
 -- ---- of the commands
 
--- of lines that are made and written
+-- of making and writing lines
 abbrev pub IsOfWriting : Fault → Type 0
 IsOfWriting fault = (fault ≡ faults.Write) ⊎ (fault ≡ faults.Memory)
 
--- all that `check` tells
+-- all faults of `check`
 abbrev pub IsOfCheck : Fault → Type 0
 IsOfCheck fault = IsOfPlacedLibrary fault ⊎ (fault ≡ faults.Write)
 
--- of a disk that is made a store: no call of that reads
+-- of formatting a disk: no call of that reads
 abbrev pub IsOfFormatting : Fault → Type 0
 IsOfFormatting faults.TooSmall = ⊤
 IsOfFormatting faults.DeviceWrite = ⊤
 IsOfFormatting faults.Memory = ⊤
 IsOfFormatting other = ⊥
 
--- all that `format` tells
+-- all faults of `format`
 abbrev pub IsOfFormat : Fault → Type 0
 IsOfFormat fault = IsOfLibrary fault ⊎ (IsOfTaking fault ⊎ IsOfFormatting fault)
 
--- of a disk whose store is read, whichever its library and its format are
+-- of reading the store of a disk, with any library and format
 abbrev pub IsOfInspection : Fault → Type 0
 IsOfInspection faults.NotAStore = ⊤
 IsOfInspection (faults.Damaged place) = ⊤
@@ -176,11 +187,11 @@ IsOfInspection faults.DeviceWrite = ⊤
 IsOfInspection faults.Memory = ⊤
 IsOfInspection other = ⊥
 
--- all that `dump` tells
+-- all faults of `dump`
 abbrev pub IsOfDump : Fault → Type 0
 IsOfDump fault = IsOfOpening fault ⊎ (IsOfInspection fault ⊎ IsOfWriting fault)
 
--- of a disk whose store is brought to format 2
+-- of upgrading the store of a disk to format 2
 abbrev pub IsOfUpgrading : Fault → Type 0
 IsOfUpgrading faults.TooSmall = ⊤
 IsOfUpgrading faults.NotAStore = ⊤
@@ -191,6 +202,6 @@ IsOfUpgrading faults.DeviceWrite = ⊤
 IsOfUpgrading faults.Memory = ⊤
 IsOfUpgrading other = ⊥
 
--- all that `upgrade` tells
+-- all faults of `upgrade`
 abbrev pub IsOfUpgrade : Fault → Type 0
 IsOfUpgrade fault = IsOfTaking fault ⊎ IsOfUpgrading fault

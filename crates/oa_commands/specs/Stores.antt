@@ -1,4 +1,4 @@
--- The disks that the commands on a store answer or read. (This project's choice.)
+-- The disks that the commands on a store return or read. (This project's choice.)
 use Rattle.std.specs.Prelude.{ℕ, IsTrue, List, max, min}
 use Rattle.oa_canonical.specs.Canonical.{canonical}
 use Rattle.oa_checks.specs.IsLibrary.{IsLibrary}
@@ -17,7 +17,7 @@ use Rattle.oa_table.specs.Tables.{TableValue, first_table}
 abbrev pub bank_near : ℕ → ℕ
 bank_near size = max least_bank_bytes (min size most_bank_bytes)
 
--- Each image of a disk is the store of a library that some text stands for, without objects, with banks of this size.
+-- Each image of a disk is the store of a library of some text, without objects, with banks of this size.
 pub record IsNewlyFormatted {D : Type 0} (g : Ghosts D) (size : ℕ) (disk : D) : Type 0 where
   pub text : List ℕ
   pub library : TreeValue
@@ -25,8 +25,8 @@ pub record IsNewlyFormatted {D : Type 0} (g : Ghosts D) (size : ℕ) (disk : D) 
   pub stored : (c : List ℕ) → g.image disk c
       → IsStoreAt (Two size) 0 (first_gate (canonical library) first_table) (canonical library) first_table c
 
--- A disk held a store of format 1, and is now in each image one of format 2 with what it held, none of it too large for
--- a server, as long as each read gave what was there.
+-- A disk had a store of format 1. Each image is now one of format 2 with the same library and table, none of them too
+-- large for a server, as long as each read returned the contents.
 pub record IsUpgraded {D : Type 0} (g : Ghosts D) (size : ℕ) (disk : D) : Type 0 where
   pub before : D
   pub begins : BeginsHonest g before

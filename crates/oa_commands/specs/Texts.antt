@@ -1,9 +1,9 @@
--- What is printed of a library. (This project's choice.)
+-- The printed text of a library. (This project's choice.)
 use Rattle.std.specs.Prelude.{ℕ, List}
 use Rattle.oa_canonical.specs.Canonical.{canonical}
 use Rattle.oa_checks.specs.IsLibrary.{IsLibrary}
 use Rattle.oa_idl.specs.Trees.{TreeValue}
 
--- the canonical text of a library that some text stands for was put as is said
+-- the canonical text of a library of some text was put in the given way
 abbrev pub IsPrinted : (List ℕ → Type 0) → Type 0
 IsPrinted Put = (text : List ℕ) × (library : TreeValue) × IsLibrary text library × Put (canonical library)

@@ -22,12 +22,13 @@ use oa_variant::{Scalar, Variant};
 use std::alloc::{AllocError, Global};
 use uuid::Uuid;
 
-/// Writes the objects of the store in the file `path` and their cells, a line each, or the bytes of its library in their place, and hands
-/// them on. The file is let go before the first line, and of one that is not opened or holds no whole store nothing is written.
+/// Writes a line for each object of the store in the file `path` and for each of its cells, or the bytes of its
+/// library instead, and flushes. The file is closed before the first line. If it cannot be opened or holds no valid
+/// store, nothing is written.
 ///
-/// The file is opened to be read alone. `CannotRead` where it cannot be, or is no regular file; `InUse` where another process has it locked;
-/// `NotAStore`; `Damaged` with the place in bytes; `DeviceRead` and `DeviceWrite` where a read or the sync before them failed; `Write` where
-/// the writer fails. `Memory` may come at each.
+/// The file is opened for reading only. Errors: `CannotRead` if it cannot be opened or is not a regular file; `InUse`
+/// if another process has locked it; `NotAStore`; `Damaged` with the place in bytes; `DeviceRead` and `DeviceWrite`
+/// if a read or the sync before it failed; `Write` if the writer fails; `Memory` at any point.
 pub fn write_dump<W: Sink>(
     rt: &HostRuntime,
     streams: &StandardStreams,
@@ -40,7 +41,8 @@ pub fn write_dump<W: Sink>(
         × Writes (W.out writer.old) (W.out writer.new) (dump library text table)) }
     ensures handed_on { OnOk result (IsHandedOn (W.out writer.new)) }
     ensures refused { IfErr result IsOfDump }
-    // Where it fails the writer is as it was, or failed in what was to be written, or took a first part of that before memory was wanting.
+    // (after an error the writer has not changed, or has failed, or has received a prefix of the lines before an
+    // allocation failed)
     ensures broken { IfErr result (λ fault. (W.out writer.new ≡ W.out writer.old)
         ⊎ ((text : List ℕ) × (table : TableValue) × WasRead ⟦<FileDisk as Disk>⟧ text table
         × BreaksOff (W.out writer.old) (W.out writer.new) (dump library text table) fault)) }
@@ -50,7 +52,7 @@ pub fn write_dump<W: Sink>(
     put_dump(alloc, &text, &table, library, writer)
 }
 
-/// The library and the table that a store keeps.
+/// Reads the library and the table of a store.
 fn kept(
     rt: &HostRuntime,
     streams: &StandardStreams,
@@ -64,7 +66,7 @@ fn kept(
     Ok(inspect(alloc, &mut disk)?)
 }
 
-/// Writes the lines of a table, or a library in their place, and hands them on.
+/// Writes the lines of a table, or a library instead, and flushes.
 fn put_dump<W: Sink>(
     alloc: Global,
     text: &[u8],
@@ -83,7 +85,7 @@ fn put_dump<W: Sink>(
     Ok(())
 }
 
-/// Writes a library or the lines of a table.
+/// Writes a library, or the lines of a table.
 fn put_either<W: Sink>(
     alloc: Global,
     text: &[u8],
@@ -103,7 +105,7 @@ fn put_either<W: Sink>(
     put_table(alloc, table, writer)
 }
 
-/// Writes a table: its next number, and its objects, each with its cells. Of these one image at a time is kept.
+/// Writes a table: its next number, and its objects, each with its cells. One image at a time is in memory.
 fn put_table<W: Sink>(alloc: Global, table: &Table, writer: &mut W) -> Result<(), Fault>
     requires unbroken { (W.out writer.old).broken ≡ false }
     ensures written { OnOk result (Writes (W.out writer.old) (W.out writer.new) (table_lines table.now)) }
@@ -119,7 +121,7 @@ fn put_table<W: Sink>(alloc: Global, table: &Table, writer: &mut W) -> Result<()
     Ok(())
 }
 
-/// The line of the next number.
+/// Returns the line of the next number.
 #[tactic(auto, unfolding(crate::specs::Dumps::next_line))]
 fn next_line(alloc: Global, next: u32) -> Result<String, AllocError>
     ensures { IfOk result (λ line. string_bytes line ≡ next_line next) }
@@ -127,7 +129,7 @@ fn next_line(alloc: Global, next: u32) -> Result<String, AllocError>
     format!(in alloc; "next {next}\n")
 }
 
-/// The line of an object.
+/// Writes the line of an object.
 #[tactic(auto, unfolding(crate::specs::Dumps::object_line))]
 fn put_object<W: Sink>(
     alloc: Global,
@@ -145,7 +147,7 @@ fn put_object<W: Sink>(
     Ok(())
 }
 
-/// The lines of an object's cells.
+/// Writes the lines of an object's cells.
 fn put_cells<W: Sink>(
     alloc: Global,
     object: &LiveObject,
@@ -164,7 +166,7 @@ fn put_cells<W: Sink>(
     Ok(())
 }
 
-/// A cell's line, as far as its key.
+/// Writes a cell's line up to its key.
 fn put_place<W: Sink>(
     alloc: Global,
     place: &Place,
@@ -181,7 +183,7 @@ fn put_place<W: Sink>(
     put_key(place.key(), image, writer)
 }
 
-/// What stands before a cell's key.
+/// Returns the part of a cell's line before its key.
 #[tactic(auto, unfolding(crate::specs::Dumps::cell_start))]
 fn cell_start(alloc: Global, interface: Uuid, dispid: i32) -> Result<String, AllocError>
     ensures { IfOk result (λ start. string_bytes start ≡ cell_start interface dispid) }
@@ -189,7 +191,7 @@ fn cell_start(alloc: Global, interface: Uuid, dispid: i32) -> Result<String, All
     format!(in alloc; "cell {interface} {dispid} ")
 }
 
-/// A key as digits.
+/// Writes a key as digits.
 #[tactic(auto, unfolding(crate::specs::Dumps::key_digits))]
 fn put_key<W: Sink>(key: &[Scalar], image: &mut Vec<u8>, writer: &mut W) -> Result<(), Fault>
     requires unbroken { (W.out writer.old).broken ≡ false }
@@ -207,7 +209,7 @@ fn put_key<W: Sink>(key: &[Scalar], image: &mut Vec<u8>, writer: &mut W) -> Resu
     Ok(())
 }
 
-/// The rest of a cell's line.
+/// Writes the rest of a cell's line.
 #[tactic(auto, unfolding(crate::specs::Dumps::value_digits))]
 fn put_value<W: Sink>(value: &Variant, image: &mut Vec<u8>, writer: &mut W) -> Result<(), Fault>
     requires unbroken { (W.out writer.old).broken ≡ false }

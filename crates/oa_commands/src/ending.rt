@@ -1,15 +1,33 @@
-//! How a session of many clients ends for the program.
+//! The end of a session as the program's result.
 ghost use Rattle.std.specs.Prelude.{◌≡◌};
-ghost use Rattle.oa_commands.specs.Statuses.{of_session_end};
+ghost use Rattle.oa_commands.specs.Statuses.{of_end, of_session_end};
 
 use crate::fault::Fault;
+use oa_frame::End;
 use oa_share::SessionEnd;
 
-/// What the end of a session of many clients is for the program. The end of the input between two frames is what was asked for, and so is
-/// each client's own end, whatever it was: that client alone is told of it.
+/// Converts the end of a session of one client into the program's result. The end of the input is no fault.
 ///
-/// `FrameCut` where the input ended within a frame, `UnknownFrame` at a head that says nothing, `Memory` where memory was refused for a part
-/// of a record, `Read` and `Write` where standard input or output failed.
+/// Returns `Cut` if the input ended within a record, `TooLong` for a line or record above the limit, `BadHex` with the line's number for a line
+/// that is not hexadecimal, `Read` and `Write` if standard input or output failed.
+pub fn client_ended(why: End) -> Result<(), Fault>
+    ensures { result ≡ of_end why }
+{
+    match why {
+        End::Closed => Ok(()),
+        End::Cut => Err(Fault::Cut),
+        End::TooLong => Err(Fault::TooLong),
+        End::BadHex(line) => Err(Fault::BadHex(line)),
+        End::ReadFault => Err(Fault::Read),
+        End::WriteFault => Err(Fault::Write),
+    }
+}
+
+/// Converts the end of a session of many clients into the program's result. The end of the input between two frames
+/// is no fault, and neither is the end of a client, whatever it was: only that client receives it.
+///
+/// Returns `FrameCut` if the input ended within a frame, `UnknownFrame` for a frame with an invalid head, `Memory` if
+/// an allocation for a part of a record failed, `Read` and `Write` if standard input or output failed.
 pub fn clients_ended(why: SessionEnd) -> Result<(), Fault>
     ensures { result ≡ of_session_end why }
 {

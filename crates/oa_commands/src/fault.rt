@@ -1,4 +1,4 @@
-//! What ends the program early: one line on standard error, behind some a second one with the cause, and a status.
+//! The faults that end the program: one line on standard error, for some a second one with the cause, and a status.
 ghost use Rattle.std.specs.Prelude.{◌≡◌, ◌≤◌};
 ghost use Rattle.oa_commands.specs.Statuses.{of_device, of_format, of_open, of_upgrade, status_of};
 ghost use Rattle.oa_commands.specs.declared.fault.Fault.TheVariants as faults;
@@ -12,55 +12,55 @@ use oa_stream::Unwritten;
 use std::alloc::{AllocError, AllocFailed};
 use thiserror::Error;
 
-/// Why the program ends with a status other than 0.
+/// Why the program exits with a status other than 0.
 #[derive(Debug, Drop, Error)]
 pub enum Fault {
-    /// A word of the command line is no UTF-8.
+    /// A word of the command line is not UTF-8.
     #[error("command line is not UTF-8")]
     Words,
-    /// The library is to be read from standard input, as the requests are.
+    /// Both the library and the requests were to be read from standard input.
     #[error("standard input holds the requests, so LIB cannot be -")]
     TwoInputs,
-    /// The file of this name is not there, or cannot be opened or read, for this reason.
+    /// The file with this name does not exist, or cannot be opened or read, for this reason.
     #[error("cannot read {0}\n{0}: {1}")]
     CannotRead(String, String),
-    /// The file of this name cannot be made, lengthened or written as far as is needed, for this reason.
+    /// The file with this name cannot be created, lengthened or written in the required length, for this reason.
     #[error("cannot write {0}\n{0}: {1}")]
     CannotWrite(String, String),
-    /// Another process has the file of this name.
+    /// Another process has locked the file with this name.
     #[error("cannot read {0}\n{0}: in use by another process")]
     InUse(String),
-    /// The text of a library is no UTF-8.
+    /// The text of a library is not UTF-8.
     #[error("library is not UTF-8")]
     NotUtf8,
-    /// The text of a library is not of the grammar, or breaks a limit.
+    /// The text of a library violates the grammar or a limit.
     #[error("{0}")]
     Parse(ParseError),
-    /// The same, with its place in the text.
+    /// The same, with the place in the text.
     #[error("{0}\n{1}")]
     At(ParseError, Place),
-    /// A library is refused.
+    /// A library violates a rule.
     #[error("{0}")]
     Check(CheckError),
     /// A store's file is too short for its banks.
     #[error("disk too small")]
     TooSmall,
-    /// A file holds no store.
+    /// A file contains no store.
     #[error("not a store")]
     NotAStore,
-    /// A store is of format 1, which is not served.
+    /// A store has format 1, which cannot be served.
     #[error("old format")]
     OldFormat,
-    /// A store that is to be upgraded is of format 2 already.
+    /// A store to be upgraded already has format 2.
     #[error("already format 2")]
     AlreadyNew,
-    /// A store keeps another library.
+    /// A store has another library.
     #[error("library differs")]
     LibraryDiffers,
-    /// The bytes at this place of a store are not those of a store.
+    /// The bytes at this place of a store are invalid.
     #[error("damaged at {0}")]
     Damaged(u64),
-    /// A write of a store's file failed. The number is STG_E_WRITEFAULT, that below STG_E_READFAULT.
+    /// A write to a store's file failed. The number in the message is STG_E_WRITEFAULT, for a read STG_E_READFAULT.
     #[error("device fault 0x8003001d")]
     DeviceWrite,
     /// A read of a store's file failed.
@@ -72,29 +72,29 @@ pub enum Fault {
     /// A record or a line is too long.
     #[error("record too long")]
     TooLong,
-    /// This line is none of hexadecimal digits.
+    /// The line with this number is not hexadecimal.
     #[error("bad hex on line {0}")]
     BadHex(u64),
     /// The frames of many clients end within one.
     #[error("frame cut")]
     FrameCut,
-    /// The head of a frame says nothing.
+    /// The head of a frame is invalid.
     #[error("unknown frame")]
     UnknownFrame,
     /// The requests cannot be read.
     #[error("read fault")]
     Read,
-    /// Standard output takes no more.
+    /// Standard output cannot be written.
     #[error("write fault")]
     Write,
-    /// There is no memory.
+    /// An allocation failed.
     #[error("out of memory")]
     Memory,
 }
 
 impl Fault {
-    /// 1 for a file, a device, a reader or a writer, 2 for a command line or a library, 3 for a store, 4 for a record or a frame, 5 for want
-    /// of memory; never that of success.
+    /// Returns the exit status: 1 for a file, a device, a reader or a writer; 2 for a command line or a library; 3
+    /// for a store; 4 for a record or a frame; 5 for out of memory. It is never 0.
     #[tactic(auto, using(crate::proofs::Failing::fails))]
     pub fn status(&self) -> u8
         ensures value { result ≡ status_of self.now }

@@ -1,12 +1,14 @@
-//! The commands on a library's text and on a store's file, what they print, and what ends the program early: one line and a status.
+//! The commands on a library's text and on a store's file, what they print, and the faults that end the program: one
+//! line and a status.
 //!
-//! Its contract: `format_store` answers a disk of which each image is the new store (`IsNewlyFormatted`), `upgrade_store` one that is
-//! brought to format 2 (`IsUpgraded`), `write_dump` writes the lines of what a disk was read as (`dump`), and `write_text` the canonical
-//! text of a library. Each tells no fault but its own (`IsOfFormat`, `IsOfUpgrade`, `IsOfDump`, `IsOfCheck`), and each fault has the status
-//! of one table (`status_of`), never that of success, an end of a session of many clients too (`of_session_end`). Which file a path names,
-//! its lock, and what makes it longer are tested (`tests/`).
+//! Contract: `format_store` returns a disk of which each image is the new store (`IsNewlyFormatted`), `upgrade_store`
+//! one that was upgraded to format 2 (`IsUpgraded`); `write_dump` writes the lines of the store that was read
+//! (`dump`), and `write_text` the canonical text of a library. Each returns only its own faults (`IsOfFormat`,
+//! `IsOfUpgrade`, `IsOfDump`, `IsOfCheck`). Each fault has the status of one table (`status_of`), which is never 0;
+//! so has the end of a session (`of_end`, `of_session_end`). Tested, not proved (`tests/`): which file a path
+//! names, its lock, and how it is lengthened.
 //!
-//! What stands on it: the program.
+//! Used by the program.
 #![tactic(auto)]
 
 mod dump;
@@ -24,7 +26,7 @@ mod text;
 mod upgrade;
 
 pub use dump::write_dump;
-pub use ending::clients_ended;
+pub use ending::{client_ended, clients_ended};
 pub use fault::Fault;
 pub use library::{STANDARD_INPUT, read_library};
 pub use place::Place;

@@ -1,4 +1,4 @@
-//! Texts of libraries, and the libraries that they stand for.
+//! Texts of libraries, and their libraries.
 ghost use Rattle.std.specs.Prelude.{◌≡◌, ◌≤◌, length, string_bytes, IfSome};
 ghost use Rattle.std.specs.Prelude.{ℕ, List, IfErr, IfOk};
 ghost use Rattle.oa_checks.specs.IsLibrary.{IsLibrary};
@@ -21,14 +21,14 @@ use std::fs::File;
 use std::io;
 use std::io::{ErrorKind, Read};
 
-/// The word that stands for standard input in the place of a file.
+/// The word for standard input instead of a file.
 pub const STANDARD_INPUT: &str = "-";
 
-/// The bytes that are read at once of what stands behind a text's limit.
+/// How many bytes after a text's limit are read at once.
 const PIECE: u64 = 65_536;
 
-/// The text of a library, from a file or from standard input. Of a text above the limit one piece at a time is kept, and it is read on only
-/// as long as it is UTF-8: that fault goes before the limit, wherever it stands.
+/// Reads the text of a library, from a file or from standard input. A text above the limit is read in pieces, one of
+/// them in memory, as long as it is UTF-8: an error of UTF-8 comes before the limit, wherever it is.
 pub(crate) fn read_text(rt: &HostRuntime, alloc: Global, path: &str) -> Result<String, Fault>
     ensures { IfErr result IsOfLibraryText }
 {
@@ -41,11 +41,11 @@ pub(crate) fn read_text(rt: &HostRuntime, alloc: Global, path: &str) -> Result<S
     }
 }
 
-/// The library of the file `path`, or of standard input where that is `STANDARD_INPUT`.
+/// Reads the library of the file `path`, or of standard input if that is `STANDARD_INPUT`.
 ///
-/// `CannotRead` where it cannot be opened or read; `NotUtf8` of bytes that are no UTF-8, however many they are; `Parse` of a text that has
-/// more than 262,144 bytes, breaks another limit of the grammar, or is not of it; `Check` with the first breach of the checks; `Memory`,
-/// also as that of `Parse` and of `Check`.
+/// Errors: `CannotRead` if it cannot be opened or read; `NotUtf8` for bytes that are not UTF-8, however many; `Parse`
+/// for a text of more than 262,144 bytes or one that violates another limit or the grammar; `Check` with the first
+/// violated rule; `Memory`, also as that of `Parse` and of `Check`.
 pub fn read_library(rt: &HostRuntime, alloc: Global, path: &str) -> Result<Library, Fault>
     ensures read { IfOk result (λ library. (text : List ℕ) × IsLibrary text library) }
     ensures refused { IfErr result IsOfLibrary }
@@ -53,7 +53,7 @@ pub fn read_library(rt: &HostRuntime, alloc: Global, path: &str) -> Result<Libra
     library_of(alloc, &read_text(rt, alloc, path)?)
 }
 
-/// The library that a text stands for.
+/// Returns the library of a text.
 pub(crate) fn library_of(alloc: Global, text: &str) -> Result<Library, Fault>
     ensures read { IfOk result (λ library. IsLibrary text.now library) }
     ensures refused { IfErr result IsOfTree }
@@ -61,7 +61,7 @@ pub(crate) fn library_of(alloc: Global, text: &str) -> Result<Library, Fault>
     Ok(check(alloc, parse(alloc, text)?)?)
 }
 
-/// Why a file cannot be read.
+/// Returns why a file cannot be read.
 pub(crate) fn unread(alloc: Global, error: &io::Error, path: &str) -> Fault
     ensures kind { IsOfReading result }
     ensures told { TellsUnread path.now result }
@@ -76,7 +76,7 @@ pub(crate) fn unread(alloc: Global, error: &io::Error, path: &str) -> Fault
     }
 }
 
-/// What a reader gives, up to its end, as a text. One byte above the limit tells that the text breaks it.
+/// Reads all of a reader as a text. One byte above the limit shows that the text exceeds it.
 fn text_of<R: Read>(alloc: Global, reader: &mut R, path: &str) -> Result<String, Fault>
     ensures whole { IfOk result (λ text. IfSome (R.remaining reader.old) (λ bytes. IsWithinLimit bytes × (string_bytes text ≡ bytes))) }
     ensures long { IfErr result (λ fault. (fault ≡ faults.Parse (parsing.Limit limits.Text)) → IfSome (R.remaining reader.old) (λ bytes. IsWithinLimit bytes → ⊥)) }
@@ -98,7 +98,8 @@ fn text_of<R: Read>(alloc: Global, reader: &mut R, path: &str) -> Result<String,
     Ok(text)
 }
 
-/// Why a text is refused that begins with these bytes, more than a text may have: it is not UTF-8, or it breaks the limit.
+/// Returns why a text is refused that begins with these bytes, which are more than a text may have: it is not UTF-8,
+/// or it exceeds the limit.
 fn refusal_of_long<R: Read>(alloc: Global, reader: &mut R, mut bytes: Vec<u8>, path: &str) -> Fault
     ensures { IsOfLibraryText result }
 {
@@ -106,7 +107,7 @@ fn refusal_of_long<R: Read>(alloc: Global, reader: &mut R, mut bytes: Vec<u8>, p
         let Some(whole) = whole_characters(&bytes) else {
             return Fault::NotUtf8;
         };
-        // A character that is cut goes on in the next piece.
+        // An incomplete character continues in the next piece.
         bytes.drain(..whole);
         match reader.by_ref().take(PIECE).read_to_end(&mut bytes) {
             Ok(0) if bytes.is_empty() => return Fault::Parse(ParseError::Limit(Limit::Text)),
@@ -118,7 +119,7 @@ fn refusal_of_long<R: Read>(alloc: Global, reader: &mut R, mut bytes: Vec<u8>, p
     Fault::Parse(ParseError::Limit(Limit::Text))
 }
 
-/// How many of the bytes are whole characters, where nothing but a first part of one more stands behind them.
+/// Returns how many of the bytes are whole characters; None unless only the beginning of one more follows them.
 fn whole_characters(bytes: &[u8]) -> Option<usize>
     ensures { IfSome result (λ n. n ≤ length bytes.now) }
 {

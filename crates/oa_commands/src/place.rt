@@ -1,4 +1,4 @@
-//! Where in a text a fault stands, for a person to read.
+//! The place of a fault in a text, for a person to read.
 ghost use Rattle.std.specs.Prelude.{◌≡◌, [], string_bytes, IfOk, OnOk};
 ghost use Rattle.oa_commands.specs.Places.{BeginsLine, ReadsCharacter, place_head, shown_in_line};
 ghost use Rattle.oa_commands.specs.Places as places;
@@ -8,21 +8,21 @@ use crate::shown::shown_name;
 use std::alloc::{AllocError, Global};
 use std::fmt;
 
-/// A place in a text, with the line that it stands in. A line ends at CR, LF or both.
+/// A place in a text, with its line. A line ends at CR, LF or both.
 #[derive(Debug, Drop)]
 pub struct Place {
-    /// The file, the line and the column, from 1 on, in characters.
+    /// The file, the line and the column, counted from 1, in characters.
     head: String,
-    /// The text of the line, with `?` for what would not be shown.
+    /// The text of the line, with `?` for characters that cannot be shown.
     line: String,
-    /// What stands before the place in both, as blanks.
+    /// Blanks as wide as the part of both before the place.
     blank: String,
-    /// The word at the place, where it is one of automation IDL that the grammar leaves out.
+    /// The word at the place, if it is one of automation IDL that the grammar does not have.
     left_out: Option<&'static str>,
 }
 
 impl Place {
-    /// The place of the byte `at` in a text. The end of the text is a place too.
+    /// Returns the place of the byte `at` in a text. The end of the text is a place, too.
     pub(crate) fn of(
         alloc: Global,
         file: &str,
@@ -40,14 +40,14 @@ impl Place {
     }
 }
 
-/// The line of a text that is being read, as far as it was read.
+/// The line of a text that is being read, up to the last character read.
 #[derive(Drop)]
 struct Line {
     /// Its characters, as they are shown.
     shown: String,
-    /// What stands before the place, as blanks.
+    /// Blanks as wide as its part before the place.
     blank: String,
-    /// The line and the column, from 1 on.
+    /// The line and the column, counted from 1.
     number: u64,
     column: u64,
     /// The character that was read last.
@@ -72,7 +72,7 @@ impl Line {
         }
     }
 
-    /// Reads a character, of which is said whether it stands before the place.
+    /// Reads a character; `is_before` says whether it is before the place.
     fn take(&mut self, c: char, is_before: bool) -> Result<(), AllocError>
         ensures { OnOk result (ReadsCharacter c is_before self.old self.new) }
     {
@@ -89,7 +89,7 @@ impl Line {
         Ok(())
     }
 
-    /// Begins the next line, but between a CR and its LF.
+    /// Begins the next line, except between a CR and its LF.
     fn end(&mut self, c: char)
         ensures { BeginsLine c self.old self.new }
     {
@@ -101,7 +101,7 @@ impl Line {
         self.blank.clear();
     }
 
-    /// The place that was reached, in a file.
+    /// Returns the place that was reached, in a file.
     fn placed(
         self,
         alloc: Global,
@@ -123,14 +123,14 @@ impl Line {
     }
 }
 
-/// Whether a character ends a line.
+/// Returns whether a character ends a line.
 fn is_end(c: char) -> bool
     ensures { result ≡ places.is_end c }
 {
     c == '\n' || c == '\r'
 }
 
-/// Blanks as wide as what stands before a line, and those of the line.
+/// Returns blanks as wide as the text before a line, and those of the line.
 fn blanks(alloc: Global, head: &str, of_line: &str) -> Result<String, AllocError> {
     let mut blanks = String::new(alloc);
     for _ in head.chars() {
@@ -140,7 +140,7 @@ fn blanks(alloc: Global, head: &str, of_line: &str) -> Result<String, AllocError
     Ok(blanks)
 }
 
-/// A character as a line shows it: a control character would move the caret.
+/// Returns a character as a line shows it: a control character would move the caret.
 fn shown(c: char) -> char
     ensures { result ≡ shown_in_line c }
 {
@@ -153,7 +153,7 @@ impl fmt::Display for Place {
         match self.left_out {
             Some(word) => write!(
                 f,
-                "\nnote: automation IDL has {word}, which is left out here: docs/idl.md, \"Words that are left out\""
+                "\nnote: {word} is not supported: see docs/reference/idl.md, \"Words that are left out\""
             ),
             None => Ok(()),
         }

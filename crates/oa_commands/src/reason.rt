@@ -1,13 +1,17 @@
-//! Why a call of the system failed, as the second line of a fault says it.
+//! Why a call of the system failed: the second line of a fault.
 use std::alloc::{AllocError, Global};
 use std::io;
 use std::io::ErrorKind;
 
-/// The system's words for a failed call, without the number that std puts behind them. What `FileDisk` refuses by itself, a file that is
-/// none of bytes, has words of its own.
+/// Returns the system's text for a failed call, without the number that std appends. `FileDisk`'s own errors have
+/// their own texts: a file that is not a regular one, and one that another process has locked.
 pub(crate) fn reason(alloc: Global, error: &io::Error) -> Result<String, AllocError> {
-    if error.raw_os_error().is_none() && error.kind() == ErrorKind::Unsupported {
-        return format!(in alloc; "not a regular file");
+    if error.raw_os_error().is_none() {
+        match error.kind() {
+            ErrorKind::Unsupported => return format!(in alloc; "not a regular file"),
+            ErrorKind::WouldBlock => return format!(in alloc; "in use by another process"),
+            _ => (),
+        }
     }
     let told = format!(in alloc; "{error}")?;
     let words = told

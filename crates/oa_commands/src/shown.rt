@@ -1,10 +1,10 @@
-//! Names as a line of standard error shows them.
+//! Names as they appear on standard error.
 ghost use Rattle.std.specs.Prelude.{◌≡◌, ◌++◌, string_bytes, IfOk, OnOk};
 ghost use Rattle.oa_commands.specs.Shown.{shown_character, shown_name as as_shown};
 
 use std::alloc::{AllocError, Global};
 
-/// A file's name, with `\u{a}` and the like for its control characters: one that ends a line would break a fault in two.
+/// Returns a file's name with `\u{a}` and the like for its control characters, so that the fault stays one line.
 pub(crate) fn shown_name(alloc: Global, name: &str) -> Result<String, AllocError>
     ensures { IfOk result (λ shown. string_bytes shown ≡ as_shown name.now) }
 {
@@ -15,7 +15,7 @@ pub(crate) fn shown_name(alloc: Global, name: &str) -> Result<String, AllocError
     Ok(shown)
 }
 
-/// Adds a character, or what stands for it.
+/// Appends a character, or its escape.
 fn push_shown(shown: &mut String, c: char) -> Result<(), AllocError>
     ensures { OnOk result (string_bytes shown.new ≡ string_bytes shown.old ++ shown_character c) }
 {

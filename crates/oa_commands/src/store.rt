@@ -1,6 +1,6 @@
-//! Files that hold a store.
-ghost use Rattle.std.specs.Prelude.{◌≡◌, ◌≢◌, ◌≤◌, IfErr, IfOk};
-ghost use Rattle.std.specs.IoError.{error_kind};
+//! Files that contain a store.
+ghost use Rattle.std.specs.Prelude.{◌≡◌, ◌≢◌, ◌≤◌, None, IfErr, IfOk, IsSome};
+ghost use Rattle.std.specs.IoError.{error_kind, raw_os_error};
 ghost use Rattle.std.specs.declared.io.ErrorKind.TheVariants as kinds;
 ghost use Rattle.oa_commands.specs.declared.fault.Fault.TheVariants as faults;
 ghost use Rattle.oa_commands.specs.Files.{TellsUnread, TellsUse, TellsUnwritten};
@@ -22,16 +22,17 @@ use std::fs::{self, File, OpenOptions};
 use std::io;
 use std::io::ErrorKind;
 
-/// The system's error for a folder in the place of a file, EISDIR.
+/// The system's error for a folder instead of a file, EISDIR.
 const IS_A_DIRECTORY: i32 = 21;
 
-/// Makes the file `path` the store of a library, without objects, with banks of so many bytes, the nearest from 20 MiB to 1 GiB, and
-/// answers it, locked. A file that is not there is made; one that is there is used in its own length, and what it held is gone.
+/// Makes the file `path` the store of a library, without objects, with banks of `bank` bytes, or the nearest size
+/// from 20 MiB to 1 GiB. Returns it, locked. A missing file is created; an existing one keeps its length, and its
+/// contents are lost.
 ///
-/// The faults of `read_library`, before the file is opened; `CannotRead` and `InUse` of one that is there, as `open_store_file` tells them;
-/// `CannotWrite` of one that is not there and cannot be made, and where the process may not write files as long as such banks;
-/// `TooSmall` of one that has no room for two banks, and is left as it was; `DeviceWrite` where a write or a sync failed. `Memory` may come
-/// at each.
+/// Errors: those of `read_library`, before the file is opened; `CannotRead` and `InUse` for an existing file, as of
+/// `open_store_file`; `CannotWrite` if it cannot be created, or this process may not write files of the length of
+/// such banks; `TooSmall` if two banks do not fit, and then the file has not changed; `DeviceWrite` if a write or a
+/// sync failed; `Memory` at any point.
 pub fn format_store(
     rt: &HostRuntime,
     streams: &StandardStreams,
@@ -51,7 +52,7 @@ pub fn format_store(
     )
 }
 
-/// The same with banks of a size that they can have.
+/// Makes the store, with banks of a valid size.
 fn made_store(
     rt: &HostRuntime,
     streams: &StandardStreams,
@@ -72,10 +73,10 @@ fn made_store(
     Ok(disk)
 }
 
-/// The file `path` of a store, which is there, as a disk. No other process has it from then on, until the disk goes.
+/// Opens the existing file `path` of a store as a disk, and locks it as long as the disk exists.
 ///
-/// `CannotRead` where it cannot be opened to be read and written, or is no regular file; `InUse` where another process has it locked;
-/// `CannotWrite` where it is longer than this process may write files; `Memory`.
+/// Errors: `CannotRead` if it cannot be opened for reading and writing, or is not a regular file; `InUse` if another
+/// process has locked it; `CannotWrite` if it is longer than this process may write files; `Memory`.
 pub fn open_store_file(
     rt: &HostRuntime,
     streams: &StandardStreams,
@@ -90,9 +91,11 @@ pub fn open_store_file(
     Ok(disk)
 }
 
-/// The same of a file that is only read, so it may be one that this process cannot write: each write of that disk would fail.
+/// Opens the existing file `path` of a store as a disk for reading only, so the process need not be able to write it:
+/// each write of that disk would fail.
 ///
-/// `CannotRead` where it cannot be opened to be read, or is no regular file; `InUse` where another process has it locked; `Memory`.
+/// Errors: `CannotRead` if it cannot be opened for reading, or is not a regular file; `InUse` if another process has
+/// locked it; `Memory`.
 pub(crate) fn open_to_read(
     rt: &HostRuntime,
     streams: &StandardStreams,
@@ -105,14 +108,15 @@ pub(crate) fn open_to_read(
     opened_to_read(rt, streams, path).map_err(|error| unopened(alloc, &error, path))
 }
 
-/// A file as a disk, from whatever beginning it has.
+/// Opens a file as a disk, for some first contents.
 fn opened(rt: &HostRuntime, _streams: &StandardStreams, path: &str) -> io::Result<FileDisk>
     ensures { IfOk result (BeginsHonest ⟦<FileDisk as Disk>⟧) }
 {
     FileDisk::over(OpenOptions::new().read(true).write(true).open(rt, path)?)
 }
 
-/// The same of a file that is only read. What has the name is looked at first: to open a pipe to be read would wait for who writes it.
+/// Opens a file as a disk for reading only. It first checks what has the name: opening a pipe for reading would wait
+/// for a writer.
 fn opened_to_read(rt: &HostRuntime, _streams: &StandardStreams, path: &str) -> io::Result<FileDisk>
     ensures { IfOk result (BeginsHonest ⟦<FileDisk as Disk>⟧) }
 {
@@ -126,7 +130,7 @@ fn opened_to_read(rt: &HostRuntime, _streams: &StandardStreams, path: &str) -> i
     FileDisk::over(File::open(rt, path)?)
 }
 
-/// Refuses a file that is to be written as far as so many bytes, where the process may not write files that long.
+/// Refuses a file that is to be written up to this length, if the process may not write files of that length.
 pub(crate) fn allow_writes(
     rt: &HostRuntime,
     alloc: Global,
@@ -138,7 +142,7 @@ pub(crate) fn allow_writes(
     allow_length(rt, length).map_err(|error| unwritten(alloc, &error, path))
 }
 
-/// The file of a store, made with so many bytes where it is not there.
+/// Opens the file of a store, or creates it with this length.
 fn found_or_made(
     rt: &HostRuntime,
     streams: &StandardStreams,
@@ -159,7 +163,7 @@ fn found_or_made(
     }
 }
 
-/// A new file for a store, of so many zeros.
+/// Creates a file of zeros for a store.
 fn made(
     rt: &HostRuntime,
     _streams: &StandardStreams,
@@ -174,19 +178,21 @@ fn made(
     FileDisk::create(rt, path, size).map_err(|error| unwritten(alloc, &error, path))
 }
 
-/// Why the file of a store was not opened.
+/// Returns why the file of a store was not opened. A lock of another process is the one error without a number: a
+/// call that would block has its own text.
 pub(crate) fn unopened(alloc: Global, error: &io::Error, path: &str) -> Fault
     ensures kind { IsOfOpening result }
-    ensures used { error_kind error.now ≡ kinds.WouldBlock → TellsUse path.now result }
+    ensures used { error_kind error.now ≡ kinds.WouldBlock → raw_os_error error.now ≡ None → TellsUse path.now result }
     ensures unread { error_kind error.now ≢ kinds.WouldBlock → TellsUnread path.now result }
+    ensures system { IsSome (raw_os_error error.now) → TellsUnread path.now result }
 {
-    if error.kind() == ErrorKind::WouldBlock {
+    if error.kind() == ErrorKind::WouldBlock && error.raw_os_error().is_none() {
         return in_use(alloc, path);
     }
     unread(alloc, error, path)
 }
 
-/// A file that another process has.
+/// Returns the fault of a file that another process has locked.
 fn in_use(alloc: Global, path: &str) -> Fault
     ensures kind { IsOfUse result }
     ensures told { TellsUse path.now result }
@@ -197,7 +203,7 @@ fn in_use(alloc: Global, path: &str) -> Fault
     }
 }
 
-/// Why the file of a store was not made, not lengthened, or is not to be written.
+/// Returns why the file of a store was not created, not lengthened, or cannot be written.
 pub(crate) fn unwritten(alloc: Global, error: &io::Error, path: &str) -> Fault
     ensures kind { IsOfMaking result }
     ensures told { TellsUnwritten path.now result }

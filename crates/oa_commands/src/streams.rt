@@ -1,4 +1,4 @@
-//! Standard streams: what is written on one, and what takes the place of those that are closed.
+//! Standard streams: writing to standard output, and replacing closed ones.
 ghost use Rattle.std.specs.Prelude.{◌≡◌, IfErr};
 ghost use Rattle.oa_commands.specs.declared.fault.Fault.TheVariants as faults;
 
@@ -8,7 +8,7 @@ use oa_stream::{Outlet, Sink};
 use std::fs::File;
 use std::io;
 
-/// Writes bytes on standard output, and all of them before it answers.
+/// Writes all of these bytes to standard output.
 fn write(rt: &HostRuntime, bytes: &[u8]) -> Result<(), Fault>
     ensures { IfErr result (λ fault. fault ≡ faults.Write) }
 {
@@ -18,7 +18,7 @@ fn write(rt: &HostRuntime, bytes: &[u8]) -> Result<(), Fault>
     Ok(())
 }
 
-/// Lets the file of a store go, and then says on standard output what it was made: whoever reads that finds it free.
+/// Closes the store's file, and then prints `line`: whoever reads the line finds the file unlocked.
 pub fn tell(rt: &HostRuntime, disk: FileDisk, line: &[u8]) -> Result<(), Fault>
     ensures { IfErr result (λ fault. fault ≡ faults.Write) }
 {
@@ -26,9 +26,9 @@ pub fn tell(rt: &HostRuntime, disk: FileDisk, line: &[u8]) -> Result<(), Fault>
     write(rt, line)
 }
 
-/// What takes the place of standard streams that are closed, as long as it is kept. Without it a file that is opened next would take it,
-/// and be read as the requests or written over by the replies: so whatever opens the file of a store asks for one. A folder can be neither
-/// read nor written, so a closed stream stays one that fails.
+/// Replacements of closed standard streams, as long as this value exists. Without them the next opened file would get
+/// the number of a closed stream, and would be read as requests or overwritten by replies; so whatever opens the file
+/// of a store requires this value. A folder can be neither read nor written, so a closed stream still fails.
 #[derive(Drop)]
 pub struct StandardStreams {
     input: Option<File>,
@@ -37,7 +37,8 @@ pub struct StandardStreams {
 }
 
 impl StandardStreams {
-    /// Opens the root folder three times: the first numbers of files that are free are those of the standard streams that are closed.
+    /// Occupies closed standard streams (descriptors 0 to 2) by opening the root folder three times: files get the
+    /// lowest free numbers.
     pub fn fill_closed(rt: &HostRuntime) -> StandardStreams {
         StandardStreams {
             input: File::open(rt, "/").ok(),

@@ -14,11 +14,11 @@ use oa_stream::Sink;
 use oa_typelib::Library;
 use std::alloc::Global;
 
-/// Writes the canonical text of the library of the file `path`, or of standard input, and hands it on. Nothing is written of a library
-/// that is refused.
+/// Writes the canonical text of the library of the file `path`, or of standard input, and flushes. Nothing is written
+/// for a library with an error.
 ///
-/// The faults of `read_library`, but `At` in the place of `Parse(Syntax)` where `shows_place` is set and there is memory for the place;
-/// `Write` where the writer fails.
+/// Errors: those of `read_library`, but `At` instead of `Parse(Syntax)` if `shows_place` is set and there is memory
+/// for the place; `Write` if the writer fails.
 pub fn write_text<W: Sink>(
     rt: &HostRuntime,
     path: &str,
@@ -29,7 +29,7 @@ pub fn write_text<W: Sink>(
     ensures written { OnOk result (IsPrinted (Writes (W.out writer.old) (W.out writer.new))) }
     ensures handed_on { OnOk result (IsHandedOn (W.out writer.new)) }
     ensures refused { IfErr result IsOfCheck }
-    // Where it fails the writer is as it was, or it took a first part of the text, and failed.
+    // (after an error the writer has not changed, or has received a prefix of the text and failed)
     ensures broken { IfErr result (λ fault. (W.out writer.new ≡ W.out writer.old)
         ⊎ ((fault ≡ faults.Write) × IsPrinted (Breaks (W.out writer.old) (W.out writer.new)))) }
 {
@@ -37,7 +37,7 @@ pub fn write_text<W: Sink>(
     put_text(library.text(), writer)
 }
 
-/// The library of a file. A fault has its place in the text with it where that is asked for.
+/// Reads the library of a file. If `shows_place` is set, a fault has its place in the text.
 fn library_at(
     rt: &HostRuntime,
     alloc: Global,
@@ -54,7 +54,7 @@ fn library_at(
     }
 }
 
-/// Writes a text, and hands it on.
+/// Writes a text, and flushes.
 fn put_text<W: Sink>(text: &[u8], writer: &mut W) -> Result<(), Fault>
     requires unbroken { (W.out writer.old).broken ≡ false }
     ensures written { OnOk result (Writes (W.out writer.old) (W.out writer.new) text.now) }
@@ -66,7 +66,7 @@ fn put_text<W: Sink>(text: &[u8], writer: &mut W) -> Result<(), Fault>
     Ok(())
 }
 
-/// A fault with its place in the text, where it has one and memory is found for it.
+/// Adds the place in the text to a fault, if it has one and there is memory for it.
 fn placed(alloc: Global, path: &str, text: &str, fault: Fault) -> Fault
     requires { IsOfTree fault }
     ensures { IsOfTree result ⊎ IsOfPlace result }

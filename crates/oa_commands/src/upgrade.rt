@@ -1,4 +1,4 @@
-//! Bringing the file of a store to format 2.
+//! Upgrading the file of a store to format 2.
 ghost use Rattle.std.specs.Prelude.{◌≤◌, IfErr, IfOk};
 ghost use Rattle.oa_commands.specs.Statuses.{IsOfTaking, IsOfUpgrade};
 ghost use Rattle.oa_commands.specs.Stores.{IsUpgraded, bank_near};
@@ -13,13 +13,13 @@ use oa_journal::{LEAST_BANK_BYTES, MOST_BANK_BYTES, Shape};
 use oa_store::OldStore;
 use std::alloc::Global;
 
-/// Brings the store of format 1 in the file `path` to format 2, with banks of so many bytes, the nearest from 20 MiB to 1 GiB, and answers
-/// its file, locked. One that is too short for it is lengthened.
+/// Upgrades the store of format 1 in the file `path` to format 2, with banks of `bank` bytes, or the nearest size
+/// from 20 MiB to 1 GiB. Returns its file, locked. A file that is too short is lengthened.
 ///
-/// `CannotRead` and `InUse` as `open_store_file` tells them; `NotAStore`; `AlreadyNew` of one of format 2; `Damaged` with the place in
-/// bytes, 0 where a bank of that size has no room for what the store holds: these are looked for before anything is written.
-/// `CannotWrite` where it cannot be lengthened, or this process may not write files that long, `DeviceRead` and `DeviceWrite` where a call
-/// of the device failed. `Memory` may come at each.
+/// Errors before anything is written: `CannotRead` and `InUse` as of `open_store_file`; `NotAStore`; `AlreadyNew` for
+/// a store of format 2; `Damaged` with the place in bytes, 0 if the contents do not fit into a bank of that size.
+/// Others: `CannotWrite` if the file cannot be lengthened, or this process may not write files of that length;
+/// `DeviceRead` and `DeviceWrite` if a call of the device failed; `Memory` at any point.
 pub fn upgrade_store(
     rt: &HostRuntime,
     streams: &StandardStreams,
@@ -37,7 +37,7 @@ pub fn upgrade_store(
     )
 }
 
-/// The same with banks of a size that they can have. What is refused is refused before the file is made longer.
+/// Upgrades the store, with banks of a valid size. Errors of the contents come before the file is lengthened.
 fn upgraded(
     rt: &HostRuntime,
     streams: &StandardStreams,
@@ -57,7 +57,7 @@ fn upgraded(
     Ok(long)
 }
 
-/// The file, lengthened to so many bytes if it is shorter. It has what it held, where no call of it has failed.
+/// Lengthens the file, if it is shorter. It keeps its contents, unless a call of it has failed.
 fn lengthened(
     rt: &HostRuntime,
     alloc: Global,

@@ -1,13 +1,9 @@
--- What a request on the array in a cell acts on. It is refused in one order, whatever it asks (this project's choice),
--- each time by the code of the fault:
---   1. the cell holds no array;
---   2. the index list does not lie in the bounds (GETELEM, PUTELEM);
---   3. the new value does not become an element (PUTELEM);
---   4. the array is locked (REDIM; so are a put over it and the release of its object);
---   5. it would have too many cells (REDIM);
---   6. the cell was never put, or there is no lock to give or to take (LOCK, UNLOCK).
--- A cell that was never put holds the zero of its declared type. The table itself refuses 4 to 6, where it holds the
--- array.
+-- Requests on the array in a cell. They are refused in one order, whatever they ask (this project's choice), each
+-- time with the code of the fault: 1. the cell has no array; 2. the index list does not lie in the bounds (GETELEM,
+-- PUTELEM); 3. the new value cannot be coerced to an element (PUTELEM); 4. the array is locked (REDIM; likewise a put
+-- over it and the release of its object); 5. it would have too many cells (REDIM); 6. the cell was never put, or
+-- there is no lock to add or remove (LOCK, UNLOCK). A cell that was never put has the zero of its declared type. The
+-- table itself refuses 4 to 6 if it contains the array.
 use Rattle.std.specs.Prelude.{ℕ, ℤ, not, List, Option, Some, None, Result, Ok, Err}
 use Rattle.oa_model.specs.declared.var_type.VarType.{VarType}
 use Rattle.oa_model.specs.declared.var_type.ValueType.{ValueType}
@@ -42,12 +38,12 @@ put_in state name = cell_in name.place (object_at name.object state.table)
 abbrev pub value_in : State → CellName → ValueType → Variant
 value_in state name declared = or_zero declared (put_in state name)
 
--- what the table refuses, as the refusal of a request
+-- the refusal of the table, as that of a request
 abbrev pub as_refused : {A : Type 0} → Result A TableFault → Result A Refusal
 as_refused (Ok x) = Ok x
 as_refused (Err fault) = refused (table_code fault)
 
--- the array that a value is
+-- the array in a value
 abbrev pub array_of : Variant → Result (ArrayValue Scalar) Refusal
 array_of (One s) = refused (table_code NotArray)
 array_of (Array a) = Ok a
@@ -71,7 +67,7 @@ element_type_at index array = if_in_bounds index array >>= λ _. Ok array.elem
 abbrev pub element_type_of : List ℤ → Variant → Result VarType Refusal
 element_type_of index value = array_of value >>= element_type_at index
 
--- what a value becomes as an element of a type
+-- a value coerced to an element of a type
 abbrev pub told_as_element : Result Scalar CoerceFault → Result Scalar Refusal
 told_as_element (Ok element) = Ok element
 told_as_element (Err fault) = refused (coercion_code fault)
@@ -81,7 +77,7 @@ abbrev pub as_element : VarType → Variant → Result Scalar Refusal
 as_element elem (One s) = told_as_element (coerced_scalar s elem)
 as_element elem (Array a) = refused (coercion_code coercions.TypeMismatch)
 
--- how many locks the array in a cell has; that of a cell never put can't be locked
+-- how many locks the array in a cell has; that of a cell that was never put cannot be locked
 abbrev pub array_locks : ValueType → Option Variant → Result ℕ Refusal
 array_locks declared (Some value) = array_of value >>= λ array. Ok array.locks
 array_locks (kinds.One t) None = refused (table_code NotArray)
@@ -90,7 +86,7 @@ array_locks (kinds.Array t) None = refused (table_code (ArrayRefuses arrays.Unex
 abbrev pub locks_found : State → BoundCell → Result ℕ Refusal
 locks_found state cell = array_locks cell.declared (put_in state cell.name)
 
--- the same of a cell, whose value is the zero of its type where it was never put
+-- the element of a cell, whose value is the zero of its type if it was never put
 abbrev pub element_in : State → List ℤ → BoundCell → Result Scalar Refusal
 element_in state index cell = element_of index (value_in state cell.name cell.declared)
 

@@ -1,6 +1,6 @@
--- The cell of a property that a call names, or the first refusal (MS-OAUT section 3.1.4.4; the order of the refusals is
--- this project's choice). What an INVOKE reads or puts is such a cell, and so is what a request on an array's elements
--- or locks is about.
+-- The cell of a property that a call addresses, or the first refusal (MS-OAUT section 3.1.4.4; the order of the
+-- refusals is this project's choice). An INVOKE reads or puts such a cell, and requests on an array's elements or
+-- locks act on one.
 use Rattle.std.specs.Prelude.{◌≡◌, ℕ, ℤ, ◌==◌, ◌&&◌, is_none, if◌then◌else◌, List, [], Result, Ok, Err}
 use Rattle.oa_model.specs.Codes.{e_outofmemory}
 use Rattle.oa_bind.specs.declared.fault.BindFault.{BindFault}
@@ -28,12 +28,12 @@ use Rattle.oa_decision.specs.Interfaces.{interface_found}
 use Rattle.oa_decision.specs.Refusals.{◌>>=◌, refused}
 use Rattle.oa_decision.specs.States.{State}
 
--- a member, or why a call reaches none
+-- a member, or why a call addresses none
 abbrev pub member_found : Result (MemberValue × Kind) MemberFault → Result (MemberValue × Kind) Refusal
 member_found (Ok found) = Ok found
 member_found (Err fault) = refused (member_code fault)
 
--- the member is a property without parameters, with values of this type, and has the form that is asked for
+-- the member is a property without parameters, with values of this type, and has the required form
 pub record IsKeyless (interface : InterfaceValue) (dispid : ℤ) (access : Access) (declared : ValueType)
     (form : Kind) : Type 0 where
   pub member : MemberValue
@@ -41,14 +41,14 @@ pub record IsKeyless (interface : InterfaceValue) (dispid : ℤ) (access : Acces
   pub typed : member.value_type ≡ declared
   pub keyless : member.parameters ≡ []
 
--- the form that arguments are bound in: that of the member which an INVOKE's flags ask for, and else, whatever form the
--- member must have, a get
+-- the form in which arguments are bound: the member's form that an INVOKE's flags ask for; for other requests a get,
+-- whatever form the member must have
 abbrev pub bound_as : Access → Kind → Kind
 bound_as (accesses.Flags flags) form = form
 bound_as accesses.Get form = forms.Get
 bound_as accesses.Put form = forms.Get
 
--- the call that arguments make, or why they make none
+-- the bound arguments, or why they cannot be bound
 abbrev pub as_refusal : BindFault → Refusal
 as_refusal fault = record { code = fault.code; index = fault.index }
 
@@ -56,7 +56,7 @@ abbrev pub call_found : Result BoundCallValue BindFault → Result BoundCallValu
 call_found (Ok bound) = Ok bound
 call_found (Err fault) = Err (as_refusal fault)
 
--- binding tells want of memory by a code and no index, of which nothing is decided
+-- binding reports out of memory by a code without an index; then nothing is decided
 abbrev pub undecided : BindFault → Undecided
 undecided fault = if fault.code.0 == e_outofmemory.0 && is_none fault.index then OutOfMemory
     else Refused (as_refusal fault)
@@ -67,7 +67,7 @@ place_of interface head bound = record { interface = interface; dispid = head.di
 abbrev pub called_cell : List ℕ → CallHead → BoundCallValue → CellName
 called_cell interface head bound = record { object = head.object; place = place_of interface head bound }
 
--- the object, its interface, riid; the member, in the form that is asked for; the arguments
+-- the object, its interface, riid; the member, in the requested form; the arguments
 unfoldable pub cell_called : State → Call → Access → Result BoundCell Refusal
 cell_called state call access = do
   interface ← interface_found state call.head.object call.head.interface call.head.riid
@@ -76,8 +76,8 @@ cell_called state call access = do
       (bound_to found.0 (bound_as access found.1) (record { named = call.named; arguments = call.arguments }))
   Ok (record { name = called_cell interface.guid call.head bound; declared = found.0.value_type; value = bound.value })
 
--- Memory is taken to find a cell where arguments are bound that need some: the object, its interface, riid and the
--- member are found.
+-- Finding a cell allocates if its arguments need memory: then the object, its interface, riid and the member have
+-- been found.
 pub record FindingTakesMemory (state : State) (call : Call) (access : Access) : Type 0 where
   pub interface : InterfaceValue
   pub member : MemberValue
@@ -87,7 +87,7 @@ pub record FindingTakesMemory (state : State) (call : Call) (access : Access) : 
   pub binding : BindingTakesMemory member.parameters member.value_type (bound_as access form)
       (record { named = call.named; arguments = call.arguments })
 
--- What is found is what is due, or memory was wanted where some is taken.
+-- What is defined is found, or out of memory is returned if an allocation may be needed.
 abbrev pub FindsDue : {A : Type 0} → Result A Refusal → Type 0 → Result A Undecided → Type 0
 FindsDue due takes (Ok found) = due ≡ Ok found
 FindsDue due takes (Err (Refused refusal)) = due ≡ Err refusal

@@ -28,7 +28,7 @@ abbrev pub fitting : Result TableValue HResult → Result (Unit {0}) Refusal
 fitting (Ok table) = Ok tt
 fitting (Err code) = refused code
 
--- it gets the next number, which the reply tells
+-- it gets the next number, which the reply contains
 abbrev pub creation : State → List ℕ → Result Decision Refusal
 creation state class =
     class_found state class >>= λ _. fitting (allowed state.bank (Create state.table.next class) state.table)

@@ -1,4 +1,4 @@
--- What is decided of a request: the answer, the change that it calls for, or why it is refused. (This project's
+-- The decision about a request: the reply, the change that it asks for, or why it is refused. (This project's
 -- choice.)
 use Rattle.std.specs.Prelude.{◌⊎◌, ℕ, IsOk, [], Option, Result, Ok, Err}
 use Rattle.oa_model.specs.declared.hresult.HResult.{HResult}
@@ -26,7 +26,7 @@ use Rattle.oa_decision.specs.States.{State}
 use Rattle.oa_decision.specs.TypeInfo.{information}
 use Rattle.oa_decision.specs.Unlock.{unlocking}
 
--- what is decided of a request
+-- the decision about a request
 abbrev pub decided : State → Request → Result Decision Refusal
 decided state (requests.Create class) = creation state class
 decided state (requests.ByNumber by_number.Release number) = ending number
@@ -44,8 +44,8 @@ decided state (requests.Query query) = answered state query
 abbrev pub refusal : ℕ → HResult → Option ℕ → ReplyValue
 refusal tag code index = record { tag = tag; code = code; index = index; body = [] }
 
--- What a request is decided with that takes memory: the arguments of a call, where they are bound; the fields of an
--- answer, where there is one; the zero array of a cell that was never put, which a REDIM changes.
+-- Deciding a request allocates: for the arguments of a call, if they are bound; for the fields of a reply, if it has
+-- some; for the zero array of a cell that was never put, if a REDIM changes it.
 abbrev pub DecidingTakesMemory : State → Request → Type 0
 DecidingTakesMemory state (requests.Create class) = IsOk (creation state class)
 DecidingTakesMemory state (requests.ByNumber by_number.Release number) = ⊥
@@ -64,13 +64,13 @@ DecidingTakesMemory state (requests.ByCall by_call.Unlock call) =
 DecidingTakesMemory state (requests.ByNumber by_number.TypeInfo index) = IsOk (information state index)
 DecidingTakesMemory state (requests.Query query) = IsOk (answered state query)
 
--- a change takes memory where the table may be changed so
+-- a change allocates if the table may be changed so
 abbrev pub ChangingTakesMemory : State → Result Decision Refusal → Type 0
 ChangingTakesMemory state (Ok (Change event fields)) = IsOk (allowed state.bank event state.table)
 ChangingTakesMemory state (Ok (Answer code fields)) = ⊥
 ChangingTakesMemory state (Ok (Relock change fields)) = ⊥
 ChangingTakesMemory state (Err refusal) = ⊥
 
--- a request takes memory to be decided, or for its change: where want of memory may be answered
+-- deciding a request or making its change allocates: only then may the reply be out of memory
 abbrev pub RequestTakesMemory : State → Request → Type 0
 RequestTakesMemory state request = DecidingTakesMemory state request ⊎ ChangingTakesMemory state (decided state request)

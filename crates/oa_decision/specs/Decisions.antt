@@ -1,4 +1,4 @@
--- What becomes of a request that is looked at: a decision, which only reads. (This project's choice.)
+-- Decisions about requests, which only read. (This project's choice.)
 use Rattle.std.specs.Prelude.{◌≡◌, Result, Ok, Err}
 use Rattle.oa_table.specs.Events.{BringsNoLocks}
 use Rattle.oa_decision.specs.declared.decision.Decision.{Decision}
@@ -7,13 +7,13 @@ use Rattle.oa_decision.specs.declared.decision.Undecided.{Undecided}
 use Rattle.oa_decision.specs.declared.decision.Undecided.TheVariants.{Refused, OutOfMemory}
 use Rattle.oa_decision.specs.declared.refusal.Refusal.{Refusal}
 
--- A request is decided as is due, or memory was wanted where some is taken.
+-- A request is decided as defined, or out of memory is returned if an allocation may be needed.
 abbrev pub Decides : Result Decision Refusal → Type 0 → Result Decision Undecided → Type 0
 Decides due takes (Ok decision) = due ≡ Ok decision
 Decides due takes (Err (Refused r)) = due ≡ Err r
 Decides due takes (Err OutOfMemory) = takes
 
--- no event brings locks: they are of a session
+-- no event contains locks: they belong to a session
 abbrev pub ChangesNoLocks : Decision → Type 0
 ChangesNoLocks (Answer code fields) = Unit {0}
 ChangesNoLocks (Change event fields) = BringsNoLocks event

@@ -17,6 +17,6 @@ use Rattle.oa_decision.specs.States.{State}
 abbrev pub reading : State → List ℤ → BoundCell → Result Decision Refusal
 reading state index cell = element_in state index cell >>= λ element. Ok (Answer s_ok (variant_field (One element)))
 
--- the property's get form, then the element
+-- first the property's get form, then the element
 abbrev pub element_got : State → Call → List ℤ → Result Decision Refusal
 element_got state call index = cell_called state call Get >>= reading state index

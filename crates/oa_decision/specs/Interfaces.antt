@@ -1,4 +1,4 @@
--- The interface of an object that a call names, or the first refusal. The order of the refusals is this project's
+-- The interface of an object that a call addresses, or the first refusal. The order of the refusals is this project's
 -- choice.
 use Rattle.std.specs.Prelude.{ℕ, not, List, Result, Ok}
 use Rattle.uuid.specs.Parts.{is_nil_bytes}
@@ -10,7 +10,7 @@ use Rattle.oa_decision.specs.declared.refusal.Refusal.{Refusal}
 use Rattle.oa_decision.specs.Refusals.{◌>>=◌, known, unless}
 use Rattle.oa_decision.specs.States.{State}
 
--- the object, its interface, riid
+-- first the object, then its interface, then riid
 unfoldable pub interface_found : State → ℕ → List ℕ → List ℕ → Result InterfaceValue Refusal
 interface_found state object interface riid = do
   class ← known rpc_e_disconnected (class_in (object_at object state.table))

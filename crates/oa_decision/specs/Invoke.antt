@@ -28,8 +28,8 @@ abbrev pub reply_value : State → CellName → ValueType → List ℕ
 reply_value state name declared =
     variant_field (or_zero declared (cell_in name.place (object_at name.object state.table)))
 
--- a get, which has no new value, tells the value of its cell; a put sets it, without locks, which are no part of a
--- value
+-- a get, which has no new value, replies with the value of its cell; a put sets it, without locks, which are not part
+-- of a value
 abbrev pub acting : State → CellName → ValueType → Option Variant → Decision
 acting state name declared None = Answer s_ok (reply_value state name declared)
 acting state name declared (Some value) = Change (Put name (unlocked value)) []

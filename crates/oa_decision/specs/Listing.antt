@@ -4,10 +4,10 @@ use Rattle.std.specs.List.{flat_map}
 use Rattle.oa_record.specs.Replies.{number_field, object_field}
 use Rattle.oa_table.specs.Tables.{ObjectValue, TableValue}
 
--- a number and the object that has it
+-- a number and its object
 abbrev pub entry_of : ℕ × ObjectValue → List ℕ
 entry_of entry = object_field entry.0 entry.1.class
 
--- how many there are, and each with its coclass
+-- the number of objects, and each with its coclass
 abbrev pub objects_field : TableValue → List ℕ
 objects_field table = number_field (length table.objects) ++ flat_map entry_of table.objects

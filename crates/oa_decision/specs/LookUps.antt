@@ -12,13 +12,13 @@ use Rattle.oa_decision.specs.Interfaces.{interface_found}
 use Rattle.oa_decision.specs.Refusals.{◌>>=◌}
 use Rattle.oa_decision.specs.States.{State}
 
--- the interface; then the DISPIDs of the names, and whether all are known
+-- first the interface, then the DISPIDs of the names, and whether all are known
 unfoldable pub ids_found : State → GetIds → Result DispIdsValue Refusal
 ids_found state call = do
   interface ← interface_found state call.object call.interface call.riid
   Ok (names_told interface call.names)
 
--- the DISPIDs are told also where not all names are known
+-- the reply contains the DISPIDs even if not all names are known
 abbrev pub ids_answer : DispIdsValue → Decision
 ids_answer found = Answer (if found.all_known then s_ok else disp_e_unknownname) (ids_field found.ids)
 

@@ -14,7 +14,7 @@ use Rattle.oa_decision.specs.Cells.{cell_called}
 use Rattle.oa_decision.specs.Refusals.{◌>>=◌}
 use Rattle.oa_decision.specs.States.{State}
 
--- what a value becomes as the element of a cell
+-- a value coerced to the element of a cell
 abbrev pub element_for : State → List ℤ → Variant → BoundCell → Result Scalar Refusal
 element_for state index value cell = element_type_in state index cell >>= λ elem. as_element elem value
 
@@ -23,6 +23,6 @@ setting state index value cell = do
   element ← element_for state index value cell
   Ok (Change (events.PutElement cell.name index element) [])
 
--- the property's put form, with arguments as a get has them; then the new element
+-- first the property's put form, with arguments as of a get, then the new element
 abbrev pub element_put : State → Call → List ℤ → Variant → Result Decision Refusal
 element_put state call index value = cell_called state call Put >>= setting state index value

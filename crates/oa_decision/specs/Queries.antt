@@ -1,5 +1,5 @@
--- What is asked without fields is answered at any time: with S_OK, and with fields that tell of the server's state,
--- which stays. (This project's choice.)
+-- Requests without fields are always answered with S_OK, and with fields that describe the server's state, which does
+-- not change. (This project's choice.)
 use Rattle.std.specs.Prelude.{ℕ, List, Result, Ok}
 use Rattle.oa_model.specs.Codes.{s_ok}
 use Rattle.oa_record.specs.declared.opcode.Query.{Query}

@@ -28,12 +28,12 @@ pub record IsOfNeverPut (state : State) (call : Call) : Type 0 where
 abbrev pub zero_with : Bound → ValueType → Result Variant Refusal
 zero_with bound declared = as_refused (redimensioned_value bound (zero_value declared))
 
--- the value of a cell is changed; a cell that was never put is put, with what its zero becomes
+-- the array in a cell is changed; a cell that was never put is put, with its zero changed
 abbrev pub resizing : CellName → ValueType → Bound → Option Variant → Result Decision Refusal
 resizing name declared bound None = zero_with bound declared >>= λ value. Ok (Change (events.Put name value) [])
 resizing name declared bound (Some value) = Ok (Change (events.Redim name bound) [])
 
--- the property's put form, with arguments as a get has them; then the array
+-- first the property's put form, with arguments as of a get, then the array
 abbrev pub redimension : State → Call → Bound → Result Decision Refusal
 redimension state call bound =
     cell_called state call Put >>= λ cell. resizing cell.name cell.declared bound (put_in state cell.name)

@@ -1,4 +1,4 @@
--- Answers that may be refusals, one after another: the first refusal counts. (This project's choice.)
+-- Results that may be refusals, one after another: the first refusal counts. (This project's choice.)
 use Rattle.std.specs.Prelude.{Bool, if◌then◌else◌, Option, Some, None, Result, Ok, Err}
 use Rattle.oa_model.specs.declared.hresult.HResult.{HResult}
 use Rattle.oa_decision.specs.declared.refusal.Refusal.{Refusal}
@@ -8,7 +8,7 @@ abbrev pub ◌>>=◌ : {A B : Type 0} → Result A Refusal → (A → Result B R
 Ok x >>= f = f x
 Err e >>= f = Err e
 
--- a refusal that speaks of no argument
+-- a refusal that refers to no argument
 abbrev pub refused : {A : Type 0} → HResult → Result A Refusal
 refused code = Err (record { code = code; index = None })
 

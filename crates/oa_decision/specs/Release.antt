@@ -1,4 +1,5 @@
--- RELEASE: an object goes, unless one of its arrays is locked. The table refuses it. (This project's choice.)
+-- RELEASE: an object is removed, unless one of its arrays is locked; the table refuses it then. (This project's
+-- choice.)
 use Rattle.std.specs.Prelude.{ℕ, [], Result, Ok}
 use Rattle.oa_table.specs.declared.event.Event.TheVariants.{Release}
 use Rattle.oa_decision.specs.declared.decision.Decision.{Decision}

@@ -1,4 +1,4 @@
--- TYPEINFO: what the library says of an interface or a coclass. (This project's choice.)
+-- TYPEINFO: the library's description of an interface or a coclass. (This project's choice.)
 use Rattle.std.specs.Prelude.{ℕ, Option, Result, Ok}
 use Rattle.oa_model.specs.Codes.{s_ok, disp_e_badindex}
 use Rattle.oa_description.specs.DescriptionFields.{description_field}

@@ -1,4 +1,4 @@
--- UNLOCK: the array in a cell gets a lock fewer, which lasts for the session. (This project's choice.)
+-- UNLOCK: the array in a cell gets one lock fewer, for the session. (This project's choice.)
 use Rattle.std.specs.Prelude.{◌-◌, Result, Ok}
 use Rattle.oa_record.specs.declared.request.Call.{Call}
 use Rattle.oa_record.specs.Replies.{number_field}
@@ -13,10 +13,10 @@ use Rattle.oa_decision.specs.Cells.{cell_called}
 use Rattle.oa_decision.specs.Refusals.{◌>>=◌}
 use Rattle.oa_decision.specs.States.{State}
 
--- the reply tells how many locks there are then
+-- the reply contains the new count
 abbrev pub taking : State → BoundCell → Result Decision Refusal
 taking state cell = locks_found state cell >>= λ locks. Ok (Relock (Unlock cell.name) (number_field (locks - 1)))
 
--- the property's get form, then the array
+-- first the property's get form, then the array
 abbrev pub unlocking : State → Call → Result Decision Refusal
 unlocking state call = cell_called state call Get >>= taking state

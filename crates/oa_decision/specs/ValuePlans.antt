@@ -1,4 +1,4 @@
--- What is planned of a call that brings no more than a new value. (This project's choice.)
+-- Plans for a call with no more than a new value. (This project's choice.)
 use Rattle.std.specs.Prelude.{◌≡◌, ◌⊎◌, List, [], ℕ, ℤ, None, Result, Ok}
 use Rattle.oa_coerce.specs.declared.fault.CoerceFault.{CoerceFault}
 use Rattle.oa_model.specs.Codes.{e_outofmemory, s_ok}
@@ -31,7 +31,7 @@ keyless_cell object interface dispid =
 abbrev pub put_event : ValuePut → Event
 put_event put = events.Put (keyless_cell put.object put.interface put.dispid) put.value
 
--- a request is answered with the fields that are decided, or memory was wanted; or this change is decided
+-- a request is answered with the decided fields, or with out of memory; or this change is decided
 abbrev pub PlansValue : State → ℕ → Request → ValuePlan → Type 0
 PlansValue state tag request (Answered reply) =
     ((fields : List ℕ) × (decided state request ≡ Ok (decisions.Answer s_ok fields)) × (reply ≡ reply_told tag fields))
@@ -39,7 +39,7 @@ PlansValue state tag request (Answered reply) =
 PlansValue state tag request (Put put) =
     (decided state request ≡ Ok (decisions.Change (put_event put) [])) × BringsNoLocks (put_event put)
 
--- the value of a cell is told, or memory was wanted
+-- the reply contains the value of a cell, or reports out of memory
 abbrev pub PlansGet : State → ℕ → CellName → ValueType → ValuePlan → Type 0
 PlansGet state tag name declared (Answered reply) =
     (reply ≡ reply_told tag (reply_value state name declared)) ⊎ (reply ≡ refusal tag e_outofmemory None)

@@ -12,7 +12,7 @@ use oa_model::{Bound, GREATEST_OBJECT_NUMBER};
 use oa_table::{CellName, Event, Table, TableFault};
 use oa_variant::{Scalar, Variant};
 
-/// Why a table refuses an event; None where the event applies. Takes no memory.
+/// Returns why a table refuses an event; None if the event applies. Allocates nothing.
 pub(crate) fn refusal_of(table: &Table, event: &Event) -> Option<TableFault>
     ensures { GivesReason (applied event.now table.now) result }
 {

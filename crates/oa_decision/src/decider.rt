@@ -1,4 +1,4 @@
-//! What is decided of a request over a library and a table of objects, which are only read.
+//! Deciding about a request: it only reads the library and the table of objects.
 ghost use Rattle.std.specs.Prelude.{◌≡◌, IfOk, IsOk};
 ghost use Rattle.oa_decision.specs.Decisions.{ChangesNoLocks, Decides};
 ghost use Rattle.oa_decision.specs.Decided.{DecidingTakesMemory, decided};
@@ -30,11 +30,11 @@ mod type_info;
 mod unlock;
 mod value_call;
 
-/// A library and a table of its objects, which are looked at, and how large the table may grow: what an answer depends on.
+/// The things on which a reply depends: a library, a table of its objects, and how large the table may grow.
 #[derive(Drop)]
 pub struct Decider<'a> {
     alloc: Global,
-    /// How many bytes the body of a bank has that the table has to fit.
+    /// The size in bytes of a bank's body, into which the table must fit.
     bank: u32,
     library: &'a Library,
     table: &'a Table,
@@ -49,7 +49,7 @@ impl<'a> Model for Decider<'a> {
 }
 
 impl<'a> Decider<'a> {
-    /// A decider over this library and this table, where the body of a bank has so many bytes. Takes no memory.
+    /// Makes a decider over this library and this table, with a bank's body of `bank` bytes. Allocates nothing.
     pub fn new(alloc: Global, bank: u32, library: &'a Library, table: &'a Table) -> Decider<'a>
         ensures { result ≡ record { bank = bank; library = library.now; table = table.now } }
     {
@@ -61,9 +61,10 @@ impl<'a> Decider<'a> {
         }
     }
 
-    /// What becomes of a request: the answer and its fields, or the change that it calls for, which may still be refused. `Refused` with the
-    /// first refusal in the stated order; `OutOfMemory` where memory was wanted: for the arguments of a call that binds some, for the fields of
-    /// an answer that there is, for the zero array of a cell that a REDIM changes and that was never put. Only reads.
+    /// Decides a request: the reply, or the change that it asks for, which may still be refused. It only reads.
+    /// Errors: `Refused` with the first refusal in the documented order; `OutOfMemory` if an allocation fails, which
+    /// is needed for the arguments of a call, for the fields of a reply, and for the zero array of a cell that a
+    /// REDIM changes and that was never put.
     pub fn decide(&self, request: Request) -> Result<Decision, Undecided>
         ensures decided { Decides (decided self.now request) (DecidingTakesMemory self.now request) result }
         ensures unlocked { IfOk result ChangesNoLocks }
@@ -84,7 +85,7 @@ impl<'a> Decider<'a> {
         }
     }
 
-    /// The same of what is asked by a number.
+    /// Decides a request with a number.
     fn decide_number(&self, kind: ByNumber, number: u32) -> Result<Decision, Undecided>
         ensures decided { Decides (decided self.now (requests.ByNumber kind number)) (DecidingTakesMemory self.now (requests.ByNumber kind number)) result }
         ensures unlocked { IfOk result ChangesNoLocks }
@@ -95,7 +96,7 @@ impl<'a> Decider<'a> {
         }
     }
 
-    /// The same of what is asked by a call.
+    /// Decides a request with a call.
     fn decide_call(&self, kind: ByCall, call: Call) -> Result<Decision, Undecided>
         ensures decided { Decides (decided self.now (requests.ByCall kind call)) (DecidingTakesMemory self.now (requests.ByCall kind call)) result }
         ensures unlocked { IfOk result ChangesNoLocks }
@@ -107,7 +108,7 @@ impl<'a> Decider<'a> {
         }
     }
 
-    /// Answers what is asked without fields.
+    /// Decides a request without fields: it is always answered.
     fn answered(&self, query: Query) -> Result<Decision, Undecided>
         ensures decided { Decides (answered self.now query) (IsOk (answered self.now query)) result }
         ensures unlocked { IfOk result ChangesNoLocks }
@@ -117,7 +118,7 @@ impl<'a> Decider<'a> {
         Ok(Decision::Answer { code, fields })
     }
 
-    /// The fields of the answer.
+    /// Returns the fields of its reply.
     fn told(&self, query: Query) -> Result<Fields, AllocError>
         ensures { IfOk result (λ fields. fields ≡ told self.now query) }
     {

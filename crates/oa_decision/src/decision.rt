@@ -1,4 +1,4 @@
-//! What becomes of a request, before anything is changed.
+//! The result of deciding a request, before anything is changed.
 ghost use Rattle.std.specs.Prelude.{◌≡◌};
 ghost use Rattle.oa_decision.specs.Cells.{undecided};
 ghost use Rattle.oa_decision.specs.declared.decision.Undecided.TheVariants.{OutOfMemory, Refused};
@@ -12,14 +12,14 @@ use oa_table::CellName;
 use std::alloc::AllocError;
 use thiserror::Error;
 
-/// What becomes of a request that is not refused.
+/// The decision about a request that is not refused.
 #[derive(Drop)]
 pub enum Decision {
-    /// Its reply has this code and these fields. Nothing changes.
+    /// The reply has this code and these fields. Nothing changes.
     Answer { code: HResult, fields: Fields },
-    /// The table changes, and the reply then has these fields; it is a refusal where the change is.
+    /// The table is to be changed, and the reply then has these fields; if the change is refused, so is the request.
     Change { event: SizedEvent, fields: Fields },
-    /// The same of a lock.
+    /// A lock is to be changed, and the reply then has these fields; if the change is refused, so is the request.
     Relock { change: LockChange, fields: Fields },
 }
 
@@ -32,13 +32,13 @@ pub enum LockChange {
     Unlock(CellName),
 }
 
-/// Why nothing is decided.
+/// Why a request was not decided.
 #[derive(Debug, Drop, Error)]
 pub enum Undecided {
     /// The request is refused.
     #[error("{0}")]
     Refused(Refusal),
-    /// Memory was refused.
+    /// An allocation failed.
     #[error("out of memory")]
     OutOfMemory,
 }

@@ -5,7 +5,7 @@ ghost use Rattle.oa_record.specs.Replies.{max_fields_bytes};
 use std::alloc::Global;
 use std::marker::Model;
 
-/// The bytes of a reply's fields, no more than a reply can have.
+/// The bytes of a reply's fields, at most as many as a reply can have.
 #[derive(Drop)]
 pub struct Fields {
     bytes: Vec<u8>,
@@ -23,7 +23,7 @@ impl Model for Fields {
 }
 
 impl Fields {
-    /// These fields.
+    /// Makes these fields.
     pub(crate) fn new(bytes: Vec<u8>) -> Fields
         requires { length bytes.items ≤ max_fields_bytes }
         ensures { result ≡ bytes.items }
@@ -31,7 +31,7 @@ impl Fields {
         Fields { bytes }
     }
 
-    /// No fields. Takes no memory.
+    /// Makes no fields. Allocates nothing.
     pub fn none(alloc: Global) -> Fields
         ensures { result ≡ [] }
     {
@@ -40,7 +40,7 @@ impl Fields {
         }
     }
 
-    /// Their bytes.
+    /// Returns their bytes.
     pub fn into_vec(self) -> Vec<u8>
         ensures value { result.items ≡ self }
         ensures small { length result.items ≤ max_fields_bytes }

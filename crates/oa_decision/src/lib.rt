@@ -1,11 +1,12 @@
-//! What is decided of a request: the answer, the change that it calls for, or why it is refused, over a library, a table of objects and
-//! its locks, which are only read.
+//! Deciding about a request, over a library, a table of objects and its locks, which are only read: the reply, the
+//! change that it asks for, or why it is refused.
 //!
-//! Its contract: `Decider::decide` decides what is defined (`decided`), or tells that memory was wanted where it may be (`Decides`);
-//! `Decider::plan_value` plans a call that brings no more than a new value (`PlansValue`); `disallowed` tells why an event is not allowed
-//! (`allowed`), and `is_surely_within` is true only within the limits.
+//! Contract: `Decider::decide` returns the defined decision (`decided`), or out of memory if an allocation may be
+//! needed (`Decides`). `Decider::plan_value` does so for a call with no more than a new value (`PlansValue`).
+//! `disallowed` returns why an event is not allowed (`allowed`), and `is_surely_within` is true only within the
+//! limits.
 //!
-//! What stands on it: oa_turn, which makes the changes.
+//! Used by oa_turn, which makes the changes.
 #![tactic(auto)]
 
 mod applies;

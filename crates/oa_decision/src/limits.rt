@@ -1,25 +1,27 @@
-//! The limits on what a change makes.
+//! The limits of changes.
 ghost use Rattle.std.specs.Prelude.{◌≡◌, ◌-◌, ◌≤◌, true, Ok, nat_lt};
+ghost use Rattle.oa_image.specs.Sizes.{event_size};
 ghost use Rattle.oa_image.specs.Tables.{reserved_bytes};
+ghost use Rattle.oa_model.specs.Limits.{max_event_bytes};
 ghost use Rattle.oa_table.specs.Events.{applied};
 ghost use Rattle.oa_table.specs.Sizes.{size_after, table_size};
 ghost use Rattle.oa_table.specs.Tables.{TableValue};
-ghost use Rattle.oa_decision.specs.Limits.{GivesReason, StaysWithin, allowed};
+ghost use Rattle.oa_decision.specs.Limits.{GivesReason, StaysWithin, allowed, most_after};
 
 use crate::applies::refusal_of;
 use oa_image::{RESERVED_BYTES, SizedEvent};
 use oa_model::{HResult, MAX_EVENT_BYTES};
 use oa_table::{Event, Table};
 
-/// How many bytes a table's image has at most where the body of a bank has so many.
+/// Returns the largest table image, in bytes, for a bank body of `bank` bytes: 5,242,880 fewer.
 pub fn most_of(bank: u32) -> u64
     ensures { result ≡ bank - reserved_bytes }
 {
     u64::from(bank.saturating_sub(RESERVED_BYTES))
 }
 
-/// Why an event is not allowed where the body of a bank has so many bytes: the table's own reason, then E_INVALIDARG for the event's image,
-/// then STG_E_MEDIUMFULL for the table's; None where it is allowed. Takes no memory.
+/// Returns the first limit that `event` breaks, or None, for a bank body of `bank` bytes. Order: the table's own
+/// refusal; E_INVALIDARG (the event's image is too long); STG_E_MEDIUMFULL (the table's would be). Allocates nothing.
 pub fn disallowed(bank: u32, table: &Table, event: &SizedEvent) -> Option<HResult>
     ensures { GivesReason (allowed bank event.now table.now) result }
 {
@@ -35,18 +37,20 @@ pub fn disallowed(bank: u32, table: &Table, event: &SizedEvent) -> Option<HResul
     None
 }
 
-/// True of an event that applies only where it is within the limits: its own image is short enough, and there is surely room for the
-/// table's.
+/// A cheap test: it is true only if an event that applies is within all limits; false decides nothing. It is true for
+/// each event whose table image surely fits, and for a put if its own image still fits after the present one.
 pub fn is_surely_within(bank: u32, table: &Table, event: &SizedEvent) -> bool
-    ensures { result ≡ true → StaysWithin bank event.now table.now }
+    ensures within { result ≡ true → StaysWithin bank event.now table.now }
+    ensures known { event_size event.now ≤ max_event_bytes → most_after event.now table.now ≤ bank - reserved_bytes → result ≡ true }
 {
     event.len() <= MAX_EVENT_BYTES && has_surely_room(bank, table, event)
 }
 
-/// True only where the image of the table has few enough bytes after an event. A put brings no more to it than the event's own image has, so
-/// its value is not measured once more, nor its cell looked for.
+/// True only if the image of the table is short enough after an event. A put adds at most its event's image, so
+/// neither is its value measured again nor its cell looked up.
 fn has_surely_room(bank: u32, table: &Table, event: &SizedEvent) -> bool
-    ensures { result ≡ true → size_after event.now table.now ≤ bank - reserved_bytes }
+    ensures room { result ≡ true → size_after event.now table.now ≤ bank - reserved_bytes }
+    ensures known { most_after event.now table.now ≤ bank - reserved_bytes → result ≡ true }
 {
     let most = most_of(bank);
     match event.as_event() {
@@ -55,7 +59,8 @@ fn has_surely_room(bank: u32, table: &Table, event: &SizedEvent) -> bool
     }
 }
 
-/// Whether the image of the table has too many bytes after an event that applies. Where there surely is room, a put's are not counted.
+/// Returns whether the image of the table is too long after an event that applies. For a put that surely fits, it is
+/// not computed.
 fn is_too_large(bank: u32, table: &Table, event: &SizedEvent) -> bool
     ensures { (new : TableValue) → applied event.now table.now ≡ Ok new → result ≡ nat_lt (bank - reserved_bytes) (table_size new) }
 {
@@ -65,7 +70,7 @@ fn is_too_large(bank: u32, table: &Table, event: &SizedEvent) -> bool
     size_after(table, event.as_event()) > most_of(bank)
 }
 
-/// How many bytes the image of the table has after an event that applies.
+/// Returns the length of the table's image in bytes after an event that applies.
 fn size_after(table: &Table, event: &Event) -> u64
     ensures { (new : TableValue) → applied event.now table.now ≡ Ok new → result ≡ table_size new }
 {

@@ -1,4 +1,4 @@
-//! What is left of a turn once its body was looked at.
+//! What is left to do for a body after it was read.
 ghost use Rattle.std.specs.Prelude.{◌≡◌};
 ghost use Rattle.oa_decision.specs.ValuePlans.{put_event};
 
@@ -10,32 +10,32 @@ use oa_variant::Variant;
 use std::alloc::Global;
 use uuid::Uuid;
 
-/// What is left of a turn.
+/// The rest of a turn, after its decision.
 #[derive(Drop)]
 pub enum Plan {
-    /// Nothing: the body was answered, and what an image holds of the table is as it was.
+    /// Nothing: this is the reply, and an image of the table would be as before.
     Answered(Reply),
     /// A change of the table.
     Change(Planned),
 }
 
-/// A change that is to be made, and then told with this tag and these fields.
+/// A change to be made, and then acknowledged with this tag and these fields.
 #[derive(Drop)]
 pub struct Planned {
     /// The tag of its body.
     pub tag: u32,
     /// The change.
     pub event: SizedEvent,
-    /// The fields of the reply, where the change is made.
+    /// The fields of the reply after the change.
     pub fields: Fields,
 }
 
-/// What is left of a call that brings no more than a new value, of a property without parameters.
+/// The rest of a call with at most a new value, on a property without parameters.
 #[derive(Drop)]
 pub enum ValuePlan {
-    /// Nothing: it was answered, and nothing changes.
+    /// Nothing: this is the reply, and nothing changes.
     Answered(Reply),
-    /// Its cell is to be set, which is told without fields.
+    /// Its cell is to be set; the reply then has no fields.
     Put(ValuePut),
 }
 
@@ -46,14 +46,14 @@ pub struct ValuePut {
     pub object: u32,
     /// The GUID of the interface that declares the property.
     pub interface: Uuid,
-    /// The property.
+    /// The DISPID of the property.
     pub dispid: i32,
-    /// What its cell holds from then on: it has no locks.
+    /// The new value of its cell; it has no locks.
     pub value: Variant,
 }
 
 impl ValuePut {
-    /// The change that it is, with the name of its cell. Takes no memory.
+    /// Returns the event with the name of its cell. Allocates nothing.
     pub fn into_event(self, alloc: Global) -> Event
         ensures { result ≡ put_event self }
     {

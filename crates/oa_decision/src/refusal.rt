@@ -8,18 +8,18 @@ use oa_model::HResult;
 use oa_typelib::MemberFault;
 use thiserror::Error;
 
-/// The code of a refusal, and the place in rgvarg of the argument that it speaks of.
+/// The code of a refusal, and the place in rgvarg of the argument to which it refers.
 #[derive(Clone, Copy, Debug, PartialEq, Eq, Error)]
 #[error("request refused")]
 pub struct Refusal {
     /// The code of the reply.
     pub code: HResult,
-    /// The place of the argument, where one is at fault.
+    /// The place of the argument, if the refusal refers to one.
     pub index: Option<u32>,
 }
 
 impl Refusal {
-    /// A refusal that speaks of no argument.
+    /// Makes a refusal that refers to no argument.
     pub(crate) fn of(code: HResult) -> Refusal
         ensures { result ≡ record { code = code; index = None } }
     {

@@ -17,7 +17,7 @@ use Rattle.oa_typelib.specs.DescriptionValues.{ParameterDescription, MemberDescr
 use Rattle.oa_typelib.specs.DescriptionValues.{ContentDescription, DescriptionValue}
 use Rattle.oa_typelib.specs.DescriptionValues.ContentDescription.{OfInterface, OfCoclass}
 
--- VT_VOID where there is none
+-- VT_VOID if there is none
 abbrev pub type_number : Option ValueType → ℕ
 type_number None = vt_void
 type_number (Some t) = vt_of_value t

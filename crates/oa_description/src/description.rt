@@ -18,7 +18,7 @@ use oa_typelib::{Content, DescribedEntry, DescribedMember, DescribedParameter, D
 use oa_variant::Scalar;
 use std::alloc::{AllocError, Global};
 
-/// The number of a type.
+/// Returns the number of a type; VT_VOID for none.
 fn type_number(value_type: Option<ValueType>) -> u16
     ensures { result ≡ type_number value_type }
 {
@@ -28,7 +28,7 @@ fn type_number(value_type: Option<ValueType>) -> u16
     }
 }
 
-/// How a member is called (INVOKEKIND); 0 for one of `properties:`.
+/// Returns how a member is called (INVOKEKIND); 0 for one of `properties:`.
 fn invoke_kind(kind: DeclarationKind) -> u16
     ensures { result ≡ invoke_kind kind }
 {
@@ -40,7 +40,7 @@ fn invoke_kind(kind: DeclarationKind) -> u16
     }
 }
 
-/// VARFLAG_FREADONLY, or no flag.
+/// Returns VARFLAG_FREADONLY, or no flag.
 fn member_flags(kind: DeclarationKind) -> u16
     ensures { result ≡ member_flags kind }
 {
@@ -53,14 +53,14 @@ fn member_flags(kind: DeclarationKind) -> u16
     }
 }
 
-/// A flag, where it is set.
+/// Returns a flag if it is set.
 fn flag(is_set: bool, n: u16) -> u16
     ensures { result ≡ flag is_set n }
 {
     if is_set { n } else { 0 }
 }
 
-/// PARAMFLAG_FIN, PARAMFLAG_FOPT and PARAMFLAG_FHASDEFAULT.
+/// Returns the flags PARAMFLAG_FIN, PARAMFLAG_FOPT and PARAMFLAG_FHASDEFAULT of a parameter.
 fn parameter_flags(parameter: &DescribedParameter<'_>) -> u16
     ensures { result ≡ parameter_flags parameter.now }
 {
@@ -80,7 +80,7 @@ fn parameter_head(parameter: &DescribedParameter<'_>) -> [u8; 8]
     [a, b, c, d, 0, 0, 0, 0]
 }
 
-/// Adds a name as a string.
+/// Appends a name as a string.
 fn put_name(out: &mut Vec<u8>, name: &Name) -> Result<(), AllocError>
     ensures { OnOk result (out.new.items ≡ out.old.items ++ string_field name.now) }
 {
@@ -89,7 +89,7 @@ fn put_name(out: &mut Vec<u8>, name: &Name) -> Result<(), AllocError>
     out.extend_from_slice(&field)
 }
 
-/// Adds the field of a default.
+/// Appends the field of a default.
 #[tactic(auto, unfolding(crate::specs::DescriptionFields::default_field))]
 fn put_default(out: &mut Vec<u8>, default: Option<&Scalar>) -> Result<(), AllocError>
     ensures { OnOk result (out.new.items ≡ out.old.items ++ default_field (option_copied default.entry)) }
@@ -104,7 +104,7 @@ fn put_default(out: &mut Vec<u8>, default: Option<&Scalar>) -> Result<(), AllocE
     }
 }
 
-/// Adds a parameter.
+/// Appends a parameter.
 #[tactic(auto, unfolding(crate::specs::DescriptionFields::parameter_field))]
 fn put_parameter(out: &mut Vec<u8>, parameter: &DescribedParameter<'_>) -> Result<(), AllocError>
     ensures { OnOk result (out.new.items ≡ out.old.items ++ parameter_field parameter.now) }
@@ -126,7 +126,7 @@ fn put_parameters(
     Ok(())
 }
 
-/// A count of 2 bytes. Err for one that is greater, as no library has.
+/// Returns a count in 2 bytes. Err: it is greater, as in no library.
 fn count(n: usize) -> Result<u16, AllocError>
     ensures value { IfOk result (λ x. x ≡ n) }
     ensures great { OnErr result (65535 < n) }
@@ -134,7 +134,7 @@ fn count(n: usize) -> Result<u16, AllocError>
     u16::try_from(n).map_err(|_| AllocError)
 }
 
-/// A count of 4 bytes. Err for one that is greater, as no library has.
+/// Returns a count in 4 bytes. Err: it is greater, as in no library.
 fn wide_count(n: usize) -> Result<u32, AllocError>
     ensures value { IfOk result (λ x. x ≡ n) }
     ensures great { OnErr result (4294967295 < n) }
@@ -156,7 +156,7 @@ fn member_head(member: &DescribedMember<'_>) -> Result<[u8; 16], AllocError>
     Ok([a, b, c, d, e, f, g, h, i, j, k, l, 0, 0, 0, 0])
 }
 
-/// Adds a member.
+/// Appends a member.
 #[tactic(auto, unfolding(crate::specs::DescriptionFields::member_field))]
 fn put_member(out: &mut Vec<u8>, member: &DescribedMember<'_>) -> Result<(), AllocError>
     ensures { OnOk result (out.new.items ≡ out.old.items ++ member_field member.now) }
@@ -218,7 +218,7 @@ fn put_content(out: &mut Vec<u8>, content: &Content<'_>) -> Result<(), AllocErro
     }
 }
 
-/// Adds the kind, the number of entries and the GUID.
+/// Appends the kind, the number of entries and the GUID.
 #[tactic(auto, unfolding(crate::specs::DescriptionFields::description_head))]
 fn put_head(out: &mut Vec<u8>, description: &Description<'_>) -> Result<(), AllocError>
     ensures { OnOk result (out.new.items ≡ out.old.items ++ description_head description.now) }
@@ -229,7 +229,7 @@ fn put_head(out: &mut Vec<u8>, description: &Description<'_>) -> Result<(), Allo
     Ok(())
 }
 
-/// Adds a description.
+/// Appends a description.
 #[tactic(auto, unfolding(crate::specs::DescriptionFields::description_field))]
 fn put_description(out: &mut Vec<u8>, description: &Description<'_>) -> Result<(), AllocError>
     ensures { OnOk result (out.new.items ≡ out.old.items ++ description_field description.now) }

@@ -1,4 +1,4 @@
-//! A law of the definitions of descriptions, the contract of a function with an empty body.
+//! A theorem about descriptions: the contract of a function with an empty body.
 ghost use Rattle.std.specs.Prelude.{◌≡◌, ◌+◌, ℕ, Some, length, map, slice_get};
 ghost use Rattle.std.specs.List.{filter_map};
 ghost use Rattle.oa_idl.specs.Trees.{TreeValue};
@@ -12,8 +12,9 @@ ghost use Rattle.oa_typelib.specs.Descriptions.{
   interfaces_of,
 };
 
-/// Behind the descriptions of a library's interfaces stands one of each coclass, and none leaves an entry out: an entry names an interface
-/// of the library, with an index of 32 bits, and stands in the description at its place in the text.
+/// The descriptions of a library's interfaces are followed by one of each coclass, and none leaves an entry out: an
+/// entry names an interface of the library, with an index of 32 bits, and is in the description at its place in the
+/// text.
 pub fn no_entry_is_left_out()
     ensures described { (library : TreeValue) (index : ℕ) (class : CoclassValue)
         → slice_get (classes_of library.items) index ≡ Some class

@@ -1,9 +1,9 @@
 //! Descriptions of a library's interfaces and coclasses as bytes (this project's choice).
 //!
-//! Its contract: a description's fields are its bytes, and none of a coclass's entries is left out
+//! Contract: a description's fields are its bytes, and none of a coclass's entries is left out
 //! (`laws::no_entry_is_left_out`).
 //!
-//! What stands on it: oa_decision, for TYPEINFO.
+//! Used by oa_decision for TYPEINFO.
 #![tactic(auto)]
 
 mod description;

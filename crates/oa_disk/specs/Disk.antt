@@ -52,20 +52,20 @@ pub record Syncs (old new : List ℕ) (after : List ℕ → Type 0) : Type 0 whe
   pub contents : new ≡ old
   pub durable : Only old after
 
--- Time goes on by a call, within which there is one moment and after it another: a crash since t might have left what
--- it might have left before, or what it may leave now.
+-- The clock after a call: one point in time lies within the call, another after it. A crash since t might have left
+-- what it might have left before the call, or what it may leave now.
 pub record Elapses (before now : ℕ) (past since : ℕ → List ℕ → Type 0) (image : List ℕ → Type 0) : Type 0 where
   pub later : before ≤ now
   pub soon : now ≤ before + 2
   pub nothing_else : (t : ℕ) (c : List ℕ) → t ≤ before → since t c → past t c ⊎ image c
   pub keeps : (t : ℕ) (c : List ℕ) → t ≤ before → past t c → since t c
 
--- time goes on by a call of a disk
+-- the clock after a call of a disk
 abbrev pub TakesTime : {D : Type 0} → (D → ℕ) → (D → ℕ → List ℕ → Type 0) → (D → List ℕ → Type 0) → D → D → Type 0
 TakesTime moment image_since image old new =
     Elapses (moment old) (moment new) (image_since old) (image_since new) (image new)
 
--- A crash at any moment since old leaves an image that has P.
+-- A crash invariant: a crash at any point in time since old leaves an image with P.
 pub record LeavesOnly {D : Type 0} (moment : D → ℕ) (image_since : D → ℕ → List ℕ → Type 0) (old new : D)
     (P : List ℕ → Type 0) : Type 0 where
   pub later : moment old ≤ moment new
@@ -73,18 +73,18 @@ pub record LeavesOnly {D : Type 0} (moment : D → ℕ) (image_since : D → ℕ
   -- for a run that began earlier
   pub before : (t : ℕ) (c : List ℕ) → t ≤ moment old → image_since new t c → image_since old t c ⊎ P c
 
--- A crash at any moment since old leaves an image of old after a step.
+-- A crash at any point in time since old leaves an image of old after a step.
 abbrev pub LeavesStep : {D : Type 0} → (D → ℕ) → (D → ℕ → List ℕ → Type 0) → (D → List ℕ → Type 0) → D → D
     → (List ℕ → List ℕ → Type 0) → Type 0
 LeavesStep moment image_since image old new step =
     LeavesOnly moment image_since old new (λ c. (d : List ℕ) × image old d × step d c)
 
--- a failure was counted, unless the count stands at its greatest value
+-- a failure was counted, unless the count is at its greatest value
 abbrev pub HasCounted : ℕ → ℕ → Type 0
 HasCounted before now = now < 2 ^ 64 - 1 → before < now
 
--- One call, or a run of calls that ends with the first that fails: a failure counts once, unless the count stands at
--- its greatest value, and without one nothing counts.
+-- One call, or a run of calls that ends with the first failure. A failure counts once, unless the count is at its
+-- greatest value; without a failure the count does not change.
 pub record CountsFailures {T E : Type 0} (before now : ℕ) (result : Result T E) : Type 0 where
   pub later : before ≤ now
   pub failed : IsErr result → HasCounted before now
@@ -96,8 +96,8 @@ pub record FailsAs {T : Type 0} (kind : DeviceFault) (before now : ℕ) (result 
   pub counts : CountsFailures before now result
   pub fault : IfErr result (λ e. e ≡ kind)
 
--- A read of these bytes is honest now only where the disk was before it; and it was if one that succeeds gives what is
--- there. A read that fails changes nothing of that.
+-- A read of these bytes. The disk is honest after it only if it was before. After a successful read of the contents
+-- it still is; a failed read does not change whether it is.
 pub record ReadsHonestly {T E : Type 0} (contents : List ℕ) (at : ℕ) (bytes : List ℕ) (was is : Bool)
     (result : Result T E) : Type 0 where
   pub before : IsTrue is → IsTrue was

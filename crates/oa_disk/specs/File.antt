@@ -1,4 +1,4 @@
--- What a FileDisk shows.
+-- The members of the trait for a FileDisk.
 use Rattle.std.specs.Prelude.{◌≡◌, ◌-◌, ◌++◌, ℕ, IsTrue}
 use Rattle.oa_disk.specs.Disk.{NothingPending}
 use Rattle.oa_disk.specs.declared.disk.Disk.{Ghosts}
@@ -13,23 +13,23 @@ file_size disk = disk.size
 abbrev pub failures_of : FileDisk → ℕ
 failures_of disk = disk.failures
 
--- its calls with their answers
+-- its log: the calls with their results
 abbrev pub record_of : FileDisk → Record
 record_of disk = disk.history
 
--- it has met no call, and its record begins with this byte at each place
+-- no call was made, and the log begins with this byte at each place
 pub record HasMetNoCall (held : ℕ → ℕ) (disk : FileDisk) : Type 0 where
   pub record_is : disk.history ≡ beginning held disk.size
   pub failures : disk.failures ≡ 0
 
--- it has met no call, and its record begins with so many zeros
+-- no call was made, and the log begins with `size` zeros
 pub record IsZeros (size : ℕ) (disk : FileDisk) : Type 0 where
   pub bytes : disk.size ≡ size
   pub zeros : HasMetNoCall (λ _. 0) disk
 
--- A disk before its first call, made of another. It is as honest as that one, and no call has failed. Where that one is
--- honest, and no call of it had failed, a crash leaves what a read gives: what that one held, and zeros behind it up to
--- that size.
+-- A disk before its first call, made of another disk. It is as honest, and no call of it has failed. If the other
+-- disk is honest and no call of it had failed, a crash leaves what a read returns: the other disk's contents,
+-- followed by zeros up to `size` bytes.
 pub record GoesOnFrom {D : Type 0} (g : Ghosts D) (size : ℕ) (old new : D) : Type 0 where
   pub honest : g.is_honest new ≡ g.is_honest old
   pub failures : g.failures_of new ≡ 0

@@ -1,9 +1,9 @@
--- What a FuseDisk shows.
+-- The members of the trait for a FuseDisk.
 use Rattle.std.specs.Prelude.{◌≡◌, ◌↔◌, ℕ, ◌+◌, ◌-◌, ◌^◌, ◌<◌, Bool, List, min, Result, IsErr}
 use Rattle.oa_disk.specs.declared.disk.Disk.{Ghosts}
 use Rattle.oa_disk.specs.declared.fuse.FuseDisk.{FuseDisk}
 
--- the disk that it passes calls on to
+-- the inner disk, to which calls are passed on
 abbrev pub inner_of : {D : Type 0} → FuseDisk D → D
 inner_of f = f.disk
 
@@ -15,11 +15,11 @@ calls_left_of f = f.calls_left
 abbrev pub refused_of : {D : Type 0} → FuseDisk D → ℕ
 refused_of f = f.refused
 
--- the failures of the disk within and its own, up to the greatest u64
+-- the failures of the inner disk and of the fuse, at most the greatest u64
 abbrev pub failures_with : {D : Type 0} → (D → ℕ) → FuseDisk D → ℕ
 failures_with failures f = min (failures f.disk + f.refused) (2 ^ 64 - 1)
 
--- One disk shows all that another shows.
+-- One disk agrees with another in every member of the trait.
 pub record ShowsAllOf {D E : Type 0} (g : Ghosts D) (h : Ghosts E) (within : D) (disk : E) : Type 0 where
   pub size : h.size_of disk ≡ g.size_of within
   pub failures : h.failures_of disk ≡ g.failures_of within
@@ -29,8 +29,8 @@ pub record ShowsAllOf {D E : Type 0} (g : Ghosts D) (h : Ghosts E) (within : D) 
   pub moment : h.moment disk ≡ g.moment within
   pub image_since : (t : ℕ) (c : List ℕ) → h.image_since disk t c ↔ g.image_since within t c
 
--- A call takes one of those that are left, and the fuse itself refuses none. With none left it fails, and the disk
--- within is as it was.
+-- A call uses one of the calls that are left, and is not refused by the fuse. With none left it fails, and the inner
+-- disk does not change.
 pub record SpendsFuse {D E : Type 0} (old new : FuseDisk D) (result : Result (Unit {0}) E) : Type 0 where
   pub left : new.calls_left ≡ old.calls_left - 1
   pub passed : 0 < old.calls_left → new.refused ≡ old.refused

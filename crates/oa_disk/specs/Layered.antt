@@ -1,4 +1,4 @@
--- Writes, one over the other, over zeros.
+-- Writes over zeros, later ones on top.
 use Rattle.std.specs.Prelude.{ℕ, List}
 use Rattle.oa_disk.specs.declared.call.DeviceCall.{DeviceCall}
 use Rattle.oa_disk.specs.Replay.{zeros}

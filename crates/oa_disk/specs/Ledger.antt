@@ -1,4 +1,4 @@
--- What a disk in memory is made of.
+-- The parts of a disk in memory.
 use Rattle.std.specs.Prelude.{◌≡◌, ℕ, ◌+◌, ◌<◌, ◌≤◌, ◌↔◌, List, [], ◌∷◌, ◌++◌, length, Result, IsOk, OnOk, OnErr, IfErr}
 use Rattle.oa_disk.specs.declared.call.DeviceCall.{DeviceCall}
 use Rattle.oa_disk.specs.declared.disk.DeviceFault.{DeviceFault}
@@ -8,16 +8,16 @@ use Rattle.oa_disk.specs.Disk.{CountsFailures}
 use Rattle.oa_disk.specs.History.{History, contents_of}
 use Rattle.oa_disk.specs.Layered.{layered}
 
--- what the writes make of the zeros below them
+-- the zeros after all writes
 abbrev pub laid : Layers → List ℕ
 laid layers = contents_of (layered layers.size layers.calls.items layers.written.items)
 
--- what was there at first, and the calls that were recorded since
+-- the first contents, and the calls that were logged since
 abbrev pub history : Layers → Ledger → History
 history first ledger = record { first = laid first; calls = ledger.calls.items; written = ledger.written.items }
 
--- The call is served exactly where there is room for it and for the bytes that it writes. Then it is the last of the
--- record, else the count of failures alone changes.
+-- The call is executed exactly if the log has space for it and for the bytes that it writes. Then it is the last one
+-- in the log; otherwise only the count of failures changes.
 pub record Enters (call : DeviceCall) (bytes : List ℕ) (fault : DeviceFault) (old new : Ledger)
     (result : Result (Unit {0}) DeviceFault) : Type 0 where
   pub serves : IsOk result
@@ -31,7 +31,7 @@ pub record Enters (call : DeviceCall) (bytes : List ℕ) (fault : DeviceFault) (
   pub counts : CountsFailures old.failures new.failures result
   pub fault_is : IfErr result (λ e. e ≡ fault)
 
--- no call is recorded, and there is room for so many calls and so many written bytes
+-- no call is logged, and there is space for this many calls and written bytes
 pub record IsEmpty (calls bytes : ℕ) (ledger : Ledger) : Type 0 where
   pub calls_none : ledger.calls.items ≡ []
   pub written_none : ledger.written.items ≡ []

@@ -1,4 +1,4 @@
--- What a MemoryDisk shows.
+-- The members of the trait for a MemoryDisk.
 use Rattle.std.specs.Prelude.{◌≡◌, ℕ, ◌+◌, ◌<◌, ◌≤◌, ◌↔◌, List, length, Option, Result, IsOk, OnOk, OnErr}
 use Rattle.oa_disk.specs.declared.memory.MemoryDisk.{MemoryDisk}
 use Rattle.oa_disk.specs.declared.call.DeviceCall.{DeviceCall}
@@ -9,18 +9,18 @@ use Rattle.oa_disk.specs.History as known
 use Rattle.oa_disk.specs.Ledger.{laid, history, IsEmpty}
 use Rattle.oa_disk.specs.Tear.{IsTorn}
 
--- what it held at first, and the calls that it has served since
+-- its first contents, and the calls since then
 abbrev pub history_of : MemoryDisk → History
 history_of disk = history disk.first disk.ledger
 
 abbrev pub contents_of : MemoryDisk → List ℕ
 contents_of disk = known.contents_of (history_of disk)
 
--- the contents at this moment, and the ranges that are pending
+-- the contents at this point in time, with the pending ranges
 abbrev pub state_at : MemoryDisk → ℕ → Option DiskState
 state_at disk moment = known.state_at (history_of disk) moment
 
--- the last moment
+-- the last point in time
 abbrev pub moments_of : MemoryDisk → ℕ
 moments_of disk = known.moment_of (history_of disk)
 
@@ -28,12 +28,12 @@ moments_of disk = known.moment_of (history_of disk)
 abbrev pub image_of : MemoryDisk → List ℕ → Type 0
 image_of disk = known.image_of (history_of disk)
 
--- what a crash at some moment from t on might have left
+-- what a crash at some point in time from t on might have left
 abbrev pub image_since_of : MemoryDisk → ℕ → List ℕ → Type 0
 image_since_of disk t = known.image_since_of (history_of disk) t
 
--- The call is served exactly where there is room for it and for the bytes that it writes. Then it is the last of the
--- record, else the record is as before, and with it the contents.
+-- The call is executed exactly if the log has space for it and for the bytes that it writes. Then it is the last one
+-- in the log; otherwise the log does not change, and neither do the contents.
 pub record IsRecorded {E : Type 0} (call : DeviceCall) (bytes : List ℕ) (old new : MemoryDisk)
     (result : Result (Unit {0}) E) : Type 0 where
   pub serves : IsOk result ↔ ((length old.ledger.calls.items < old.ledger.most_calls)
@@ -43,11 +43,11 @@ pub record IsRecorded {E : Type 0} (call : DeviceCall) (bytes : List ℕ) (old n
   pub calls_room : new.ledger.most_calls ≡ old.ledger.most_calls
   pub bytes_room : new.ledger.most_bytes ≡ old.ledger.most_bytes
 
--- it has met no call, and has room for so many calls and so many written bytes
+-- no call was made, and there is space for this many calls and written bytes
 abbrev pub IsFresh : ℕ → ℕ → MemoryDisk → Type 0
 IsFresh calls bytes disk = IsEmpty calls bytes disk.ledger
 
--- what a crash at this moment leaves under this tear
+-- what a crash at this point in time leaves under this tear
 abbrev pub IsTornAt : MemoryDisk → Tear → ℕ → List ℕ → Type 0
 IsTornAt disk tear moment image =
     IsTorn tear (laid disk.first) disk.ledger.calls.items disk.ledger.written.items moment image

@@ -1,4 +1,4 @@
--- What a record of a file's calls holds.
+-- The log of a file's calls.
 use Rattle.std.specs.Prelude.{ℕ, ◌-◌, ◌%◌, true, ◌&&◌, List, [], ◌∷◌, ◌++◌, length, map}
 use Rattle.std.specs.List.{range_with_len}
 use Rattle.oa_disk.specs.declared.call.DeviceCall.{DeviceCall}
@@ -6,16 +6,16 @@ use Rattle.oa_disk.specs.declared.record.Record.{Record}
 use Rattle.oa_disk.specs.Replay.{agrees, contents_after, zeros}
 use Rattle.oa_disk.specs.History.{History}
 
--- the bytes of a file of that size, of which this number is the one at each place; a number above 255 counts by its
--- lowest eight bits
+-- the bytes of a file of that size, given by a number for each place; of a number above 255 the lowest eight bits
+-- count
 abbrev pub file_bytes : (ℕ → ℕ) → ℕ → List ℕ
 file_bytes held size = map (λ i. held i % 256) (range_with_len 0 size)
 
--- a file of that size that holds this byte at each place, and no call
+-- the log of a file of that size with this byte at each place, and no call
 abbrev pub beginning : (ℕ → ℕ) → ℕ → Record
 beginning held size = record { first = file_bytes held size; calls = []; written = []; honest = true }
 
--- One call more, with the bytes that it wrote. It gave these bytes, from this place on.
+-- The log with one more call, with the bytes that it wrote and the bytes that it returned from this place on.
 abbrev pub noted : Record → DeviceCall → List ℕ → ℕ → List ℕ → Record
 noted before call written at given = record {
   first = before.first;
@@ -24,8 +24,8 @@ noted before call written at given = record {
   honest = before.honest && agrees (contents_after before.first before.calls before.written) at given;
 }
 
--- a file that holds at first what this one holds now, and zeros behind it up to that size, and no call; its reads have
--- given what this one's have
+-- the log, without calls, of a file that begins with this one's present contents, followed by zeros up to that size;
+-- whether its reads were right is taken over
 abbrev pub lengthened : Record → ℕ → Record
 lengthened before size = record {
   first = contents_after before.first before.calls before.written
@@ -35,6 +35,6 @@ lengthened before size = record {
   honest = before.honest;
 }
 
--- without what the reads gave
+-- the history: the log without what the reads returned
 abbrev pub history_of : Record → History
 history_of r = record { first = r.first; calls = r.calls; written = r.written }

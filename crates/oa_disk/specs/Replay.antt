@@ -1,16 +1,16 @@
--- What a crash may have left at each moment, from the calls and the bytes that were written.
+-- What a crash may leave at each point in time, computed from the calls and the bytes that they wrote.
 use Rattle.std.specs.Prelude.{◌≡◌, ◌⊎◌, ℕ, ◌+◌, ◌<◌, ◌≤◌, Bool, bytes_eq, List, [], ◌∷◌, ◌++◌, length, take, drop}
 use Rattle.std.specs.Prelude.{replicate, slice_index, slice_get, Some}
 use Rattle.oa_disk.specs.Disk.{AllBytes}
 use Rattle.oa_disk.specs.declared.call.DeviceCall.{DeviceCall}
 use Rattle.oa_disk.specs.declared.call.DeviceCall.TheVariants.{Read, Write, Sync}
 
--- what a read gives, and the ranges that are not on the disk for sure
+-- what a read returns, and the pending ranges: those that are not surely on the disk
 pub record DiskState : Type 0 where
   pub contents : List ℕ
   pub pending : List (ℕ × ℕ)
 
--- these bytes at this place
+-- a disk with these bytes written at this place
 abbrev pub overwritten : List ℕ → ℕ → List ℕ → List ℕ
 overwritten disk at bytes = take at disk ++ (bytes ++ drop (at + length bytes) disk)
 
@@ -25,7 +25,7 @@ pub record IsImage (state : DiskState) (image : List ℕ) : Type 0 where
   pub outside : (i : ℕ) → IsOutside state.pending i → slice_index image i ≡ slice_index state.contents i
   pub bytes : AllBytes image
 
--- how many bytes the call has written
+-- how many bytes the call wrote
 abbrev pub count_of : DeviceCall → ℕ
 count_of Read = 0
 count_of (Write at count) = count
@@ -54,7 +54,7 @@ last_state state [] bytes = state
 last_state state (call ∷ calls) bytes =
     last_state (after_call state call (take (count_of call) bytes)) calls (drop (count_of call) bytes)
 
--- how many bytes all the calls have written
+-- how many bytes all calls wrote
 abbrev pub count_all : List DeviceCall → ℕ
 count_all [] = 0
 count_all (call ∷ calls) = count_of call + count_all calls
@@ -71,7 +71,7 @@ abbrev pub IsImageOfSome : List DiskState → List ℕ → Type 0
 IsImageOfSome [] image = ⊥
 IsImageOfSome (state ∷ rest) image = IsImage state image ⊎ IsImageOfSome rest image
 
--- what a read gives after these calls
+-- what a read returns after these calls
 abbrev pub contents_after : List ℕ → List DeviceCall → List ℕ → List ℕ
 contents_after first calls written = (last_state (synced first) calls written).contents
 
@@ -79,6 +79,6 @@ contents_after first calls written = (last_state (synced first) calls written).c
 unfoldable pub agrees : List ℕ → ℕ → List ℕ → Bool
 agrees disk at bytes = bytes_eq (take (length bytes) (drop at disk)) bytes
 
--- so many zeros
+-- this many zeros
 unfoldable pub zeros : ℕ → List ℕ
 zeros size = replicate size 0

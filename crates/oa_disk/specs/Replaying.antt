@@ -1,4 +1,4 @@
--- Laws of a history.
+-- Lemmas about histories.
 use Rattle.std.proofs.Common.{◌≡◌, inl, inr, ℕ, zero, suc, ◌*◌, ◌≤◌, List, [], ◌∷◌, length, take, drop, refl, sym, ◌∙◌}
 use Rattle.std.proofs.Common.{ap, subst, arith, length-drop}
 use Rattle.std.proofs.lemmas.List.{length-take-le}
@@ -16,7 +16,7 @@ length-states [] state bytes = refl
 length-states (call ∷ calls) state bytes =
     omega (arith, length-states calls (after_call state call (take (count_of call) bytes)) (drop (count_of call) bytes))
 
--- the last state is one of those from any moment on
+-- the last state is one of those from any point in time on
 pub counts_last : (calls : List DeviceCall) (state : DiskState) (bytes c : List ℕ) (t : ℕ) → t ≤ 2 * length calls
     → IsImage (last_state state calls bytes) c
     → IsImageOfSome (drop t (state ∷ states state calls bytes)) c
@@ -32,7 +32,7 @@ counts_last (call ∷ calls) state bytes c (suc (suc t)) le is =
     counts_last calls (after_call state call (take (count_of call) bytes)) (drop (count_of call) bytes) c t
     (omega arith) is
 
--- since the last moment there is only the last state
+-- from the last point in time on there is only the last state
 only_at_length : (calls : List DeviceCall) (state : DiskState) (bytes c : List ℕ)
     → IsImageOfSome (drop (length (states state calls bytes)) (state ∷ states state calls bytes)) c
     → IsImage (last_state state calls bytes) c
@@ -41,7 +41,7 @@ only_at_length [] state bytes c (inr none) = absurd none
 only_at_length (call ∷ calls) state bytes c left =
     only_at_length calls (after_call state call (take (count_of call) bytes)) (drop (count_of call) bytes) c left
 
--- what is left since a later moment is left since the first
+-- what is left since a later point in time is left since the first
 since_first : (all : List DiskState) (c : List ℕ) (t : ℕ) → IsImageOfSome (drop t all) c → IsImageOfSome all c
 since_first all c zero is = is
 since_first [] c (suc t) is = is
@@ -139,6 +139,6 @@ module _ (h : History) where
       (subst (λ (n : ℕ). IsImageOfSome (drop n (synced h.first ∷ states (synced h.first) h.calls h.written)) c)
       (sym (length-states h.calls (synced h.first) h.written)) left)
 
--- a disk of no bytes has images of that size alone
+-- a disk of no bytes has only images of that size
 pub no_bytes : (c : List ℕ) → c ≡ [] → length c ≡ 0
 no_bytes c is = ap length is

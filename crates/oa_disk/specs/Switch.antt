@@ -1,5 +1,5 @@
--- Bytes that one byte, the switch, makes count: a journal's batch behind its gate, a bank and the selector. This
--- project's choice.
+-- Bytes that become valid by one byte, the switch: a batch of the journal with its gate, a bank with the selector.
+-- This project's choice.
 use Rattle.std.specs.Prelude.{◌≡◌, ◌⊎◌, ℕ, List, length, get_or}
 use Rattle.oa_disk.specs.Disk.{HasBytesAt, Torn}
 

@@ -14,7 +14,7 @@ torn Kept disk at bytes = overwritten disk at bytes
 torn (Filled byte) disk at bytes = overwritten disk at (replicate (length bytes) byte)
 torn (Cut n) disk at bytes = overwritten disk at (take n bytes)
 
--- the tear for the writes behind one of so many bytes
+-- the tear for the writes after one of this many bytes
 abbrev pub tear_behind : Tear → ℕ → Tear
 tear_behind Lost count = Lost
 tear_behind Kept count = Kept
@@ -27,7 +27,7 @@ torn_call tear disk Read bytes = disk
 torn_call tear disk (Write at count) bytes = torn tear disk at bytes
 torn_call tear disk Sync bytes = disk
 
--- the disk after these calls, which have written these bytes
+-- the disk after these calls, which wrote these bytes
 abbrev pub torn_all : Tear → List ℕ → List DeviceCall → List ℕ → List ℕ
 torn_all tear disk [] written = disk
 torn_all tear disk (call ∷ calls) written =
@@ -40,11 +40,11 @@ pub record IsLastSync (calls : List DeviceCall) (n : ℕ) : Type 0 where
   pub here : (n ≡ 0) ⊎ (slice_get calls (n - 1) ≡ Some Sync)
   pub none_later : (k : ℕ) → n ≤ k → slice_get calls k ≡ Some Sync → ⊥
 
--- The disk after a crash at this moment: what was there at the last sync that had ended by then, and the tear of
--- the calls that had begun since.
+-- The disk after a crash at this point in time: the state at the last sync that had ended by then, and the torn calls
+-- that had begun since.
 pub record IsTorn (tear : Tear) (first : List ℕ) (calls : List DeviceCall) (written : List ℕ) (moment : ℕ)
     (image : List ℕ) : Type 0 where
-  -- so many calls, up to that sync
+  -- how many calls there were up to that sync
   pub synced : ℕ
   pub last : IsLastSync (take (moment / 2) calls) synced
   pub torn : image ≡ torn_all tear (contents_after first (take synced calls) written)

@@ -1,11 +1,11 @@
-//! The calls of a disk, as a record keeps them.
+//! The calls of a disk, as a log keeps them.
 
-/// A call that a disk has met.
+/// One call of a disk.
 #[derive(Clone, Copy, Debug, PartialEq, Eq)]
 pub enum DeviceCall {
     /// A read.
     Read,
-    /// A write: its first byte and how many bytes it has.
+    /// A write: the place of its first byte, and how many bytes it wrote.
     Write(usize, usize),
     /// A sync.
     Sync,

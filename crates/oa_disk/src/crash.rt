@@ -1,4 +1,4 @@
-//! What a crash leaves, made from the calls and the bytes that were written.
+//! The bytes that a crash leaves, computed from the calls of a disk and the bytes that they wrote.
 ghost use Rattle.std.specs.Prelude.{◌≡◌, ◌+◌, ◌*◌, ◌<◌, ◌≤◌, length, OnOk, IfOk};
 ghost use Rattle.oa_disk.specs.Ledger.{laid};
 ghost use Rattle.oa_disk.specs.Replay.{AllInside, contents_after, count_all};
@@ -8,20 +8,20 @@ use crate::DeviceCall;
 use crate::layers::Layers;
 use std::alloc::{AllocError, Global};
 
-/// What becomes of the ranges that were written and have not been brought to the device.
+/// How a crash tears the writes that no sync has brought to the device.
 #[derive(Clone, Copy, Debug, PartialEq, Eq)]
 pub enum Tear {
-    /// Each holds what was there before.
+    /// Each range keeps the bytes that it had before.
     Lost,
-    /// Each holds what was written.
+    /// Each range has the bytes that were written.
     Kept,
-    /// Each holds this byte throughout.
+    /// Each range is filled with this byte.
     Filled(u8),
-    /// The writes in order, as far as their first bytes, so many in all.
+    /// The first bytes of the writes, in order: this many in all.
     Cut(u64),
 }
 
-/// One write's range, as the tear has it. What is left of a cut is for the writes behind it.
+/// Tears the range of one write, and returns the tear for the writes after it: a cut has fewer bytes left.
 fn tear_range(
     alloc: Global,
     disk: &mut Layers,
@@ -49,7 +49,7 @@ fn tear_range(
     }
 }
 
-/// The number of calls up to the last sync, and with it.
+/// Returns how many calls there are up to and including the last sync; 0 if there is no sync.
 fn last_sync(calls: &[DeviceCall]) -> usize
     ensures { IsLastSync calls.now result }
 {
@@ -62,7 +62,7 @@ fn last_sync(calls: &[DeviceCall]) -> usize
     end
 }
 
-/// Makes the calls again, and says how many bytes they wrote.
+/// Replays the calls on the disk, and returns how many bytes they wrote.
 fn replay(disk: &mut Layers, calls: &[DeviceCall], written: &[u8]) -> Result<usize, AllocError>
     requires inside { AllInside disk.old.size calls.now }
     requires written { count_all calls.now ≤ length written.now }
@@ -80,7 +80,7 @@ fn replay(disk: &mut Layers, calls: &[DeviceCall], written: &[u8]) -> Result<usi
     Ok(from)
 }
 
-/// Makes the calls again, with their writes torn.
+/// Replays the calls on the disk with their writes torn.
 fn tear_all(
     alloc: Global,
     disk: &mut Layers,
@@ -104,7 +104,7 @@ fn tear_all(
     Ok(())
 }
 
-/// Makes the calls again, as a crash at that moment may leave the disk.
+/// Replays the calls up to a point in time, and tears the writes after the last sync before it.
 pub(crate) fn leave_at(
     alloc: Global,
     disk: &mut Layers,

@@ -1,5 +1,5 @@
 //! A file of the operating system as a disk.
-ghost use Rattle.std.specs.Prelude.{◌≡◌, ◌+◌, ◌-◌, ◌^◌, ◌<◌, ◌≤◌, [], ℕ, length, IfOk, IfErr};
+ghost use Rattle.std.specs.Prelude.{◌≡◌, ◌+◌, ◌-◌, ◌^◌, ◌<◌, ◌≤◌, ◌↔◌, [], ℕ, length, IfOk, IfErr, IsTrue};
 ghost use Rattle.oa_disk.specs.Disk.{CountsFailures};
 ghost use Rattle.oa_disk.specs.Folders.{IsFolderOf};
 ghost use Rattle.oa_disk.specs.History.{IsHistory};
@@ -7,18 +7,18 @@ ghost use Rattle.oa_disk.specs.Record.{history_of};
 
 use crate::record::Record;
 use crate::{DeviceCall, DeviceFault, Disk};
-use std::fs::{self, File, OpenFile, OpenOptions};
+use std::fs::{self, File, Metadata, OpenFile, OpenOptions};
 use std::io;
-use std::os::unix::fs::FileExt;
+use std::os::unix::fs::{FileExt, MetadataExt};
 use std::rt::Files;
 
-/// How many zeros are written in one call.
+/// How many zeros one call writes.
 const PIECE: usize = 65_536;
 
-/// A file as a disk of the length that it had when it was taken. It keeps a record of its calls that only clauses
-/// read: each member of the trait is read off that record, and it is honest as long as each read has given the bytes
-/// that are there by the record. That the file held what the record begins with, that it was on the device, and that
-/// a crash leaves one of the images, is a premise of whoever uses the clauses.
+/// A file as a disk, of the length that the file had when the disk was made. A log of its calls exists for contracts
+/// only: each member of the trait is computed from that log, and the disk is honest as long as each read has returned
+/// the bytes that the log implies. Three things are premises of whoever uses the clauses: that the file held the
+/// contents with which the log begins, that these were on the device, and that a crash leaves one of the images.
 #[derive(Drop)]
 pub struct FileDisk {
     file: File,
@@ -33,9 +33,9 @@ impl FileDisk {
     ghost use Rattle.oa_disk.specs.After.{BeginsHonest};
     ghost use Rattle.oa_disk.specs.File.{file_size, failures_of, record_of, GoesOnFrom, HasMetNoCall, IsZeros};
 
-    /// Opens a file that is there for reading and writing, and not for appending, as `over` does. There is a beginning from which all that
-    /// is said of the disk is true: what the file held. (`over` says it of each beginning: beside a path no caller can hand on a value that
-    /// only clauses name.)
+    /// Opens an existing file for reading and writing, not for appending, and makes a disk of it as `over` does.
+    /// There are first contents, those that the file held, for which everything stated of the disk is true. (`over`
+    /// states it for all first contents. Beside a path no caller can pass a value that only clauses name.)
     pub fn open<R: Files<File = File>>(rt: &R, path: &str) -> io::Result<FileDisk>
         ensures held { IfOk result (λ disk. (held : ℕ → ℕ) × HasMetNoCall held disk) }
         ensures begins { IfOk result (BeginsHonest ⟦<FileDisk as Disk>⟧) }
@@ -43,26 +43,27 @@ impl FileDisk {
         FileDisk::over(OpenOptions::new().read(true).write(true).open(rt, path)?)
     }
 
-    /// Makes a file of so many zeros, locked as `over` says, which takes their whole room on the device at once, and brings it
-    /// there, with its name in its folder. Where something has the name, it is std's error `AlreadyExists`; where the file cannot be filled, it is
-    /// removed.
+    /// Creates a file of `size` zeros and locks it as `over` does. The zeros are allocated on the device at once, and
+    /// the file and its name in the folder are synced. Error: std's `AlreadyExists` if something has the name. If the
+    /// file cannot be filled, its name is removed, unless another file has taken the name meanwhile or the system
+    /// does not report which file has it.
     pub fn create<R: Files<File = File>>(rt: &R, path: &str, size: u64) -> io::Result<FileDisk>
         ensures zeros { IfOk result (IsZeros size) }
         ensures begins { IfOk result (BeginsHonest ⟦<FileDisk as Disk>⟧) }
     {
         let file = File::create_new(rt, path)?;
         if let Err(error) = lay_down(rt, &file, path, size) {
-            let _ = fs::remove_file(rt, path);
+            let _ = remove_new(rt, &file, path);
             return Err(error);
         }
         Ok(FileDisk::begin(file, size))
     }
 
-    /// Takes an open file that is written where it is told, and not at its end, as a disk of its own length, and brings to the device what was
-    /// written to it before. The file is locked until the disk goes: the lock is the system's, on the descriptor that is written by, so that
-    /// it ends with the process. Where another open of the file has it, that is std's error `WouldBlock`; anything but a regular file is
-    /// `Unsupported`, and each other refusal is the system's. All that is said of the disk is true from each beginning, what the file held
-    /// among them.
+    /// Makes a disk of an open file, of the file's length, and syncs what was written to it before. The file must be
+    /// written at given places, not appended to. It stays locked as long as the disk exists: the lock is the
+    /// system's, on this descriptor, so it ends with the process. Errors: `WouldBlock` if the file is locked
+    /// elsewhere; `Unsupported` if it is not a regular file; any other error is the system's. Everything stated of
+    /// the disk is true for all first contents, including those that the file held.
     pub fn over(file: File) -> io::Result<FileDisk>
         ghost held: { ℕ → ℕ }
         ensures held { IfOk result (HasMetNoCall held) }
@@ -71,17 +72,18 @@ impl FileDisk {
         if !file.metadata()?.is_file() {
             return Err(io::ErrorKind::Unsupported.into());
         }
-        // (the length is read under the lock, since whoever holds it may change it)
+        // (the length is read under the lock, since the holder of the lock may change it)
         file.try_lock()?;
         file.sync_all()?;
         let size = file.metadata()?.len();
         Ok(FileDisk::begin(file, size))
     }
 
-    /// The same file, lengthened to so many bytes where it is shorter, by zeros, which take their room on the device at once. It is locked
-    /// throughout. The new disk is as honest as this one. Where this one is, and no call of it has failed, all that was written to it is
-    /// brought to the device, and the new one begins with what it holds. Where that fails, the error is the system's, and the file, which
-    /// is let go, has its length of before, if that can be set. A stop leaves one that is shorter than asked.
+    /// Lengthens the file to `size` bytes, if it is shorter, with zeros that are allocated on the device at once. The
+    /// file stays locked throughout. The new disk is as honest as this one. If this disk is honest and no call of it
+    /// has failed, everything written to it is synced, and the new disk begins with its contents. On a failure the
+    /// error is the system's, the file is closed, and it gets its former length back if the system allows that. A
+    /// crash may leave a file that is shorter than asked.
     pub fn lengthen(self, size: u64) -> io::Result<FileDisk>
         ensures kept { IfOk result (λ disk. size ≤ file_size self → file_size disk ≡ file_size self) }
         ensures lengthened { IfOk result (λ disk. file_size self ≤ size → file_size disk ≡ size) }
@@ -103,7 +105,7 @@ impl FileDisk {
         })
     }
 
-    /// A file of which this is the beginning.
+    /// Makes a disk whose log begins with this file.
     fn begin(file: File, size: u64) -> FileDisk
         ghost held: { ℕ → ℕ }
         ensures size { file_size result ≡ size }
@@ -120,14 +122,14 @@ impl FileDisk {
     }
 }
 
-/// What the three calls do, each with its answer and what it notes.
+/// The three calls, each with its result and the entry in the log.
 impl FileDisk {
     ghost use Rattle.std.specs.Prelude.{MatchResult};
     ghost use Rattle.oa_disk.specs.declared.call.DeviceCall.TheVariants.{Read, Write, Sync};
     ghost use Rattle.oa_disk.specs.Record.{noted};
     ghost use Rattle.oa_disk.specs.File.{file_size, failures_of, record_of};
 
-    /// A read that fails is noted as one of no bytes.
+    /// Reads. A failed read is logged as a read of no bytes.
     fn get(&mut self, at: u64, bytes: &mut [u8]) -> Result<(), DeviceFault>
         ensures noted { MatchResult result
             (λ _. record_of self.new ≡ noted (record_of self.old) Read [] at bytes.new)
@@ -144,7 +146,7 @@ impl FileDisk {
         Ok(())
     }
 
-    /// A write is noted as such, whatever is answered.
+    /// Writes. A write is logged as one, whether it succeeds or not.
     fn put(&mut self, at: u64, bytes: &[u8]) -> Result<(), DeviceFault>
         requires { at + length bytes.now ≤ file_size self.old }
         ensures noted { record_of self.new ≡ noted (record_of self.old) (Write at (length bytes.now)) bytes.now 0 [] }
@@ -162,7 +164,7 @@ impl FileDisk {
         Ok(())
     }
 
-    /// A sync that fails has brought nothing to the device, and is noted as a read of no bytes.
+    /// Syncs. A failed sync has brought nothing to the device, and is logged as a read of no bytes.
     fn flush(&mut self) -> Result<(), DeviceFault>
         ensures noted { MatchResult result
             (λ _. record_of self.new ≡ noted (record_of self.old) Sync [] 0 [])
@@ -234,7 +236,7 @@ impl Disk for FileDisk {
     }
 }
 
-/// Fills a new file with so many zeros, and brings it and its name to the device.
+/// Fills a new file with `size` zeros, and syncs it and its folder.
 fn lay_down<R: Files<File = File>>(rt: &R, file: &File, path: &str, size: u64) -> io::Result<()> {
     file.try_lock()?;
     file.set_len(size)?;
@@ -242,7 +244,41 @@ fn lay_down<R: Files<File = File>>(rt: &R, file: &File, path: &str, size: u64) -
     File::open(rt, folder_of(path))?.sync_all()
 }
 
-/// Writes zeros from one place of a file to another, and brings the file to the device.
+/// Removes the name of a new file if it still belongs to that file. The system removes by name only, so the check
+/// comes directly before the removal. The file is open, so no other file can have its number by then.
+fn remove_new<R: Files<File = File>>(rt: &R, file: &File, path: &str) -> io::Result<()> {
+    let made = Identity::of(&file.metadata()?);
+    let named = Identity::of(&fs::symlink_metadata(rt, path)?);
+    if named.is(&made) {
+        fs::remove_file(rt, path)?;
+    }
+    Ok(())
+}
+
+/// Which file something is. A symbolic link counts as a file of its own.
+#[derive(Drop)]
+struct Identity {
+    device: u64,
+    inode: u64,
+}
+
+impl Identity {
+    fn of(found: &Metadata) -> Identity {
+        Identity {
+            device: found.dev(),
+            inode: found.ino(),
+        }
+    }
+
+    /// Returns whether the two are one file. A file's number is unique only within its device.
+    fn is(&self, other: &Identity) -> bool
+        ensures { IsTrue result ↔ (self.now ≡ other.now) }
+    {
+        self.device == other.device && self.inode == other.inode
+    }
+}
+
+/// Writes zeros from one place of a file to another, and syncs the file.
 fn add_zeros(file: &File, from: u64, to: u64) -> io::Result<()> {
     let zeros = [0; PIECE];
     let mut at = from;
@@ -254,7 +290,7 @@ fn add_zeros(file: &File, from: u64, to: u64) -> io::Result<()> {
     file.sync_all()
 }
 
-/// The folder of a path.
+/// Returns the folder of a path.
 fn folder_of(path: &str) -> &str
     ensures { IsFolderOf path.now result.now }
 {

@@ -7,7 +7,7 @@ ghost use Rattle.oa_disk.specs.Fuse.{failures_with};
 
 use crate::{DeviceFault, Disk};
 
-/// A disk that passes so many calls on to another, and then fails every call without passing it on.
+/// A disk that passes a number of calls on to another disk, and then fails every call without passing it on.
 #[derive(Drop)]
 pub struct FuseDisk<D: Disk> {
     disk: D,
@@ -33,8 +33,9 @@ fn spend(calls_left: &mut u64, refused: &mut u64, fault: DeviceFault) -> Result<
 impl<D: Disk> FuseDisk<D> {
     ghost use Rattle.oa_disk.specs.Fuse.{inner_of, calls_left_of, refused_of, ShowsAllOf};
 
-    /// Passes the calls before call number `first_failing` on, and fails each one from there on. Reads, writes and syncs
-    /// are its calls, numbered from 1. It is honest as the disk within is, and shows what that shows, its failures among it.
+    /// Makes a disk that passes on the calls before call number `first_failing`, and fails each one from there on.
+    /// Reads, writes and syncs are calls, numbered from 1. The new disk is as honest as `disk`, and has its contents,
+    /// images and failures.
     pub fn new(disk: D, first_failing: u64) -> FuseDisk<D>
         ensures disk { inner_of result ≡ disk }
         ensures calls { calls_left_of result ≡ first_failing - 1 }
@@ -48,7 +49,7 @@ impl<D: Disk> FuseDisk<D> {
         }
     }
 
-    /// The disk that the calls were passed on to.
+    /// Returns the disk that the calls were passed on to.
     pub fn into_inner(self) -> D
         ensures { result ≡ inner_of self }
     {
@@ -61,9 +62,8 @@ impl<D: Disk> FuseDisk<D> {
     }
 }
 
-/// Each call has the clauses of the trait, and one more: after the last call that is left the disk within stays as it is
-/// and the call fails, and each call takes one of those that are left. A call that is passed on is made once: the time of the
-/// disk within goes on by two moments at most.
+/// Each call has the clauses of the trait, and one more. While calls are left, each takes one of them and is passed
+/// on once, so the inner clock advances by at most two. After that, a call fails and the inner disk does not change.
 impl<D: Disk> Disk for FuseDisk<D> {
     ghost use Rattle.oa_disk.specs.Fuse.{KeepsKind, SpendsFuse};
 

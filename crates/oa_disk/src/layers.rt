@@ -1,4 +1,4 @@
-//! A row of bytes that takes memory for what was written alone.
+//! A row of bytes that uses memory only for what was written.
 ghost use Rattle.std.specs.Prelude.{◌≡◌, ℕ, ◌+◌, ◌-◌, ◌^◌, ◌<◌, ◌≤◌, List, length, replicate, OnOk, IfOk};
 ghost use Rattle.oa_disk.specs.Disk.{HasBytesAt};
 ghost use Rattle.oa_disk.specs.History.{IsHistory};
@@ -8,13 +8,13 @@ ghost use Rattle.oa_disk.specs.Replay.{AllInside, contents_after, count_all, ove
 use crate::DeviceCall;
 use std::alloc::{AllocError, Global};
 
-/// So many zeros, and over them writes, each over those before it.
+/// A sparse image: zeros, with writes over them, later ones on top.
 #[derive(Drop)]
 pub struct Layers {
     pub size: usize,
     /// The writes.
     pub calls: Vec<DeviceCall>,
-    /// Their bytes, one behind the other.
+    /// The bytes of all writes, one after the other.
     pub written: Vec<u8>,
     pub ghost fits: { size < 2 ^ 64 },
     pub ghost whole: { IsHistory size (layered size calls.items written.items) },
@@ -23,7 +23,7 @@ pub struct Layers {
 impl Layers {
     ghost use Rattle.oa_disk.specs.Ledger.{laid};
 
-    /// So many zeros, which take no memory.
+    /// Makes an image of `size` zeros, without allocating.
     pub(crate) fn new(alloc: Global, size: usize) -> Layers
         ensures bytes { laid result ≡ zeros size }
         ensures size { result.size ≡ size }
@@ -46,7 +46,7 @@ impl Layers {
         })
     }
 
-    /// Puts the bytes at that place.
+    /// Adds a write of these bytes at `at`. Err: an allocation failed, and nothing changed.
     pub(crate) fn put(&mut self, at: usize, bytes: &[u8]) -> Result<(), AllocError>
         requires { at + length bytes.now ≤ self.old.size }
         ensures bytes { OnOk result (laid self.new ≡ overwritten (laid self.old) at bytes.now) }
@@ -58,7 +58,7 @@ impl Layers {
         Ok(())
     }
 
-    /// Fills the buffer with the bytes from that place on.
+    /// Fills the buffer with the bytes from `at` on.
     pub(crate) fn give(&self, at: usize, bytes: &mut [u8])
         requires { at + length bytes.old ≤ self.now.size }
         ensures bytes { HasBytesAt (laid self.now) at bytes.new }
@@ -75,7 +75,7 @@ fn clear(bytes: &mut [u8])
     bytes.fill(0);
 }
 
-/// Puts the bytes at that place of the window.
+/// Copies the bytes to place `at` of the window.
 fn put(window: &mut [u8], at: usize, bytes: &[u8])
     requires { at + length bytes.now ≤ length window.old }
     ensures bytes { window.new ≡ overwritten window.old at bytes.now }
@@ -84,7 +84,7 @@ fn put(window: &mut [u8], at: usize, bytes: &[u8])
     window[at..at + bytes.len()].copy_from_slice(bytes);
 }
 
-/// Shows a write of these bytes in the window, which begins at that place of a disk.
+/// Applies a write at place `to` of a disk to the window, which shows the disk from place `at` on.
 fn show(window: &mut [u8], at: usize, to: usize, bytes: &[u8])
     requires window { at + length window.old < 2 ^ 64 }
     requires bytes { to + length bytes.now < 2 ^ 64 }
@@ -99,7 +99,7 @@ fn show(window: &mut [u8], at: usize, to: usize, bytes: &[u8])
     }
 }
 
-/// Makes the calls in the window, which begins at that place of a disk.
+/// Applies the calls to the window, which shows the disk from place `at` on.
 pub(crate) fn overlay(window: &mut [u8], at: usize, calls: &[DeviceCall], written: &[u8])
     requires window { at + length window.old < 2 ^ 64 }
     requires inside { AllInside (2 ^ 64 - 1) calls.now }

@@ -1,14 +1,15 @@
-//! A record of the calls that a disk in memory has served.
+//! A log of the calls that a disk in memory has executed.
 ghost use Rattle.std.specs.Prelude.{◌≤◌, length, vec_capacity, IfOk, ◌^◌, ◌<◌};
 
 use crate::{DeviceCall, DeviceFault};
 use std::alloc::{AllocError, Global};
 
-/// So many calls at most, whose writes have so many bytes at most in all, and a count of the calls past that.
+/// A log of bounded size: at most a number of calls, and of bytes written by them. Calls above the bounds are only
+/// counted.
 #[derive(Drop)]
 pub struct Ledger {
     pub calls: Vec<DeviceCall>,
-    /// The bytes of all writes, one behind the other.
+    /// The bytes of all writes, one after the other.
     pub written: Vec<u8>,
     pub most_calls: usize,
     pub most_bytes: usize,
@@ -23,7 +24,7 @@ pub struct Ledger {
 impl Ledger {
     ghost use Rattle.oa_disk.specs.Ledger.{Enters, IsEmpty};
 
-    /// Reserves the room.
+    /// Makes an empty log and reserves its memory. Err: an allocation failed.
     pub(crate) fn new(
         alloc: Global,
         most_calls: usize,
@@ -40,8 +41,8 @@ impl Ledger {
         })
     }
 
-    /// Records a call and the bytes that it writes, where there is room. It takes no memory. A call past the room is
-    /// that fault, and is counted.
+    /// Logs a call and the bytes that it writes, without allocating. If the log is full, it counts the call and
+    /// returns the fault.
     pub(crate) fn enter(
         &mut self,
         call: DeviceCall,

@@ -1,10 +1,10 @@
-//! A disk of a fixed size: what a read gives, and what a crash at each moment may leave.
+//! A disk of a fixed size: the bytes that a read returns, and the bytes that a crash at each point in time may leave.
 //!
-//! Its contract: the clauses of the trait `Disk`: a write may tear until a sync at `Ok`; `write_then_flip`
-//! leaves at each moment the bytes torn and the switch of before, or the bytes whole and any byte at the switch.
+//! Contract: the clauses of the trait `Disk`. A write may tear until a sync succeeds. A crash during
+//! `write_then_flip` leaves either torn bytes and the old switch, or all bytes and any byte at the switch.
 //!
-//! What stands on it: the storage crates (oa_journal, oa_store, oa_keeper, oa_groups), oa_server and oa_history; and
-//! oa_commands and the program, over a file.
+//! Used by the storage crates (oa_journal, oa_store, oa_keeper, oa_groups), oa_server and oa_history, and over a file
+//! by oa_commands and the program.
 #![tactic(auto)]
 
 mod call;

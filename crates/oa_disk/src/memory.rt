@@ -1,4 +1,4 @@
-//! A disk in memory that can be made to crash at any moment.
+//! A disk in memory that tests can crash at any point in time.
 ghost use Rattle.std.specs.Prelude.{◌≡◌, ◌+◌, ◌*◌, ◌-◌, ◌<◌, ◌≤◌, [], length, true, List, ℕ, OnOk, OnErr, IfOk, Some};
 ghost use Rattle.oa_disk.specs.Disk.{HasBytesAt, Torn, Reaches, NothingPending, FailsAs, Stays, WritesUnsynced, Syncs, TakesTime};
 ghost use Rattle.oa_disk.specs.History.{IsHistory};
@@ -11,15 +11,15 @@ use crate::ledger::Ledger;
 use crate::{DeviceCall, DeviceFault, Disk, Tear};
 use std::alloc::{AllocError, Global};
 
-/// A disk in memory. It keeps each call that it served, so that it can be made to crash at any moment: moment 0 is its start,
-/// moment `2k - 1` lies within call k, and moment `2k` comes after it. Reads, writes and syncs are its calls, numbered
-/// from 1. It takes memory for its calls and for what was written, and none for its size.
+/// A disk in memory. It logs each call, so a crash at any point in time can be made: 0 is its start, `2k - 1` lies
+/// within call k, and `2k` after it. Reads, writes and syncs are its calls, numbered from 1. It uses memory for its
+/// calls and the written bytes, not for its size.
 #[derive(Drop)]
 pub struct MemoryDisk {
     alloc: Global,
-    /// What it held at first.
+    /// The bytes of the disk at first.
     first: Layers,
-    /// What it has served since.
+    /// The calls since then.
     ledger: Ledger,
     ghost whole: { IsHistory first.size (history first ledger) },
 }
@@ -28,8 +28,9 @@ impl MemoryDisk {
     ghost use Rattle.oa_disk.specs.After.{BeginsHonest};
     ghost use Rattle.oa_disk.specs.Memory.{contents_of, state_at, moments_of, IsFresh, IsTornAt};
 
-    /// So many zeros, all of them on the device, with room for so many calls and for so many bytes of writes in all. It
-    /// reserves that room, so that the calls take no memory. A call past it is a failure, and changes nothing.
+    /// Makes a disk of `size` zeros, all of them on the device, and reserves memory for its calls and for the bytes
+    /// of all writes; the calls then allocate nothing. A call that exceeds either fails and changes nothing. Err: an
+    /// allocation failed.
     pub fn new(
         alloc: Global,
         size: usize,
@@ -45,16 +46,16 @@ impl MemoryDisk {
         MemoryDisk::over(alloc, Layers::new(alloc, size), calls, bytes)
     }
 
-    /// The last moment, twice the number of calls.
+    /// Returns the last point in time: twice the number of calls.
     pub fn moments(&self) -> u64
         ensures { result ≡ moments_of self.now }
     {
         2 * self.ledger.calls.len() as u64
     }
 
-    /// The disk after a crash at that moment, with a new record of the same room. Of the writes that no sync had
-    /// brought to the device by then, the one that had only begun among them, the tear says what is left. It costs a copy of what
-    /// was written, however large the disk is.
+    /// Returns the disk after a crash at that point in time, with a new log of the same bounds. `tear` decides what
+    /// is left of the writes that no sync had brought to the device by then, including one that had only begun. The
+    /// cost is a copy of what was written, however large the disk is. Err: an allocation failed.
     pub fn crash(&self, moment: u64, tear: Tear) -> Result<MemoryDisk, AllocError>
         requires { moment ≤ moments_of self.now }
         ensures torn { IfOk result (λ disk. IsTornAt self.now tear moment (contents_of disk)) }
@@ -83,7 +84,7 @@ impl MemoryDisk {
         )
     }
 
-    /// A disk that holds this, all of it on the device.
+    /// Makes a disk with these contents, all of them on the device.
     fn over(
         alloc: Global,
         first: Layers,
@@ -102,7 +103,7 @@ impl MemoryDisk {
         })
     }
 
-    /// What it holds, in so many new bytes as it has. This is no call.
+    /// Returns a copy of the contents. This is not a call of the disk. Err: an allocation failed.
     pub fn bytes(&self) -> Result<Vec<u8>, AllocError>
         ensures { IfOk result (λ bytes. bytes.items ≡ contents_of self.now) }
     {
@@ -111,7 +112,7 @@ impl MemoryDisk {
         Ok(bytes)
     }
 
-    /// Fills the buffer with what it holds from that place on.
+    /// Fills the buffer with the contents from `at` on.
     fn show(&self, at: usize, bytes: &mut [u8])
         requires { at + length bytes.old ≤ self.now.first.size }
         ensures bytes { HasBytesAt (contents_of self.now) at bytes.new }
@@ -122,8 +123,8 @@ impl MemoryDisk {
     }
 }
 
-/// Each call has the clauses of the trait, and one more: it is served exactly where the record has room for it, and then it
-/// is recorded; else the count of failures alone changes.
+/// Each call has the clauses of the trait, and one more. It is executed exactly if the log has space for it, and is
+/// then logged; otherwise only the count of failures changes.
 impl Disk for MemoryDisk {
     ghost use Rattle.oa_disk.specs.declared.call.DeviceCall.TheVariants.{Read, Write, Sync};
     ghost use Rattle.oa_disk.specs.Memory.{history_of, contents_of, moments_of, image_of, image_since_of, IsRecorded};

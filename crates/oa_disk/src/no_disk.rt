@@ -1,18 +1,18 @@
-//! The disk of a server that keeps nothing.
+//! The disk of a server without a store.
 ghost use Rattle.std.specs.Prelude.{◌≡◌, [], true, refl};
 ghost use Rattle.oa_disk.specs.Counting.{none_below};
 ghost use Rattle.oa_disk.specs.Replaying.{no_bytes};
 
 use crate::{DeviceFault, Disk};
 
-/// A disk of no bytes. Each call succeeds, and does nothing.
+/// A disk of no bytes. Each call succeeds and does nothing.
 #[derive(Clone, Copy, Debug, PartialEq, Eq)]
 pub struct NoDisk;
 
 impl NoDisk {
     ghost use Rattle.oa_disk.specs.After.{BeginsHonest};
 
-    /// The disk of no bytes, which is honest. There is one alone.
+    /// Returns the disk of no bytes, which is honest. There is only one.
     pub fn new() -> NoDisk
         ensures size { ⟦<NoDisk as Disk>⟧.size_of result ≡ 0 }
         ensures begins { BeginsHonest ⟦<NoDisk as Disk>⟧ result }

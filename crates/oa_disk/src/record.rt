@@ -1,4 +1,4 @@
-//! A record of a file's calls and their answers, which only clauses read. It has no bytes, and its methods do nothing.
+//! A log of a file's calls and their results for contracts only. It has no bytes, and its methods do nothing.
 ghost use Rattle.std.specs.Prelude.{◌≡◌, ℕ, List, Bool};
 ghost use Rattle.std.specs.Borrow.{ftrue};
 ghost use Rattle.oa_disk.specs.declared.call.DeviceCall.{DeviceCall as Called};
@@ -11,9 +11,9 @@ pub struct Record {
     /// What the file held at first.
     pub ghost first: { List ℕ },
     pub ghost calls: { List Called },
-    /// The bytes of all writes, one behind the other.
+    /// The bytes of all writes, one after the other.
     pub ghost written: { List ℕ },
-    /// Each read has given the bytes that are there by this record.
+    /// Whether each read has returned the bytes that this log implies.
     pub ghost honest: { Bool },
 }
 
@@ -24,7 +24,7 @@ impl Model for Record {
 impl Record {
     ghost use Rattle.oa_disk.specs.Record.{beginning, lengthened, noted};
 
-    /// A file of that size, with this byte at each place, and no call.
+    /// Makes the log of a file of `size` bytes, with this byte at each place, and no call.
     pub(crate) fn beginning(_size: &u64) -> Record
         ghost held: { ℕ → ℕ }
         ensures { result ≡ beginning held _size.now }
@@ -32,14 +32,15 @@ impl Record {
         Record {}
     }
 
-    /// A file of that size, which holds at first what this one holds now, and zeros behind it. It is as honest.
+    /// Makes the log of a file of `size` bytes that begins with the present contents of this one, and zeros after
+    /// them. It is as honest.
     pub(crate) fn lengthened(&self, _size: &u64) -> Record
         ensures { result ≡ lengthened self.now _size.now }
     {
         Record {}
     }
 
-    /// One call more, with the bytes that it wrote, and those that it gave from that place on.
+    /// Adds a call, with the bytes that it wrote and those that it returned from `at` on.
     pub(crate) fn with(
         &self,
         _call: &DeviceCall,

@@ -1,4 +1,4 @@
-//! One byte decides: what was written before is on the device first.
+//! Atomic changes by one byte, the switch: it is written only after everything before it is on the device.
 ghost use Rattle.std.specs.Prelude.{◌≡◌, ◌⊎◌, ◌+◌, ◌<◌, ◌≤◌, List, ℕ, IsTrue, OnOk, length, slice_index};
 ghost use Rattle.oa_disk.specs.After.{AfterWrites};
 ghost use Rattle.oa_disk.specs.Disk.{LeavesOnly, LeavesStep, Follows, Torn};
@@ -6,12 +6,11 @@ ghost use Rattle.oa_disk.specs.Switch.{MaySwitch, HasSwitched};
 
 use crate::{DeviceFault, Disk};
 
-/// Brings all that was written to the device, and then sets one byte, there too: a sync, a write and a sync. A failure
-/// is that of a write.
+/// Syncs, sets the byte at `at` to `value`, and syncs again. A failure is that of a write.
 pub fn flip<D: Disk>(disk: &mut D, at: u64, value: u8) -> Result<(), DeviceFault>
     requires { at < D.size_of disk.old }
 
-    // Until then a crash leaves what it might have left, and from then on the contents with any byte there.
+    // (a crash before that leaves an image of before, a crash after it these contents with any byte at the switch)
     ensures any_moment { IsTrue (D.is_honest disk.old)
         → LeavesOnly D.moment D.image_since disk.old disk.new (λ c. D.image disk.old c ⊎ Torn at 1 (D.contents disk.old) c) }
     ensures done { OnOk result (IsTrue (D.is_honest disk.old)
@@ -24,8 +23,7 @@ pub fn flip<D: Disk>(disk: &mut D, at: u64, value: u8) -> Result<(), DeviceFault
     disk.sync()
 }
 
-/// Writes the bytes from that place on, and sets one byte, the switch, once they are on the device: a write, a sync, a write
-/// and a sync. A failure is that of a write.
+/// Writes the bytes from `at` on, syncs, sets the switch, and syncs again. A failure is that of a write.
 pub fn write_then_flip<D: Disk>(
     disk: &mut D,
     at: u64,
@@ -36,10 +34,11 @@ pub fn write_then_flip<D: Disk>(
     requires inside { at + length bytes.now ≤ D.size_of disk.old }
     requires switch { switch < D.size_of disk.old }
 
-    // A crash at any moment leaves what it might have left with any bytes in the range, or with these bytes and any switch.
+    // (a crash at any point in time leaves an earlier image with any bytes in the range, or with these bytes and any
+    // switch)
     ensures any_moment { IsTrue (D.is_honest disk.old)
         → LeavesStep D.moment D.image_since D.image disk.old disk.new (MaySwitch at bytes.now switch) }
-    // And at `Ok` with these bytes and the switch set.
+    // (and at `Ok` an image with these bytes and the switch set)
     ensures done { OnOk result (IsTrue (D.is_honest disk.old)
         → Follows (HasSwitched at bytes.now switch value) (D.image disk.old) (D.image disk.new)) }
 

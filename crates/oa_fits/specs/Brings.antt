@@ -1,4 +1,4 @@
--- What an event may bring into a table that a library can have.
+-- The events that preserve that a table fits its library.
 use Rattle.std.specs.Prelude.{Bool, true, is_some, Option, Some, None}
 use Rattle.oa_idl.specs.Trees.{TreeValue}
 use Rattle.oa_table.specs.declared.event.Event.{Event}
@@ -9,12 +9,12 @@ use Rattle.oa_checks.specs.Libraries.{class_of}
 use Rattle.oa_variant.specs.declared.variant.Variant.{Variant}
 use Rattle.oa_fits.specs.Fits.{cell_fits}
 
--- where there is no such object, the event does not apply
+-- if there is no such object, the event does not apply
 abbrev pub put_fits : TreeValue → PlaceValue → Variant → Option ObjectValue → Bool
 put_fits library place value None = true
 put_fits library place value (Some object) = cell_fits library object.class (place, value)
 
--- an object of a coclass of the library, or a value for a cell that its object can have; elements and bounds change no
+-- an object of a coclass of the library, or a fitting value for a cell of its object; elements and bounds change no
 -- type
 abbrev pub brings_fitting : TreeValue → TableValue → Event → Bool
 brings_fitting library table (Create number class) = is_some (class_of library class)

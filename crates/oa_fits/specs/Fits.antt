@@ -1,4 +1,4 @@
--- Which tables a library can have. (This project's choice.)
+-- Which tables fit a library. (This project's choice.)
 use Rattle.std.specs.Prelude.{ℕ, ◌&&◌, Bool, true, false, is_some, List, [], ◌∷◌, Option, Some, None}
 use Rattle.std.specs.List.{list_all}
 use Rattle.std.specs.Option.{option_and_then}
@@ -32,7 +32,7 @@ abbrev pub interface_fits : PlaceValue → Variant → Option InterfaceValue →
 interface_fits place value None = false
 interface_fits place value (Some interface) = property_fits place.key value (property_in interface place.dispid)
 
--- the interface with a GUID, which is its own, where the coclass with a GUID enters it
+-- the interface with a GUID of its own, if the coclass with a GUID has it
 abbrev pub entered : TreeValue → List ℕ → List ℕ → Option InterfaceValue
 entered library class guid =
     option_and_then (λ c. option_and_then (if_entered c) (interface_of library guid)) (class_of library class)

@@ -1,4 +1,4 @@
-//! Whether a table is one that a library can have.
+//! Whether a table fits a library.
 ghost use Rattle.std.specs.Prelude.{◌≡◌};
 ghost use Rattle.oa_fits.specs.Fits.{cell_fits, fits, key_fits, object_fits};
 ghost use Rattle.oa_variant.specs.declared.variant.Variant.TheVariants.{One};
@@ -12,8 +12,9 @@ use oa_typelib::Library;
 use oa_variant::{Scalar, Variant};
 use uuid::Uuid;
 
-/// Whether a library can have a table: the coclass of each object is in the library, and each cell is one of a property of an interface of
-/// that coclass, with a value for each of its parameters, and a value of its own, of the declared types. Takes no memory.
+/// Returns whether a table fits a library: the coclass of each object is in the library, and each cell is one of a
+/// property of an interface of that coclass, with a value for each of its parameters, and a value of its own, of the
+/// declared types. Allocates nothing.
 pub fn fits(library: &Library, table: &Table) -> bool
     ensures { result ≡ fits library.now table.now }
 {
@@ -52,7 +53,7 @@ fn cell_fits(library: &Library, class: &Uuid, place: &Place, value: &Variant) ->
     key_fits(property.parameters, place.key()) && value.fits(property.value_type)
 }
 
-/// Whether a key has one value for each parameter, of its type.
+/// Returns whether a key has one value for each parameter, of the parameter's type.
 fn key_fits(parameters: &[Parameter], key: &[Scalar]) -> bool
     ensures { result ≡ key_fits parameters.now key.now }
 {

@@ -1,4 +1,4 @@
-//! Laws of the definitions, each the contract of a function with an empty body.
+//! Theorems about the definitions, each the contract of a function with an empty body.
 ghost use Rattle.std.specs.Prelude.{◌≡◌, ℕ, ℤ, true, List, Some, IfOk, IfSome};
 ghost use Rattle.oa_idl.specs.Trees.{TreeValue};
 ghost use Rattle.oa_idl.specs.Values.{InterfaceValue};
@@ -17,8 +17,8 @@ ghost use Rattle.oa_fits.specs.Fits.{entered, fits};
 
 use oa_variant::laws::equal_is_same;
 
-/// The table at first is one of each library. A table that a library can have stays so by an event that brings what fits, and by each
-/// change of locks; locks are no part of it.
+/// The first table fits each library. If a table fits its library, it still does after an event whose values fit, and
+/// after each change of locks, which do not matter for that.
 pub fn changes_that_fit()
     ensures first { (library : TreeValue) → fits library first_table ≡ true }
     ensures event { (library : TreeValue) (table : TableValue) (event : AnEvent) → fits library table ≡ true
@@ -33,8 +33,8 @@ pub fn changes_that_fit()
     equal_is_same();
 }
 
-/// What a call reaches is what a cell that fits is of: the interface that it selects, also by the zero GUID, is one of the coclass by its
-/// own GUID, and the member that it finds, in whatever form, is the property with the DISPID.
+/// A call addresses what a fitting cell belongs to: the interface that it selects, also by the zero GUID, is one of
+/// the coclass with its own GUID, and the member that it finds, in any form, is the property with the DISPID.
 pub fn calls_reach_what_fits()
     ensures interface { (library : TreeValue) (class guid : List ℕ) → IsChecked library
         → IfSome (selected_in library class guid) (λ found. entered library class found.guid ≡ Some found) }
@@ -42,7 +42,7 @@ pub fn calls_reach_what_fits()
         → IfOk (member_in interface id access) (λ found. property_in interface id ≡ Some found.0) }
 {}
 
-/// A table that a library can have is one that each library can have that keeps it.
+/// A table that fits a library fits each library that is compatible with it.
 pub fn kept_fits()
     ensures { (new old : TreeValue) → IsChecked new → KeepsLibrary new old → (table : TableValue) → fits old table ≡ true
         → fits new table ≡ true }

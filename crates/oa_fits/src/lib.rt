@@ -1,9 +1,9 @@
-//! Which tables a library can have: the objects are of its coclasses, and the cells are of their properties.
+//! Which tables fit a library: the objects are of its coclasses, and the cells are of their properties.
 //!
-//! Its contract: `fits` is true exactly of the tables that a library can have, and what a request changes keeps
-//! them so (`laws::changes_that_fit`).
+//! Contract: `fits` is true exactly for these tables, and the changes of requests preserve it
+//! (`laws::changes_that_fit`).
 //!
-//! What stands on it: oa_turn, whose turns keep a table so, and oa_server, which opens a store by it.
+//! Used by oa_turn, whose turns preserve it, and by oa_server when it opens a store.
 #![tactic(auto)]
 
 mod fitting;

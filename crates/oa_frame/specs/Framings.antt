@@ -1,4 +1,4 @@
--- Framings: how bodies stand in bytes, what ends them, and how replies are spelled (this project's choice).
+-- Framings: how bodies are delimited in bytes, what ends them, and how replies are written (this project's choice).
 use Rattle.std.specs.Prelude.{◌≡◌, ◌⊎◌, ℕ, ◌-◌, ◌<◌, ◌≤◌, max, Bool, true, false, List, [], ◌∷◌, ◌++◌, length, drop}
 use Rattle.std.specs.Prelude.{take, Option, IsErr, Ok, ⊤}
 use Rattle.std.specs.Io.KnownBytes as known
@@ -15,9 +15,9 @@ use Rattle.oa_frame.specs.declared.framing.Read.TheVariants as read
 use Rattle.oa_frame.specs.Known.{Known}
 use Rattle.oa_frame.specs.Lines.{FirstLine, IsLong, IsPartOfLine}
 
--- A framing. Next: the bytes begin with this body, and the rest follows it. Stop: this ends the bodies where these
--- bytes are left, of which the others are left after it was read. Can: this may end them at the body with this number,
--- whatever the reader gives. spelled: how a reply stands on the writer.
+-- A framing. Next: the bytes begin with this body, and the rest follows it. Stop: with these bytes left, this ends
+-- the bodies, and the other bytes are left after it was read. Can: this may end them at the body with this number,
+-- whatever the reader returns. spelled: the bytes of a reply.
 pub record Frames : Type 1 where
   pub Next : List ℕ → List ℕ → List ℕ → Type 0
   pub Stop : End → List ℕ → List ℕ → Type 0
@@ -32,7 +32,7 @@ pub record NextLine (bytes body rest : List ℕ) : Type 0 where
   pub short : length line ≤ max_line_characters
   pub digits : decode_of line ≡ Ok body
 
--- the first line is the digits of no body
+-- the first line is not hexadecimal
 pub record IsBad (bytes rest : List ℕ) : Type 0 where
   pub line : List ℕ
   pub first : FirstLine bytes line rest
@@ -59,12 +59,12 @@ LineCan number end.WriteFault = ⊥
 abbrev pub hex_lines : Frames
 hex_lines = record { Next = NextLine; Stop = LineStop; Can = LineCan; spelled = λ reply. encode_lower reply ++ 10 ∷ [] }
 
--- four bytes that say this number, the lowest first
+-- four bytes that encode this number, the lowest first
 pub record SaysLength (head : List ℕ) (n : ℕ) : Type 0 where
   pub four : length head ≡ 4
   pub says : from_le_bytes w32 head ≡ n
 
--- a length above 0, and so many bytes
+-- a length above 0, and that many bytes
 pub record NextRecord (bytes body rest : List ℕ) : Type 0 where
   pub head : List ℕ
   pub says : SaysLength head (length body)
@@ -87,7 +87,7 @@ pub record EndsInRecord (bytes rest : List ℕ) : Type 0 where
   pub few : (length bytes < 4)
       ⊎ ((more : List ℕ) × Length (λ n. (0 < n) × (n ≤ max_request_bytes) × (length more < n)) bytes more)
 
--- no more than a part of the first record was read: of its length, or of the body behind that
+-- only a part of the first record was read: of its length, or of the body after that
 pub record IsPartOfRecord (bytes rest : List ℕ) : Type 0 where
   pub part : List ℕ
   pub whole : bytes ≡ part ++ rest
@@ -109,7 +109,7 @@ RecordCan number (end.BadHex line) = ⊥
 RecordCan number end.ReadFault = ⊤
 RecordCan number end.WriteFault = ⊥
 
--- a length and as many bytes each
+-- each is a length, and that many bytes
 abbrev pub records : Frames
 records = record {
   Next = NextRecord;
@@ -122,37 +122,37 @@ abbrev pub frames : Framing → Frames
 frames HexLines = hex_lines
 frames Records = records
 
--- a body of n bytes: the last of what was passed over of that which was read ahead, or the first of a buffer
+-- a body of n bytes: the last ones consumed of the read-ahead buffer, or the first ones of a buffer
 abbrev pub body_of : ℕ → Bool → List ℕ → List ℕ → List ℕ
 body_of n true buffer passed = drop (length passed - n) passed
 body_of n false buffer passed = take n buffer
 
--- what was read at the record of this number; where the writer failed, nothing
+-- what was read at the record with this number; nothing if the writer failed
 abbrev pub Inputs : Frames → Read → ℕ → List ℕ → List ℕ → Option (List ℕ) → Option (List ℕ) → Type 0
 Inputs f (read.Body n ahead) number buffer passed old new =
     Known (λ bytes rest. f.Next bytes (body_of n ahead buffer passed) rest) old new
 Inputs f (read.Ends why) number buffer passed old new = f.Can number why × Known (f.Stop why) old new
 Inputs f read.Unwritten number buffer passed old new = known.Keeps old new
 
--- All that was put before is put still, and has left where the reader was called.
+-- The writer still has everything that was put, and has been flushed if the reader was called.
 pub record HandsOver (old new : Output) (calls calls' : ℕ) : Type 0 where
   pub keeps : Writes old new []
   pub first : (calls' ≡ calls) ⊎ IsHandedOn new
 
--- so it is, or the writer failed, and the reader was not called
+-- so it is, or the writer failed and the reader was not called
 abbrev pub Hands : Read → Output → Output → ℕ → ℕ → Type 0
 Hands (read.Body n ahead) old new calls calls' = HandsOver old new calls calls'
 Hands (read.Ends why) old new calls calls' = HandsOver old new calls calls'
 Hands read.Unwritten old new calls calls' = Breaks old new [] × (calls' ≡ calls)
 
--- the body stands there
+-- the body is at that place
 abbrev pub Fits : Read → List ℕ → List ℕ → Type 0
 Fits (read.Body n true) buffer passed = n ≤ length passed
 Fits (read.Body n false) buffer passed = n ≤ length buffer
 Fits (read.Ends why) buffer passed = ⊤
 Fits read.Unwritten buffer passed = ⊤
 
--- how long the buffer gets: no longer than it was or the body is
+-- the length of the buffer: at most what it was, or the body's length
 abbrev pub GrowsTo : Read → ℕ → ℕ → Type 0
 GrowsTo (read.Body n ahead) old new = new ≤ max old n
 GrowsTo (read.Ends why) old new = ⊤

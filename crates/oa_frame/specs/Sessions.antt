@@ -1,4 +1,4 @@
--- What a session over a reader and a writer read, answered and wrote, in any framing. (This project's choice.)
+-- What a session over a reader and a writer has read, answered and written, in any framing. (This project's choice.)
 use Rattle.std.specs.Prelude.{◌≡◌, ◌⊎◌, ℕ, ◌+◌, ◌≤◌, Bool, true, false, if◌then◌else◌, List, [], ◌∷◌, ◌++◌, length}
 use Rattle.std.specs.Prelude.{Result, Ok, Err, ⊤}
 use Rattle.std.specs.List.{All, sum}
@@ -16,17 +16,15 @@ use Rattle.oa_frame.specs.Known.{Known}
 use Rattle.oa_frame.specs.Framings.{Frames, is_read_fault}
 use Rattle.oa_frame.specs.Paces.{HasCause}
 
--- what a server does with a body: the state before, the body, the replies that it hands out then (none, one or many),
--- the state after
+-- a turn of a server: the state before, the body, the replies that it sends then (none, one or many), the state after
 abbrev pub TurnOf : Type 0 → Type 1
 TurnOf S = S → List ℕ → List (List ℕ) → S → Type 0
 
--- what a server does where no further body comes: the state before, the replies that were still held, the state after
+-- a flush of a server: the state before, the replies that were still held, the state after
 abbrev pub EndOf : Type 0 → Type 1
 EndOf S = S → List (List ℕ) → S → Type 0
 
--- A body that comes alone: first what was held is handed out, as where no further body comes, and then the body is
--- answered.
+-- A body that comes alone: first held replies are sent, as at the end of the input, and then the body is answered.
 pub record AnswersAlone {S : Type 0} (turn : TurnOf S) (ends : EndOf S) (old : S) (body : List ℕ)
     (replies : List (List ℕ))
     (new : S) : Type 0 where
@@ -41,18 +39,18 @@ abbrev pub step_by : {S : Type 0} → Bool → TurnOf S → EndOf S → TurnOf S
 step_by true turn ends old body replies new = AnswersAlone turn ends old body replies new
 step_by false turn ends old body replies new = turn old body replies new
 
--- what is done at a body, whether it comes alone or not
+-- the turn of a body, whether it comes alone or not
 abbrev pub step : {S : Type 0} → (List ℕ → Bool) → TurnOf S → EndOf S → TurnOf S
 step alone turn ends old body replies new = step_by (alone body) turn ends old body replies new
 
--- What the reading came to behind the last body that was answered: nothing; what ended it; a body that comes alone,
--- which was read and left undone.
+-- What was read after the last body that was answered: nothing; what ended the input; or a body that comes alone,
+-- which was read and not executed.
 pub data Halt : Type 0 where
   Between : Halt
   At : End → Halt
   Undone : List ℕ → Halt
 
--- one body after another, with the replies that were handed out at each
+-- one body after another, with the replies that were sent at each
 abbrev pub BodiesTurned : {S : Type 0} → TurnOf S → S → List (List ℕ) → List (List (List ℕ)) → S → Type 0
 BodiesTurned turn old [] [] new = new ≡ old
 BodiesTurned {S} turn old (body ∷ bodies) (replies ∷ handed) new = (mid : S) × turn old body replies mid
@@ -60,7 +58,7 @@ BodiesTurned {S} turn old (body ∷ bodies) (replies ∷ handed) new = (mid : S)
 BodiesTurned turn old [] (replies ∷ handed) new = ⊥
 BodiesTurned turn old (body ∷ bodies) [] new = ⊥
 
--- all replies that were handed out, and those of them that were last
+-- all replies that were sent, and the last ones of them
 unfoldable pub joined : List (List (List ℕ)) → List (List ℕ)
 joined [] = []
 joined (replies ∷ handed) = replies ++ joined handed
@@ -81,9 +79,9 @@ but_last [] = []
 but_last (reply ∷ []) = []
 but_last (reply ∷ (next ∷ replies)) = reply ∷ but_last (next ∷ replies)
 
--- Of all bytes that a writer was given, `gone` have left it; `before` is how many it was given before these bodies. At
--- each of them that comes alone, all had left that it was given before that body's own reply, which is the last of
--- those that were handed out at it.
+-- Of all bytes that a writer received, `gone` have left it; `before` is how many it received before these bodies. At
+-- each body that comes alone, everything had left that the writer received before that body's own reply, which is the
+-- last of those that were sent then.
 abbrev pub HasLeft : Frames → (List ℕ → Bool) → ℕ → ℕ → List (List ℕ) → List (List (List ℕ)) → Type 0
 HasLeft f alone gone before [] handed = Unit {0}
 HasLeft f alone gone before (body ∷ bodies) [] = Unit {0}
@@ -91,7 +89,7 @@ HasLeft f alone gone before (body ∷ bodies) (replies ∷ handed) =
     (alone body ≡ true → before + length (spelled_all f.spelled (but_last replies)) ≤ gone)
     × HasLeft f alone gone (before + length (spelled_all f.spelled replies)) bodies handed
 
--- an end that is answered: a record that is cut or too long
+-- an end with a reply: a record that is cut or too long
 abbrev pub is_answered : End → Bool
 is_answered Closed = false
 is_answered Cut = true
@@ -104,21 +102,21 @@ is_answered WriteFault = false
 abbrev pub last_reply : List ℕ → End → List (List ℕ)
 last_reply last why = if is_answered why then last ∷ [] else []
 
--- what the writer was given when the reading had ended, or before a body that was left undone: nothing where it had
+-- what the writer received after the reading had ended, or before a body that was not executed: nothing if it had
 -- failed before
 abbrev pub finals : List ℕ → Halt → List (List ℕ) → List (List ℕ)
 finals last Between held = []
 finals last (At why) held = held ++ last_reply last why
 finals last (Undone body) held = held
 
--- the replies that the writer was given last: those of the end, those before a body that was left undone, or those of
+-- the last replies that the writer received: those of the end, those before a body that was not executed, or those of
 -- one body
 abbrev pub given_last : List ℕ → Halt → List (List (List ℕ)) → List (List ℕ) → List (List ℕ)
 given_last last Between handed held = latest handed
 given_last last (At why) handed held = held ++ last_reply last why
 given_last last (Undone body) handed held = held
 
--- a body was answered: the replies that were handed out were put, or the writer failed in them
+-- a body was answered: the replies that are sent were put, or the writer failed in them
 pub record AnswersBody {S : Type 0} (f : Frames) (turn : TurnOf S) (result : Result (Unit {0}) Unwritten)
     (body : List ℕ)
     (out out' : Output) (old new : S) : Type 0 where
@@ -126,7 +124,7 @@ pub record AnswersBody {S : Type 0} (f : Frames) (turn : TurnOf S) (result : Res
   pub turned : turn old body replies new
   pub put : Puts result out out' (spelled_all f.spelled replies)
 
--- so a body that comes alone, with its own reply at most
+-- a body that comes alone was answered, with at most its own reply
 pub record AnswersOwn {S : Type 0} (f : Frames) (turn : TurnOf S) (result : Result (Unit {0}) Unwritten)
     (body : List ℕ)
     (out out' : Output) (old new : S) : Type 0 where
@@ -140,28 +138,28 @@ pub record Finishes {S : Type 0} (f : Frames) (ends : EndOf S) (result : Result 
   pub ended : ends old held new
   pub put : Puts result out out' (spelled_all f.spelled held)
 
--- the same of a server whose replies nobody gets any more
+-- a flush of a server whose replies are lost
 pub record Abandons {S : Type 0} (ends : EndOf S) (old new : S) : Type 0 where
   pub held : List (List ℕ)
   pub ended : ends old held new
 
--- these bytes were put and all was handed on, or the writer failed
+-- these bytes were put and the writer was flushed, or it failed
 abbrev pub PutsOn : Result (Unit {0}) Unwritten → Output → Output → List ℕ → Type 0
 PutsOn (Ok u) out out' bytes = Writes out out' bytes × IsHandedOn out'
 PutsOn (Err e) out out' bytes = Breaks out out' bytes
 
--- a state in which all replies that were held have been handed out
+-- a state in which all held replies have been sent
 abbrev pub HasEnded : {S : Type 0} → EndOf S → S → Type 0
 HasEnded {S} ends state = (before : S) × (held : List (List ℕ)) × ends before held state
 
--- before a body that comes alone: what was held has left, or the writer failed in it
+-- before a body that comes alone: held replies have left, or the writer failed in them
 pub record IsParted {S : Type 0} (f : Frames) (ends : EndOf S) (result : Result (Unit {0}) Unwritten)
     (out out' : Output) (old new : S) : Type 0 where
   pub held : List (List ℕ)
   pub ended : ends old held new
   pub put : PutsOn result out out' (spelled_all f.spelled held)
 
--- what was held has left, and behind it such a body was answered
+-- held replies have left, and after that such a body was answered
 pub record AnswersApart {S : Type 0} (f : Frames) (turn : TurnOf S) (ends : EndOf S)
     (result : Result (Unit {0}) Unwritten) (body : List ℕ)
     (out out' : Output) (old new : S) : Type 0 where
@@ -190,34 +188,34 @@ abbrev pub Bodies : Frames → List ℕ → List (List ℕ) → List ℕ → Typ
 Bodies f bytes [] rest = bytes ≡ rest
 Bodies f bytes (body ∷ bodies) rest = (mid : List ℕ) × f.Next bytes body mid × Bodies f mid bodies rest
 
--- these bodies were read, and nothing more, or more up to what ended them, or to the end of one that was left undone
+-- these bodies were read, and nothing more, or more up to what ended them, or to the end of one that was not executed
 abbrev pub ReadTo : Frames → Halt → List (List ℕ) → List ℕ → List ℕ → Type 0
 ReadTo f Between bodies bytes rest = Bodies f bytes bodies rest
 ReadTo f (At why) bodies bytes rest = (mid : List ℕ) × Bodies f bytes bodies mid × f.Stop why mid rest
 ReadTo f (Undone body) bodies bytes rest = (mid : List ℕ) × Bodies f bytes bodies mid × f.Next mid body rest
 
--- what can have ended the reading after so many bodies; none but a body that comes alone is left undone
+-- what may have ended the reading after this many bodies; only a body that comes alone may be read and not executed
 abbrev pub CanStop : Frames → (List ℕ → Bool) → ℕ → Halt → Type 0
 CanStop f alone requests Between = ⊤
 CanStop f alone requests (At why) = f.Can (requests + 1) why
 CanStop f alone requests (Undone body) = alone body ≡ true
 
--- no fault of the reader ended the reading, unless the records were used up
+-- the reading did not end with a fault of the reader, except that the records were used up
 abbrev pub ReaderStands : ℕ → Halt → Type 0
 ReaderStands requests Between = ⊤
 ReaderStands requests (At why) = why ≡ ReadFault → requests ≡ max_records
 ReaderStands requests (Undone body) = ⊤
 
--- How often the reader was called: for each body that was read, no more often than the limit, and so often after the
--- last of them.
+-- How often the reader was called: for each body that was read at most as often as the limit, and `over` times after
+-- the last of them.
 pub record CallsReader (requests over : ℕ) (old new : Input) : Type 0 where
   pub each : List ℕ
   pub one_each : length each ≡ requests
   pub few : All (λ n. n ≤ max_read_calls) each
   pub clock : new.calls ≡ later (sum each + over) old.calls
 
--- a read fault has a cause, and a reader that failed is told: it failed, or was called as often as may be, or the
--- records were used up
+-- a read fault has a cause, and a failure of the reader is reported: it failed, or was called as often as allowed, or
+-- the records were used up
 abbrev pub HasReaderCause : ℕ → Halt → ℕ → Bool → Type 0
 HasReaderCause requests Between over faulted = faulted ≡ false
 HasReaderCause requests (Undone body) over faulted = faulted ≡ false
@@ -232,10 +230,10 @@ pub record AllHaveLeft (f : Frames) (last : List ℕ) (why : End) (stop : Halt)
   pub handed_on : IsHandedOn new
   pub sound : new.broken ≡ false
 
--- The writer failed: no more than a first part of these replies has left it, and it had promised no room for all of
--- them. What is lost is no more than it may keep back and the replies that it was given last: so no further body was
--- answered once it had failed. Nor is any reply lost that was due before a body that comes alone and was answered: all
--- of them had left the writer first.
+-- The writer failed: at most a prefix of these replies has left it, and it had not promised to accept all of them. At
+-- most the bytes that it may keep back and the last replies that it received are lost: so no further body was
+-- answered after it had failed. No reply is lost that was due before a body that comes alone and was answered: all of
+-- them had left the writer first.
 pub record WriterFails (f : Frames) (alone : List ℕ → Bool) (last : List ℕ) (why : End) (stop : Halt)
     (bodies : List (List ℕ))
     (handed : List (List (List ℕ))) (held : List (List ℕ)) (old new : Output) : Type 0 where
@@ -244,11 +242,11 @@ pub record WriterFails (f : Frames) (alone : List ℕ → Bool) (last : List ℕ
   pub few : length torn.lost ≤ old.back + length (spelled_all f.spelled (given_last last stop handed held))
   pub apart : HasLeft f alone (length torn.gone) (length old.kept) bodies handed
 
--- A whole session: the bodies that were read and answered, their run with the replies that were handed out at each,
--- those that were still held at the end, and what has left the writer. `stop` is what ended the reading. Between: the
--- writer failed between two bodies, and nothing past the last body that was answered was taken. Undone: it failed in
--- what was held before a body that comes alone; that body was taken, and nothing past it. `over` is how often the
--- reader was called behind the last body that was answered.
+-- A whole session: the bodies that were read and answered, their run with the replies that were sent at each, those
+-- that were still held at the end, and what has left the writer. `stop` is what ended the reading. Between: the
+-- writer failed between two bodies, and nothing after the last answered body was consumed. Undone: it failed in
+-- replies that were held before a body that comes alone; that body was consumed, and nothing after it. `over` is how
+-- often the reader was called after the last answered body.
 pub record Session {S : Type 0} (f : Frames) (alone : List ℕ → Bool) (turn : TurnOf S) (ends : EndOf S) (last : List ℕ)
     (input input' : Input) (out out' : Output) (old new : S) (served : Served) : Type 0 where
   pub bodies : List (List ℕ)
@@ -269,13 +267,13 @@ pub record Session {S : Type 0} (f : Frames) (alone : List ℕ → Bool) (turn :
   pub written : AllHaveLeft f last served.why stop handed held out out'
       ⊎ WriterFails f alone last served.why stop bodies handed held out out'
 
--- these replies were written and all was handed on, or the writer failed
+-- these replies were written and flushed, or the writer failed
 abbrev pub HandsOn : (List ℕ → List ℕ) → End → End → List (List ℕ) → Output → Output → Type 0
 HandsOn spelled result why replies old new =
     ((result ≡ why) × Writes old new (spelled_all spelled replies) × IsHandedOn new)
     ⊎ ((result ≡ WriteFault) × Breaks old new (spelled_all spelled replies))
 
--- what was held and the last reply went so
+-- held replies and the last reply were written and flushed, or the writer failed
 pub record Closes {S : Type 0} (f : Frames) (ends : EndOf S) (last : List ℕ) (result why : End)
     (out out' : Output) (old new : S) : Type 0 where
   pub held : List (List ℕ)

@@ -1,8 +1,8 @@
 //! The buffer of bodies.
 ghost use Rattle.std.specs.Prelude.{◌≤◌, length, max, vec_capacity};
 
-/// Makes a buffer so long where it is shorter, for which it has room: so no more of it is ever touched than the longest body wants. What is
-/// behind its old end is 0. Takes no memory.
+/// Lengthens a buffer to `len` bytes with zeros, if it is shorter, within its capacity. So only as much memory is
+/// touched as the longest body needs. Allocates nothing.
 pub(crate) fn lengthen(buffer: &mut Vec<u8>, len: usize)
     requires { len ≤ vec_capacity buffer.old }
     ensures len { len ≤ length buffer.new.items }

@@ -1,4 +1,4 @@
-//! How bodies stand in bytes.
+//! How bodies are delimited in a stream of bytes.
 ghost use Rattle.std.specs.Prelude.{length, vec_capacity};
 ghost use Rattle.oa_stream.specs.Ahead.{ahead, passed};
 ghost use Rattle.oa_frame.specs.Beginnings.{AreUnbroken, HoldLongest, KeepPlaces};
@@ -10,32 +10,34 @@ use crate::hex_lines::read_hex;
 use crate::records::read_record;
 use oa_stream::{Ahead, Sink, Source};
 
-/// How bodies and replies are told apart on a stream (this project's choice).
+/// How bodies and replies are delimited on a stream (this project's choice).
 #[derive(Clone, Copy, Debug, PartialEq, Eq)]
 pub enum Framing {
-    /// A line of hexadecimal digits each.
+    /// Each is a line of hexadecimal digits.
     HexLines,
-    /// A length of 4 bytes and as many bytes each.
+    /// Each is a length of 4 bytes, followed by that many bytes.
     Records,
 }
 
-/// What stands next in the input.
+/// The next item of the input.
 #[derive(Clone, Copy, Debug, PartialEq, Eq)]
 pub enum Read {
-    /// A body of so many bytes, and whether it stands in what was read ahead: the last that was taken of it.
+    /// A body of this many bytes, and whether it is in the read-ahead buffer: then it is the last part that was
+    /// consumed of it.
     Body(usize, bool),
     /// What ends the session.
     Ends(End),
-    /// Nothing was taken, since the writer failed before a wait for more input.
+    /// Nothing was consumed, since the writer failed before a wait for more input.
     Unwritten,
 }
 
-/// Reads the body with this number, counted from 1, and takes nothing past it. It stands at the start of `body`, or at the end of what was
-/// passed over of that which was read ahead.
+/// Reads body number `number`, counted from 1, and consumes nothing after it. The body is at the start of `body`, or
+/// it is the last part that was consumed of the read-ahead buffer.
 ///
-/// Where all of it was read ahead, neither reader nor writer is called. Else what the writer keeps back is handed on before the first of
-/// its bytes is taken, and the reader is called at most `MAX_READ_CALLS` times. Takes no memory: `line` has room for the longest line, which the
-/// records' framing leaves alone, and `body` for the longest body. `body` gets no longer than a body that comes, where it was shorter.
+/// If all of it was read ahead, neither reader nor writer is called. Otherwise the writer is flushed before the first
+/// byte is consumed, and the reader is called at most `MAX_READ_CALLS` times. Allocates nothing: `line` has capacity
+/// for the longest line (records do not use it), and `body` for the longest body. `body` is lengthened at most to the
+/// length of a body that comes.
 #[inline(always)]
 pub fn read_body<R: Source + Drop, W: Sink>(
     framing: Framing,

@@ -20,7 +20,7 @@ use std::simd::prelude::*;
 /// How many bytes are decoded at a time.
 const BLOCK: usize = 16;
 
-/// Reads the body of the line with this number. A line that was read ahead whole is decoded from where it stands.
+/// Reads the body of the line with this number. A line that was read ahead whole is decoded in place.
 #[inline(always)]
 pub(crate) fn read_hex<R: Source + Drop, W: Sink>(
     reader: &mut Ahead<R>,
@@ -48,7 +48,8 @@ pub(crate) fn read_hex<R: Source + Drop, W: Sink>(
     read_on(reader, writer, line, body, number)
 }
 
-/// The same of a line whose end was not read ahead: first all that was put is handed on, so that whoever sends the line has all replies.
+/// Reads the body of a line whose end was not read ahead. First the writer is flushed, so that a client that sends
+/// the line has received all replies.
 #[inline(never)]
 fn read_on<R: Source + Drop, W: Sink>(
     reader: &mut Ahead<R>,
@@ -78,7 +79,7 @@ fn read_on<R: Source + Drop, W: Sink>(
     }
 }
 
-/// Without a carriage return at the end.
+/// Returns the line without a carriage return at its end.
 fn trimmed(raw: &[u8]) -> &[u8]
     ensures { result.now ≡ without_return raw.now }
 {
@@ -89,7 +90,7 @@ fn trimmed(raw: &[u8]) -> &[u8]
     raw
 }
 
-/// What a line says.
+/// Decodes a line.
 #[inline(never)]
 fn judge(line: &[u8], body: &mut Vec<u8>, number: u64) -> Read
     requires { max_request_bytes ≤ vec_capacity body.now }
@@ -110,7 +111,7 @@ fn judge(line: &[u8], body: &mut Vec<u8>, number: u64) -> Read
     }
 }
 
-/// Decodes digits into the front of a buffer, and answers how many bytes they are.
+/// Decodes digits into the front of a buffer. Returns how many bytes they are; None if the line is not hexadecimal.
 fn decode(line: &[u8], buffer: &mut [u8]) -> Option<usize>
     requires { length line.now ≤ 2 * length buffer.old }
     ensures len { length buffer.new ≡ length buffer.old }
@@ -130,7 +131,8 @@ fn decode(line: &[u8], buffer: &mut [u8]) -> Option<usize>
     }
 }
 
-/// Decodes so many pairs of digits. False where some pair is none, which does not end the loops: so many are decoded at a time.
+/// Decodes `count` pairs of digits. Returns false if some pair is invalid; the loops continue after that, since many
+/// pairs are decoded at a time.
 fn decode_all(line: &[u8], count: usize, buffer: &mut [u8]) -> bool
     requires digits { 2 * count ≤ length line.now }
     requires room { count ≤ length buffer.old }
@@ -141,7 +143,7 @@ fn decode_all(line: &[u8], count: usize, buffer: &mut [u8]) -> bool
     if count < BLOCK {
         return decode_few(line, count, buffer);
     }
-    // The first block may reach over the next one, so that the last one ends with the last pair.
+    // The first block may overlap the next one, so that the last block ends with the last pair.
     let mut good = decode_block(line, 0, buffer);
     let mut at = (count - 1) % BLOCK + 1;
     'rest: while at < count {
@@ -152,7 +154,7 @@ fn decode_all(line: &[u8], count: usize, buffer: &mut [u8]) -> bool
     good
 }
 
-/// The same of a few pairs, one at a time.
+/// Decodes a few pairs, one at a time.
 fn decode_few(line: &[u8], count: usize, buffer: &mut [u8]) -> bool
     requires digits { 2 * count ≤ length line.now }
     requires room { count ≤ length buffer.old }
@@ -169,7 +171,7 @@ fn decode_few(line: &[u8], count: usize, buffer: &mut [u8]) -> bool
     good
 }
 
-/// Decodes the 16 pairs from one on. False where some of them is none.
+/// Decodes the 16 pairs from pair `at` on. Returns false if some of them is invalid.
 #[inline(always)]
 fn decode_block(line: &[u8], at: usize, buffer: &mut [u8]) -> bool
     requires digits { 2 * (at + 16) ≤ length line.now }
@@ -186,7 +188,7 @@ fn decode_block(line: &[u8], at: usize, buffer: &mut [u8]) -> bool
     are_digits(&values)
 }
 
-/// The bytes of 32 values, each of two that stand side by side.
+/// Joins 32 values to 16 bytes, each of two adjacent values.
 fn joined(values: &[u8; 32]) -> [u8; 16]
     ensures { (k : ℕ) → k < 16 → slice_index result k ≡ (slice_index values.now (2 * k) * 16 + slice_index values.now (2 * k + 1)) % 256 }
 {
@@ -196,7 +198,7 @@ fn joined(values: &[u8; 32]) -> [u8; 16]
     (high * u8x16::splat(16) + low).to_array()
 }
 
-/// Whether all are values of digits.
+/// Returns whether all are values of digits.
 fn are_digits(values: &[u8; 32]) -> bool
     ensures some { result ≡ true → (k : ℕ) → k < 32 → IsDigitValue (slice_index values.now k) }
     ensures none { result ≡ false → HasNoDigit values.now 32 }
@@ -205,7 +207,7 @@ fn are_digits(values: &[u8; 32]) -> bool
     none.to_bitmask() == 0
 }
 
-/// The values of the digits of a block, which stand side by side: so many are read at a time.
+/// Returns the values of the 32 digits of a block.
 fn values_at(line: &[u8], from: usize) -> [u8; 32]
     requires { from + 32 ≤ length line.now }
     ensures { (k : ℕ) → k < 32 → HasDigitValue (slice_index line.now (from + k)) (slice_index result k) }
@@ -217,7 +219,7 @@ fn values_at(line: &[u8], from: usize) -> [u8; 32]
     values
 }
 
-/// The byte of two digits, where they are digits.
+/// Returns the byte of two digits, and whether they are digits.
 fn pair(high: u8, low: u8) -> (u8, bool)
     ensures some { result.1 ≡ true → (i : ℕ) → pair_value high low i ≡ Ok result.0 }
     ensures none { result.1 ≡ false → (i : ℕ) → IsErr (pair_value high low i) }
@@ -225,7 +227,7 @@ fn pair(high: u8, low: u8) -> (u8, bool)
     join(digit(high), digit(low))
 }
 
-/// The byte of two digits with these values, where they are digits.
+/// Returns the byte of two digits with these values, and whether they are digits.
 fn join(high: u8, low: u8) -> (u8, bool)
     ensures some { result.1 ≡ true → (c d : ℕ) → HasDigitValue c high → HasDigitValue d low → (i : ℕ) → pair_value c d i ≡ Ok result.0 }
     ensures none { result.1 ≡ false → (c d : ℕ) → HasDigitValue c high → HasDigitValue d low → (i : ℕ) → IsErr (pair_value c d i) }
@@ -236,7 +238,7 @@ fn join(high: u8, low: u8) -> (u8, bool)
     )
 }
 
-/// The value of a digit; 16 or more for what is none.
+/// Returns the value of a digit; 16 or more for any other character.
 fn digit(c: u8) -> u8
     ensures { HasDigitValue c result }
 {

@@ -1,4 +1,4 @@
-//! Laws of the definitions, each the contract of a function with no work to do.
+//! Theorems about the definitions, each the contract of a function with an empty body.
 ghost use Rattle.std.specs.Prelude.{◌≡◌, ℕ, Bool, List, length};
 ghost use Rattle.oa_frame.specs.declared.ends.End.{End as AnEnd};
 ghost use Rattle.oa_frame.specs.declared.ends.End.TheVariants.{ReadFault};
@@ -14,7 +14,7 @@ pub fn one_line()
         → FirstLine bytes line rest → FirstLine bytes line' rest' → (line ≡ line') × (rest ≡ rest') }
 {}
 
-/// Bytes hold one list of bodies and one end of it in a framing, where no fault of the reader ended the reading.
+/// In a framing, bytes contain one list of bodies and one end of it, unless a fault of the reader ended the reading.
 pub fn one_end()
     ensures { (framing : AFraming) (bytes rest rest' : List ℕ) (alone : List ℕ → Bool) (bodies others : List (List ℕ)) (why other : AnEnd)
         → ReadTo (frames framing) (At why) bodies bytes rest

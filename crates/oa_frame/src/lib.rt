@@ -1,9 +1,9 @@
 //! Bodies and replies as lines of digits or as records, and a session over them.
 //!
-//! Its contract: `serve` writes exactly the replies that its server hands out at the bodies that it read, or a
-//! first part of them where the writer fails (`Session`).
+//! Contract: `serve` writes exactly the replies of its server to the bodies that it read, or a prefix of them if the
+//! writer fails (`Session`).
 //!
-//! What stands on it: oa_server, whose sessions are such; the program, for the digits of a dump.
+//! Used by oa_server for its sessions, and by the program for the digits of a dump.
 #![tactic(auto)]
 
 mod buffer;
@@ -18,5 +18,5 @@ mod writing;
 
 pub use ends::End;
 pub use framing::{Framing, Read, read_body};
-pub use session::{Responder, Served, serve};
+pub use session::{Loss, Responder, Served, serve};
 pub use writing::{put_hex, put_reply, put_some};

@@ -1,4 +1,4 @@
-//! Lines of a reader.
+//! Reading lines.
 ghost use Rattle.std.specs.Prelude.{◌≡◌, ◌≤◌, ◌+◌, ◌++◌, false, length, vec_capacity};
 ghost use Rattle.oa_model.specs.Limits.{max_line_characters};
 ghost use Rattle.oa_stream.specs.Ahead.{ahead, read_ahead};
@@ -11,13 +11,13 @@ ghost use Rattle.oa_frame.specs.declared.lines.Found.TheVariants as Found;
 use memchr::memchr;
 use oa_stream::{Ahead, More, Sink, Source};
 
-/// The most characters of a line, its end not counted.
+/// The greatest number of characters of a line, without its end.
 pub(crate) const LINE_LIMIT: usize = oa_model::MAX_LINE_CHARACTERS as usize;
 
-/// The most read calls for one body.
+/// The greatest number of read calls for one body.
 pub(crate) const MAX_READ_CALLS: u32 = oa_model::MAX_READ_CALLS;
 
-/// What was found at the reader's place.
+/// The next part of a line, at the reader's place.
 #[derive(Clone, Copy)]
 pub(crate) enum Found {
     /// A line, with its line feed or at the end of the input.
@@ -26,11 +26,11 @@ pub(crate) enum Found {
     End,
     /// A line above the limit.
     TooLong,
-    /// Nothing whole: the reader failed, or was called too often.
+    /// No whole line: the reader failed, or was called too often.
     Fault,
 }
 
-/// What was taken of a line.
+/// How much of a line was consumed.
 #[derive(Clone, Copy)]
 pub(crate) enum Piece {
     /// All up to its line feed.
@@ -41,8 +41,9 @@ pub(crate) enum Piece {
     Part,
 }
 
-/// Reads one line into `line`, which has room for the longest, without its line feed and a carriage return before that, and takes nothing
-/// past the line feed. All that was put was handed on, so that whoever sends the line has all replies.
+/// Reads one line into `line`, which has capacity for the longest one, without its line feed and a carriage return
+/// before that. It consumes nothing after the line feed. The writer has been flushed, so a client that sends the line
+/// has received all replies.
 pub(crate) fn read_line<R: Source + Drop, W: Sink>(
     reader: &mut Ahead<R>,
     writer: &W,
@@ -77,7 +78,7 @@ pub(crate) fn read_line<R: Source + Drop, W: Sink>(
     Found::Fault
 }
 
-/// Takes of what was read ahead what belongs to the line.
+/// Consumes the part of the read-ahead buffer that belongs to the line.
 fn take_piece<R: Source + Drop>(reader: &mut Ahead<R>, line: &mut Vec<u8>) -> Piece
     requires room { max_line_characters + 1 ≤ vec_capacity line.now }
     requires short { length line.old.items ≤ max_line_characters + 1 }
@@ -110,7 +111,7 @@ fn take_piece<R: Source + Drop>(reader: &mut Ahead<R>, line: &mut Vec<u8>) -> Pi
     }
 }
 
-/// Adds characters, for which there is room.
+/// Appends characters, which must fit.
 fn push(line: &mut Vec<u8>, bytes: &[u8])
     requires { length line.old.items + length bytes.now ≤ vec_capacity line.old }
     ensures items { line.new.items ≡ line.old.items ++ bytes.now }

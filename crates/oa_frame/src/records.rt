@@ -15,7 +15,7 @@ use crate::lines::MAX_READ_CALLS;
 use crate::{End, Read};
 use oa_stream::{Ahead, More, Sink, Source};
 
-/// The most bytes of a body.
+/// The greatest number of bytes of a body.
 const BODY_LIMIT: usize = oa_model::MAX_REQUEST_BYTES as usize;
 
 /// How filling a buffer ended.
@@ -23,13 +23,13 @@ const BODY_LIMIT: usize = oa_model::MAX_REQUEST_BYTES as usize;
 pub(crate) enum Got {
     /// It is full.
     All,
-    /// The input ended after so many bytes.
+    /// The input ended after this many bytes.
     End(usize),
     /// The reader failed, or was called too often.
     Fault,
 }
 
-/// Reads the body of one record. One that was read ahead whole stays where it stands.
+/// Reads the body of one record. One that was read ahead whole is not copied.
 #[inline(always)]
 pub(crate) fn read_record<R: Source + Drop, W: Sink>(
     reader: &mut Ahead<R>,
@@ -56,7 +56,7 @@ pub(crate) fn read_record<R: Source + Drop, W: Sink>(
     }
 }
 
-/// How many bytes the body of the first record has, where all of it stands here and it is no end.
+/// Returns the length of the first record's body, if all of it is here and it is not an end.
 fn whole_record(front: &[u8]) -> Option<usize>
     ensures within { IfSome result (λ n. (0 < n) × (n ≤ max_request_bytes) × (4 + n ≤ length front.now)) }
     ensures says { IfSome result (λ n. SaysLength (take 4 front.now) n) }
@@ -70,7 +70,7 @@ fn whole_record(front: &[u8]) -> Option<usize>
     }
 }
 
-/// Reads one record. All that was put was handed on, so that whoever sends the record has all replies.
+/// Reads one record. The writer has been flushed, so a client that sends the record has received all replies.
 #[inline(never)]
 fn read_waiting<R: Source + Drop, W: Sink>(
     reader: &mut Ahead<R>,
@@ -101,7 +101,7 @@ fn read_waiting<R: Source + Drop, W: Sink>(
     }
 }
 
-/// Reads so many bytes of a body behind their length; `calls` were made for that.
+/// Reads the body of this length after its length was read; `calls` counts the read calls for it.
 fn read_content<R: Source + Drop, W: Sink>(
     reader: &mut Ahead<R>,
     writer: &W,
@@ -131,7 +131,7 @@ fn read_content<R: Source + Drop, W: Sink>(
     read_bytes(reader, writer, body, n, calls)
 }
 
-/// The same where there are some, and the buffer is so long.
+/// Reads a body of at least one byte into a buffer that is long enough.
 fn read_bytes<R: Source + Drop, W: Sink>(
     reader: &mut Ahead<R>,
     writer: &W,
@@ -160,7 +160,7 @@ fn read_bytes<R: Source + Drop, W: Sink>(
     }
 }
 
-/// Reads until a buffer is full; `calls` counts those made for the record, `MAX_READ_CALLS` at most.
+/// Reads until a buffer is full; `calls` counts the read calls for the record, at most `MAX_READ_CALLS`.
 fn fill_up<R: Source + Drop, W: Sink>(
     reader: &mut Ahead<R>,
     writer: &W,
@@ -185,7 +185,7 @@ fn fill_up<R: Source + Drop, W: Sink>(
     if at < out.len() { Got::Fault } else { Got::All }
 }
 
-/// Takes what was read ahead of the rest of a buffer, and answers how much of it is filled.
+/// Fills a buffer from place `at` on with bytes that were read ahead, and returns up to which place it is filled.
 fn fetch<R: Source + Drop>(reader: &mut Ahead<R>, out: &mut [u8], at: usize) -> usize
     requires { at ≤ length out.old }
     ensures len { length out.new ≡ length out.old }
@@ -199,7 +199,7 @@ fn fetch<R: Source + Drop>(reader: &mut Ahead<R>, out: &mut [u8], at: usize) -> 
     at + n
 }
 
-/// Takes so many bytes; where they stand then is not told.
+/// Consumes this many bytes.
 fn skip<R: Source + Drop>(reader: &mut Ahead<R>, count: usize)
     requires { count ≤ length (read_ahead reader.old) }
     ensures held { read_ahead reader.new ≡ drop count (read_ahead reader.old) }

@@ -13,27 +13,28 @@ use crate::{End, Framing, Read, read_body};
 use oa_model::MAX_RECORDS;
 use oa_stream::{Ahead, Sink, Source, Unwritten};
 
-/// What answers bodies. It may hold replies back, and hand out those to many bodies at one.
+/// A server of one client. It may hold replies back, and send those to many bodies at once.
 ///
 /// Contracts see a reply as its bytes without a length.
 pub trait Responder {
-    /// What holds between two bodies.
+    /// The invariant between two bodies.
     ghost ready: { Self → Type 0 };
 
-    /// At a body: the state before, the body, the replies that are handed out then, the state after.
+    /// A turn: the state before, the body, the replies that are sent then, the state after.
     ghost turn: { Self → List ℕ → List (List ℕ) → Self → Type 0 };
 
-    /// Where no further body comes, and before a body that comes alone: the state before, the replies that were still held, the state after.
+    /// A flush, at the end of the input and before a barrier: the state before, the replies that were still held, the
+    /// state after.
     ghost ends: { Self → List (List ℕ) → Self → Type 0 };
 
-    /// The bodies that come alone: what is held is written and handed on before such a one is answered.
+    /// The bodies that come alone (barriers): held replies are written and flushed before such a body is answered.
     ghost alone: { List ℕ → Bool };
 
-    /// Whether a body comes alone.
+    /// Returns whether a body comes alone.
     fn comes_alone(&self, body: &[u8]) -> bool
         ensures { result ≡ alone body.now };
 
-    /// Answers one body that does not come alone, and writes the replies that are handed out at it in this framing.
+    /// Answers one body that does not come alone, and writes the replies that are sent then in this framing.
     fn respond<W: Sink>(
         &mut self,
         framing: Framing,
@@ -46,7 +47,8 @@ pub trait Responder {
         ensures answers { AnswersBody (frames framing) turn result body.now (W.out writer.old) (W.out writer.new) self.old self.new }
         ensures ready { ready self.new };
 
-    /// Answers one body that comes alone, and writes its own reply, if any. Before it no reply is held, and the writer has handed all on.
+    /// Answers one body that comes alone, and writes its own reply, if any. No reply is held, and the writer has been
+    /// flushed.
     fn respond_alone<W: Sink>(
         &mut self,
         framing: Framing,
@@ -61,43 +63,43 @@ pub trait Responder {
         ensures answers { AnswersOwn (frames framing) turn result body.now (W.out writer.old) (W.out writer.new) self.old self.new }
         ensures ready { ready self.new };
 
-    /// No further body comes, or one that comes alone: writes the replies that are still held.
+    /// Writes the replies that are still held: the input has ended, or a body comes alone.
     fn finish<W: Sink>(&mut self, framing: Framing, writer: &mut W) -> Result<(), Unwritten>
         requires ready { ready self.old }
         requires unbroken { (W.out writer.old).broken ≡ false }
         ensures finishes { Finishes (frames framing) ends result (W.out writer.old) (W.out writer.new) self.old self.new }
         ensures ready { ready self.new };
 
-    /// No further body comes, and the writer has failed: nobody gets the replies that are still held.
+    /// Ends the session after the writer has failed: the replies that are still held are lost.
     fn abandon(&mut self)
         requires ready { ready self.old }
         ensures { Abandons ends self.old self.new };
 }
 
-/// Where the writer failed.
-#[derive(Clone, Copy)]
-pub(crate) enum Loss {
-    /// In the answer.
+/// Where the writer failed, of one client or of many.
+#[derive(Clone, Copy, Debug, PartialEq, Eq)]
+pub enum Loss {
+    /// While the reply was written.
     Answered,
-    /// Before it: nothing was answered.
+    /// Before it: the request was not executed.
     Undone,
 }
 
 /// How a session went.
 #[derive(Clone, Copy, Debug, PartialEq, Eq)]
 pub struct Served {
-    /// How many bodies were read whole and answered.
+    /// How many bodies were read and answered.
     pub requests: u64,
     /// Why it ended.
     pub why: End,
 }
 
-/// Answers the bodies of a reader on a writer, one after another. All replies that the server hands out are handed on before each wait for
-/// more input and at the end; those that it holds it is asked for when the reading has ended, and before a body that comes alone. Where they
-/// cannot be written then, or not be handed on, that body is left undone; it is not counted.
+/// Serves one client: reads bodies until the input ends, answers each on a writer, and flushes the writer before
+/// every wait for input and at the end. Held replies are written at the end, and before a body that comes alone. If
+/// they cannot be written or flushed then, that body is not executed and not counted.
 ///
-/// `last` is the reply to a record that is cut or too long, without a length. `line` has room for the longest line, and `body`
-/// for the longest body: no memory is taken here.
+/// `last` is the reply, without a length, to a record that is cut or too long. `line` has capacity for the longest
+/// line, and `body` for the longest body, so nothing is allocated here.
 pub fn serve<S: Responder, R: Source + Drop, W: Sink>(
     server: &mut S,
     framing: Framing,
@@ -152,7 +154,7 @@ pub fn serve<S: Responder, R: Source + Drop, W: Sink>(
     Served { requests, why }
 }
 
-/// So many bytes: the last that were taken of what was read ahead, or the first of a buffer.
+/// Returns a body of this many bytes: the last that were consumed of the read-ahead buffer, or the first of `body`.
 #[inline(always)]
 fn body_in<'a, R: Source + Drop>(
     reader: &'a Ahead<R>,
@@ -170,7 +172,7 @@ fn body_in<'a, R: Source + Drop>(
     }
 }
 
-/// Answers a body, where it comes alone once what is held has left.
+/// Answers a body; if it comes alone, after held replies have left.
 fn answer<S: Responder, W: Sink>(
     server: &mut S,
     framing: Framing,
@@ -195,7 +197,7 @@ fn answer<S: Responder, W: Sink>(
         .map_err(|_| Loss::Answered)
 }
 
-/// Writes what is held, and hands all on.
+/// Writes held replies, and flushes.
 fn part<S: Responder, W: Sink>(
     server: &mut S,
     framing: Framing,
@@ -210,7 +212,7 @@ fn part<S: Responder, W: Sink>(
     writer.deliver()
 }
 
-/// Writes the reply to what is no body.
+/// Writes the reply to a record that is no request.
 fn put_last<W: Sink>(
     framing: Framing,
     last: &[u8; 16],
@@ -226,7 +228,7 @@ fn put_last<W: Sink>(
     Ok(())
 }
 
-/// Whether what is no body is answered.
+/// Returns whether an end of the session has a reply.
 fn has_reply(why: End) -> bool
     ensures { result ≡ is_answered why }
 {
@@ -236,7 +238,7 @@ fn has_reply(why: End) -> bool
     }
 }
 
-/// Writes the reply to what is no body, hands all on, and says why the session ended.
+/// Writes the reply to a record that is no request, flushes, and returns why the session ended.
 fn hand_on<W: Sink>(framing: Framing, last: &[u8; 16], writer: &mut W, why: End) -> End
     requires unbroken { (W.out writer.old).broken ≡ false }
     ensures { HandsOn (frames framing).spelled result why (last_reply last.now why) (W.out writer.old) (W.out writer.new) }
@@ -250,7 +252,7 @@ fn hand_on<W: Sink>(framing: Framing, last: &[u8; 16], writer: &mut W, why: End)
     }
 }
 
-/// Writes all that is left to write, hands it on, and says why the session ended.
+/// Writes everything that is left to write, flushes, and returns why the session ended.
 fn close<S: Responder, W: Sink>(
     server: &mut S,
     framing: Framing,

@@ -1,4 +1,4 @@
-//! Replies on a writer.
+//! Writing replies.
 ghost use Rattle.std.specs.Prelude.{◌≡◌, ◌<◌, ◌≤◌, ◌+◌, ◌*◌, ◌++◌, ◌∷◌, [], false, length, slice_index, take};
 ghost use Rattle.std.specs.Int.{to_le_bytes, w32};
 ghost use Rattle.hex.specs.Hex.{encode_lower, lower_digits};
@@ -8,13 +8,13 @@ ghost use Rattle.oa_frame.specs.Framings.{frames};
 use crate::Framing;
 use oa_stream::{Sink, Unwritten};
 
-/// How many bytes are turned into digits at a time, so that writing takes no memory.
+/// How many bytes are converted to digits at a time, so that writing allocates nothing.
 const PIECE: usize = 128;
 
-/// The most bytes whose digits are put at once with the end of their line.
+/// The greatest number of bytes whose digits are put together with the end of their line.
 const SHORT: usize = 63;
 
-/// Writes a reply that stands in two stretches: as a line of lower-case digits, or with its length before it.
+/// Writes a reply, given in two parts: as a line of lower-case digits, or with its length before it.
 #[inline(always)]
 pub fn put_reply<W: Sink>(
     framing: Framing,
@@ -32,7 +32,7 @@ pub fn put_reply<W: Sink>(
     }
 }
 
-/// Writes two stretches as one line of digits.
+/// Writes a reply in two parts as one line of digits.
 #[inline(never)]
 fn put_line<W: Sink>(writer: &mut W, head: &[u8; 16], fields: &[u8]) -> Result<(), Unwritten>
     requires unbroken { (W.out writer.old).broken ≡ false }
@@ -64,7 +64,7 @@ fn put_rest<W: Sink>(writer: &mut W, fields: &[u8]) -> Result<(), Unwritten>
     writer.put(b"\n")
 }
 
-/// The same of at most 63 bytes, at once.
+/// Writes the digits of at most 63 bytes, and a line feed, in one call.
 fn put_short<W: Sink>(writer: &mut W, fields: &[u8]) -> Result<(), Unwritten>
     requires short { length fields.now ≤ 63 }
     requires unbroken { (W.out writer.old).broken ≡ false }
@@ -75,7 +75,7 @@ fn put_short<W: Sink>(writer: &mut W, fields: &[u8]) -> Result<(), Unwritten>
     writer.put(&line[..end])
 }
 
-/// The digits of bytes and a line feed, at the start of a buffer; answers how many characters they are.
+/// Puts the digits of bytes and a line feed at the start of a buffer. Returns how many characters they are.
 fn spell(fields: &[u8], line: &mut [u8; 128]) -> usize
     requires { length fields.now ≤ 63 }
     ensures within { result ≤ 128 }
@@ -87,7 +87,7 @@ fn spell(fields: &[u8], line: &mut [u8; 128]) -> usize
     end + 1
 }
 
-/// Writes the length of two stretches, and them.
+/// Writes the length of a reply in two parts, and both parts.
 #[inline(always)]
 fn put_record<W: Sink>(writer: &mut W, head: &[u8; 16], fields: &[u8]) -> Result<(), Unwritten>
     requires short { length head.now + length fields.now ≤ 4294967295 }
@@ -99,7 +99,7 @@ fn put_record<W: Sink>(writer: &mut W, head: &[u8; 16], fields: &[u8]) -> Result
     put_some(writer, fields)
 }
 
-/// Writes bytes, and calls nothing where there are none.
+/// Writes bytes; without bytes it makes no call.
 #[inline(always)]
 pub fn put_some<W: Sink>(writer: &mut W, bytes: &[u8]) -> Result<(), Unwritten>
     requires unbroken { (W.out writer.old).broken ≡ false }
@@ -111,7 +111,7 @@ pub fn put_some<W: Sink>(writer: &mut W, bytes: &[u8]) -> Result<(), Unwritten>
     writer.put(bytes)
 }
 
-/// Writes the length of two stretches, and the first of them.
+/// Writes the length of a reply in two parts, and the first part.
 #[inline(always)]
 fn put_front<W: Sink>(writer: &mut W, head: &[u8; 16], fields: &[u8]) -> Result<(), Unwritten>
     requires short { length head.now + length fields.now ≤ 4294967295 }
@@ -123,7 +123,7 @@ fn put_front<W: Sink>(writer: &mut W, head: &[u8; 16], fields: &[u8]) -> Result<
     writer.put(&bytes[..20])
 }
 
-/// The same, in a buffer.
+/// Puts the length of a reply in two parts, and the first part, into a buffer.
 #[inline(always)]
 fn lay_out(head: &[u8; 16], fields: &[u8], bytes: &mut [u8; 20])
     requires { length head.now + length fields.now ≤ 4294967295 }
@@ -133,7 +133,7 @@ fn lay_out(head: &[u8; 16], fields: &[u8], bytes: &mut [u8; 20])
     bytes[4..20].copy_from_slice(head);
 }
 
-/// How many bytes two stretches have.
+/// Returns the length of two parts as 4 bytes.
 fn length_bytes(head: &[u8; 16], fields: &[u8]) -> [u8; 4]
     requires { length head.now + length fields.now ≤ 4294967295 }
     ensures { result ≡ to_le_bytes w32 (length (head.now ++ fields.now)) }
@@ -141,7 +141,7 @@ fn length_bytes(head: &[u8; 16], fields: &[u8]) -> [u8; 4]
     ((head.len() + fields.len()) as u32).to_le_bytes()
 }
 
-/// Writes bytes as lower-case hexadecimal digits, at most 128 of them at a time. Takes no memory.
+/// Writes bytes as lower-case hexadecimal digits, at most 128 bytes at a time. Allocates nothing.
 pub fn put_hex<W: Sink>(writer: &mut W, bytes: &[u8]) -> Result<(), Unwritten>
     requires unbroken { (W.out writer.old).broken ≡ false }
     ensures { Puts result (W.out writer.old) (W.out writer.new) (encode_lower bytes.now) }
@@ -166,7 +166,7 @@ fn put_piece<W: Sink>(writer: &mut W, piece: &[u8]) -> Result<(), Unwritten>
     writer.put(&digits[..2 * piece.len()])
 }
 
-/// The digits of bytes, at the start of a buffer.
+/// Puts the digits of bytes at the start of a buffer.
 fn encode(piece: &[u8], digits: &mut [u8])
     requires { 2 * length piece.now ≤ length digits.old }
     ensures len { length digits.new ≡ length digits.old }
@@ -180,7 +180,7 @@ fn encode(piece: &[u8], digits: &mut [u8])
     }
 }
 
-/// The digit of a value. Two sums and no table: so many are made at a time.
+/// Returns the digit of a value, by two sums instead of a table, so that the compiler can convert many at a time.
 fn digit(value: u8) -> u8
     requires { value < 16 }
     ensures { result ≡ slice_index lower_digits value }

@@ -1,4 +1,4 @@
--- What stands while requests are taken. (This project's choice.)
+-- Invariants while requests are admitted. (This project's choice.)
 use Rattle.std.specs.Prelude.{◌≡◌, ◌⊎◌, ℕ, Bool, true, false, List, [], ◌∷◌, ◌++◌, length, map}
 use Rattle.oa_disk.specs.declared.disk.Disk.{Ghosts}
 use Rattle.oa_groups.specs.Counts.{CallsForRequests}
@@ -9,7 +9,7 @@ use Rattle.oa_groups.specs.Runs.{AllHoldState, CallsFor, HasMoments, InTurn, Tur
 use Rattle.oa_store.specs.Writing.{Goes}
 use Rattle.oa_groups.specs.Turns.{Exchange, Turns, body_of, reply_of}
 
--- Which groups are whole is known, whatever comes later.
+-- Which groups are whole is known, whatever follows.
 abbrev pub IsCut : {R : Type 0} → (List ℕ → Bool) → ℕ → List (List (Exchange R)) → List (Exchange R) → Type 0
 IsCut {R} alone size groups held =
     (later : List (Exchange R))
@@ -19,7 +19,8 @@ IsCut {R} alone size groups held =
 abbrev pub IsNextGroup : {R : Type 0} → (List ℕ → Bool) → ℕ → List (List (Exchange R)) → List (Exchange R) → Type 0
 IsNextGroup alone size groups held = groups_of alone size (joined groups ++ held) ≡ groups ++ held ∷ []
 
--- Some whole groups were answered, and the requests of the open group are held. C says how the requests are cut.
+-- Some whole groups were answered, and the requests of the open group are held. C states how the requests are divided
+-- into groups.
 pub record Going {S R D : Type 0} {g : Ghosts D} (t : Turns S R)
     (C : List (List (Exchange R)) → List (Exchange R) → Type 0)
     (start now : Grouping S R D g) (bodies : List (List ℕ)) (out : List R) : Type 0 where
@@ -33,18 +34,18 @@ pub record Going {S R D : Type 0} {g : Ghosts D} (t : Turns S R)
   pub events_are : now.events ≡ events_in held
   pub stands : TurnsOver t start.state (joined groups) committed
   pub runs : TurnsOver t committed held now.state
-  -- none of the open group's has replaced the library
+  -- no request of the open group has replaced the library
   pub same : t.text now.state ≡ t.text committed
   pub same_bank : t.bank now.state ≡ t.bank committed
-  -- the disk behind the groups
+  -- the disk after the groups
   pub mark : D
   pub in_turn : InTurn t start.store.disk start.state groups mark committed
   pub calls : (now.store.disk ≡ mark) ⊎ CallsFor t committed held
   pub all : AllHoldState t start.store start.state → AllHoldState t now.store committed
   pub moments : HasMoments t start.store now.store start.state groups (length groups)
 
--- A call of the device failed, in the group behind those that were answered. C says why it ends where it does, and what
--- came behind it.
+-- A call of the device failed, in the group after those that were answered. C states why that group ends, and what
+-- followed it.
 pub record Faulted {S R D : Type 0} {g : Ghosts D} (t : Turns S R) (size : ℕ)
     (C : S → List (Exchange R) → List (List ℕ) → Type 0)
     (start now : Grouping S R D g) (bodies : List (List ℕ)) (replies : List R) : Type 0 where
@@ -63,7 +64,7 @@ pub record Faulted {S R D : Type 0} {g : Ghosts D} (t : Turns S R) (size : ℕ)
   pub in_turn : InTurn t start.store.disk start.state (groups ++ group ∷ []) now.store.disk now.state
   pub moments : HasMoments t start.store now.store start.state (groups ++ group ∷ []) (length groups)
 
--- These bodies were taken since the start, and these replies handed out.
+-- These bodies were admitted since the start, and these replies returned.
 pub record Underway {S R D : Type 0} {g : Ghosts D} (t : Turns S R) (size : ℕ) (start now : Grouping S R D g)
     (bodies : List (List ℕ))
     (out : List R) : Type 0 where

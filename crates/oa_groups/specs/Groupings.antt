@@ -1,4 +1,4 @@
--- A server at work: its store and its state, and the open group. (This project's choice.)
+-- A server with its store, its state and the open group. (This project's choice.)
 use Rattle.std.specs.Prelude.{◌≡◌, ◌≢◌, ◌⊎◌, ◌+◌, ◌-◌, ◌<◌, ◌≤◌, ℕ, IsTrue, true, false, List, [], ◌∷◌, ◌++◌, length}
 use Rattle.std.specs.Prelude.{map}
 use Rattle.oa_disk.specs.Disk.{LeavesOnly}
@@ -11,55 +11,55 @@ use Rattle.oa_groups.specs.Runs.{AllHoldState, HoldsState, MakesEvent}
 use Rattle.oa_store.specs.Writing.{CallsForOneCheckpoint, Goes}
 use Rattle.oa_groups.specs.Turns.{Exchange, Turns, exchange}
 
--- pending: the replies that are held back; events: the bytes of the events that are not committed yet
+-- pending: the replies that are held back; events: the bytes of the events that are not committed
 pub record Grouping (S R D : Type 0) (g : Ghosts D) : Type 0 where
   pub store : Store D g
   pub state : S
   pub pending : List R
   pub events : List ℕ
 
--- A checkpoint is due before an event of this request: the event is the first of its group, and the store has no ample
--- room for one.
+-- A checkpoint is due before an event of this request: the event is the first of its group, and too little of the
+-- store's bank is free.
 pub record IsDue {S R D : Type 0} {g : Ghosts D} (t : Turns S R) (store : Store D g) (state : S)
     (events body : List ℕ) : Type 0 where
   pub first : length events ≡ 0
   pub short : body_bytes store.bank.shape - store.bank.gate < ample_bytes
   pub makes : MakesEvent t state body
 
--- A stop at any moment of a call leaves an image of which this holds.
+-- A crash at any point in time of a call leaves an image with this property.
 abbrev pub LeavesState : {D : Type 0} {g : Ghosts D} → Store D g → Store D g → (List ℕ → Type 0) → Type 0
 LeavesState {D} {g} old new P = LeavesOnly g.moment g.image_since old.disk new.disk P
 
--- One request is answered by a turn, and its reply and its event are held. The images go on to hold what they held,
--- which is what is held of the state while the open group has no event.
+-- One request is answered by a turn, and its reply and its event are held. The images contain what they contained
+-- before, which is the state as long as the open group has no event.
 pub record IsHeld {S R D : Type 0} {g : Ghosts D} (t : Turns S R) (asked : Exchange R)
     (old new : Grouping S R D g) : Type 0 where
   pub turn : t.Turn asked old.state new.state
-  -- it is none that is a group of its own
+  -- the request is not a group of its own
   pub plain : t.alone asked.body ≡ false
   pub pending : new.pending ≡ old.pending ++ asked.reply ∷ []
   pub events : new.events ≡ old.events ++ asked.event
   pub going : new.store.stopped ≡ false
-  -- the device is called for a checkpoint alone
+  -- the device is called only for a checkpoint
   pub calls : (new.store.disk ≡ old.store.disk) ⊎ IsDue t old.store old.state old.events asked.body
   pub carries : Carries old.events (t.held old.state) old.store new.store
   pub goes : Goes old.store new.store
 
--- The open group ends, and its replies are told: as they are, or, where it could not be committed, taken back.
+-- The open group ends, and its replies are returned: unchanged, or as faults if the group could not be committed.
 pub record IsSettled {S R D : Type 0} {g : Ghosts D} (t : Turns S R) (told : List R)
     (old new : Grouping S R D g) : Type 0 where
   pub state : new.state ≡ old.state
   pub well : new.store.stopped ≡ false → (told ≡ old.pending) × (new.pending ≡ []) × (new.events ≡ [])
   pub broken : new.store.stopped ≡ true → told ≡ map t.withdrawn old.pending
   pub quiet : length old.events ≡ 0 → (new.store.disk ≡ old.store.disk) × (new.store.stopped ≡ false)
-  -- with four calls of the device at most, and no checkpoint
+  -- by at most four calls of the device, and no checkpoint
   pub calls : IsTrue (g.is_honest old.store.disk) → g.moment new.store.disk ≤ g.moment old.store.disk + 8
   pub chosen : new.store.chosen ≡ old.store.chosen
   pub commits : Commits old.events old.store new.store
   pub goes : Goes old.store new.store
 
--- The checkpoint before a request's event was due, and failed: the group ends with this request, and is taken back. A
--- turn without an event that changes nothing that images hold stands for the request.
+-- The checkpoint before a request's event was due, and failed: the group ends with this request, and its replies
+-- become faults. A turn without an event, which changes nothing in the images, replaces the request.
 pub record FailsAtCheckpoint {S R D : Type 0} {g : Ghosts D} (t : Turns S R) (body : List ℕ) (told : List R)
     (old new : Grouping S R D g) : Type 0 where
   pub reply : R
@@ -75,7 +75,7 @@ pub record FailsAtCheckpoint {S R D : Type 0} {g : Ghosts D} (t : Turns S R) (bo
   pub once : CallsForOneCheckpoint old.store new.store
   pub goes : Goes old.store new.store
 
--- After a fault nothing is done.
+-- After a fault of the device nothing is done.
 pub record IsAfterFault {S R D : Type 0} {g : Ghosts D} (old new : Grouping S R D g) : Type 0 where
   pub was : old.store.stopped ≡ true
   pub is : new.store.stopped ≡ true
@@ -83,9 +83,9 @@ pub record IsAfterFault {S R D : Type 0} {g : Ghosts D} (old new : Grouping S R 
   pub state : new.state ≡ old.state
   pub goes : Goes old.store new.store
 
--- A request that is a group of its own is answered, where no group is open. It makes no event. Where it is done, the
--- store goes on with the library of the new state; where it is not, the device is not called. A stop at any moment of
--- it leaves the state before or the one after.
+-- A request that is a group of its own is answered while no group is open. It makes no event. If it is done, the
+-- store continues with the library of the new state; if not, the device is not called. A crash at any point in time
+-- leaves the state before or after it.
 pub record IsAnsweredAlone {S R D : Type 0} {g : Ghosts D} (t : Turns S R) (asked : Exchange R) (told : List R)
     (old new : Grouping S R D g) : Type 0 where
   pub turn : t.Turn asked old.state new.state
@@ -95,7 +95,7 @@ pub record IsAnsweredAlone {S R D : Type 0} {g : Ghosts D} (t : Turns S R) (aske
   pub idle_still : (new.pending ≡ []) × (new.events ≡ [])
   pub well : new.store.stopped ≡ false → told ≡ asked.reply ∷ []
   pub broken : new.store.stopped ≡ true → told ≡ t.faulted asked.body ∷ []
-  -- where a call of the device fails in it, the turn is one of those that are done
+  -- if a call of the device fails, the turn is one of a request that is done
   pub doubt : new.store.stopped ≡ true → t.is_done asked.reply ≡ true
   pub quiet : t.is_done asked.reply ≡ false → new.store.disk ≡ old.store.disk
   pub once : CallsForOneCheckpoint old.store new.store
@@ -104,7 +104,7 @@ pub record IsAnsweredAlone {S R D : Type 0} {g : Ghosts D} (t : Turns S R) (aske
   pub each : new.store.stopped ≡ false → AllHoldState t old.store old.state → AllHoldState t new.store new.state
   pub goes : Goes old.store new.store
 
--- the request is held, and the group goes on
+-- the request is held, and the group stays open
 pub record IsKeptBack {S R D : Type 0} {g : Ghosts D} (t : Turns S R) (size : ℕ) (body : List ℕ) (told : List R)
     (old new : Grouping S R D g) : Type 0 where
   pub was : old.store.stopped ≡ false
@@ -114,7 +114,7 @@ pub record IsKeptBack {S R D : Type 0} {g : Ghosts D} (t : Turns S R) (size : �
   pub short : fills size (length new.pending) (length new.events) ≡ false
   pub nothing : told ≡ []
 
--- it is held, and that fills the group, which ends
+-- the request is held, and that fills the group, which ends
 pub record IsFilled {S R D : Type 0} {g : Ghosts D} (t : Turns S R) (size : ℕ) (body : List ℕ) (told : List R)
     (old new : Grouping S R D g) : Type 0 where
   pub was : old.store.stopped ≡ false
@@ -131,7 +131,7 @@ pub record IsFaulted {S R D : Type 0} {g : Ghosts D} (t : Turns S R) (body : Lis
   pub was : old.store.stopped ≡ false
   pub failed : FailsAtCheckpoint t body told old new
 
--- the device has failed before
+-- the device failed before
 pub record IsTooLate {S R D : Type 0} {g : Ghosts D} (t : Turns S R) (body : List ℕ) (told : List R)
     (old new : Grouping S R D g) : Type 0 where
   pub over : IsAfterFault old new
@@ -151,7 +151,7 @@ pub record IsLast {S R D : Type 0} {g : Ghosts D} (t : Turns S R) (told : List R
   pub some : old.pending ≢ []
   pub settled : IsSettled t told old new
 
--- the device has failed before
+-- the device failed before
 pub record IsLeft {S R D : Type 0} {g : Ghosts D} (told : List R) (old new : Grouping S R D g) : Type 0 where
   pub over : IsAfterFault old new
   pub nothing : told ≡ []
@@ -175,7 +175,7 @@ pub record IsApart {S R D : Type 0} {g : Ghosts D} (t : Turns S R) (body : List 
   pub going : mid.store.stopped ≡ false → (reply : R) × IsAnsweredAlone t (exchange body reply []) after mid new
   pub late : mid.store.stopped ≡ true → (after ≡ t.failed body ∷ []) × IsAfterFault mid new
 
--- One request is taken, and these replies are handed out.
+-- One request is admitted, and these replies are returned.
 abbrev pub IsTaken : {S R D : Type 0} {g : Ghosts D} → Turns S R → ℕ → List ℕ → List R → Grouping S R D g
     → Grouping S R D g → Type 0
 IsTaken t size body told old new =
@@ -183,6 +183,6 @@ IsTaken t size body told old new =
     ⊎ (IsFilled t size body told old new
     ⊎ (IsFaulted t body told old new ⊎ (IsTooLate t body told old new ⊎ IsApart t body told old new)))
 
--- The input has ended, and these replies are handed out.
+-- The input has ended, and these replies are returned.
 abbrev pub IsEnded : {S R D : Type 0} {g : Ghosts D} → Turns S R → List R → Grouping S R D g → Grouping S R D g → Type 0
 IsEnded t told old new = IsIdle told old new ⊎ (IsLast t told old new ⊎ IsLeft told old new)

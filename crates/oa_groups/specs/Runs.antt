@@ -1,4 +1,4 @@
--- Runs of a server, and what the images of its disk hold at each moment of one. (This project's choice.)
+-- Runs of a server, and what the images of its disk contain at each point in time. (This project's choice.)
 use Rattle.std.specs.Prelude.{◌≡◌, ◌⊎◌, ℕ, true, ◌+◌, ◌<◌, ◌≤◌, List, [], ◌∷◌, ◌++◌, length, Some, slice_get}
 use Rattle.oa_disk.specs.declared.disk.Disk.{Ghosts}
 use Rattle.oa_keeper.specs.Kept.{AllHold}
@@ -8,12 +8,12 @@ use Rattle.oa_store.specs.declared.store.Store.{Store}
 use Rattle.oa_groups.specs.Groups.{joined}
 use Rattle.oa_groups.specs.Turns.{Exchange, Turns, exchange}
 
--- the turns of a state, one after another
+-- turns one after another, from this state on
 abbrev pub TurnsOver : {S R : Type 0} → Turns S R → S → List (Exchange R) → S → Type 0
 TurnsOver t old [] new = old ≡ new
 TurnsOver {S} t old (asked ∷ entries) new = (mid : S) × t.Turn asked old mid × TurnsOver t mid entries new
 
--- From this state some turn of the body makes an event.
+-- In this state some turn of the body makes an event.
 pub record MakesEvent {S R : Type 0} (t : Turns S R) (state : S) (body : List ℕ) : Type 0 where
   pub reply : R
   pub event : List ℕ
@@ -21,8 +21,8 @@ pub record MakesEvent {S R : Type 0} (t : Turns S R) (state : S) (body : List �
   pub turn : t.Turn (exchange body reply event) state after
   pub some : 0 < length event
 
--- One of these requests calls for the device, from the state before it in a run from this one: it makes an event,
--- whether memory is found for it or not, or it replaces the library.
+-- One of these requests needs the device, in the state before it in a run from this one: it makes an event, also if
+-- an allocation for it fails, or it replaces the library.
 pub record CallsFor {S R : Type 0} (t : Turns S R) (first : S) (entries : List (Exchange R)) : Type 0 where
   pub front : List (Exchange R)
   pub asked : Exchange R
@@ -32,25 +32,26 @@ pub record CallsFor {S R : Type 0} (t : Turns S R) (first : S) (entries : List (
   pub run : TurnsOver t first front state
   pub calls : MakesEvent t state asked.body ⊎ ((t.alone asked.body ≡ true) × (t.is_done asked.reply ≡ true))
 
--- Each group is answered on the disk, and from the state, with which the one before has ended. The device is called
--- only in a group of which a request calls for it.
+-- Each group is answered on the disk, and in the state, with which the one before ended. The device is called only in
+-- a group with a request that needs it.
 abbrev pub InTurn : {S R D : Type 0} → Turns S R → D → S → List (List (Exchange R)) → D → S → Type 0
 InTurn t old before [] new after = (new ≡ old) × (after ≡ before)
 InTurn {S} {R} {D} t old before (group ∷ groups) new after =
     (mid : D) × (state : S) × TurnsOver t before group state × ((mid ≡ old) ⊎ CallsFor t before group)
     × InTurn t mid state groups new after
 
--- the image is a store of what is held of the state
+-- the image is a store of the state
 abbrev pub HoldsState : {S R : Type 0} → Turns S R → S → List ℕ → Type 0
 HoldsState t state image = IsStoreIn (Two (t.bank state)) image (t.text state) (t.held state)
 
--- The store has banks of the state's size and the library of the state, and each image of its disk holds the state.
+-- The store has banks of the state's size and the library of the state, and each image of its disk is a store of the
+-- state.
 pub record AllHoldState {S R D : Type 0} {g : Ghosts D} (t : Turns S R) (store : Store D g) (state : S) : Type 0 where
   pub shape : store.bank.shape ≡ Two (t.bank state)
   pub has : store.library.items ≡ t.text state
   pub all : AllHold store (t.held state)
 
--- The image is a store of what is held of the state after so many of the groups, or more.
+-- The image is a store of the state after `count` of the groups, or more.
 pub record IsAfter {S R : Type 0} (t : Turns S R) (count : ℕ) (first : S) (groups : List (List (Exchange R)))
     (image : List ℕ) : Type 0 where
   pub done : List (List (Exchange R))
@@ -66,8 +67,8 @@ abbrev pub Rises : ℕ → List ℕ → Type 0
 Rises from [] = Unit {0}
 Rises from (m ∷ moments) = (from ≤ m) × Rises m moments
 
--- The moments of a run: number 0 is its start, and then there is one for each group that was answered. Each image since
--- moment j is a store of the state after j groups of the run, or more.
+-- The points in time of a run: number 0 is its start, and each answered group adds one. Each image since number j is
+-- a store of the state after j groups of the run, or more.
 pub record IsRun {S R D : Type 0} (t : Turns S R) (moment : D → ℕ) (image_since : D → ℕ → List ℕ → Type 0) (old new : D)
     (first : S) (groups : List (List (Exchange R))) (count : ℕ) (moments : List ℕ) : Type 0 where
   pub start : slice_get moments 0 ≡ Some (moment old)
@@ -76,11 +77,11 @@ pub record IsRun {S R D : Type 0} (t : Turns S R) (moment : D → ℕ) (image_si
   pub past : (j m : ℕ) → slice_get moments j ≡ Some m → m ≤ moment new
   pub images : (j m : ℕ) → slice_get moments j ≡ Some m → (c : List ℕ) → image_since new m c
       → IsAfter t j first groups c
-  -- for what began earlier
+  -- for runs that began earlier
   pub before : (m : ℕ) (c : List ℕ) → m ≤ moment old → image_since new m c
       → image_since old m c ⊎ IsAfter t 0 first groups c
 
--- Where each image holds the state at the start of a call on a store, there are moments of the run that it makes.
+-- If each image is a store of the state at the start of a call, the run that the call makes has such points in time.
 abbrev pub HasMoments : {S R D : Type 0} {g : Ghosts D} → Turns S R → Store D g → Store D g → S
     → List (List (Exchange R)) → ℕ → Type 0
 HasMoments {S} {R} {D} {g} t old new first groups count =

@@ -1,4 +1,4 @@
--- What a call answers that takes a list of requests, and what a stop at any moment of it leaves. (This project's
+-- What a call with a list of requests returns, and what a crash at any point in time of it leaves. (This project's
 -- choice.)
 use Rattle.std.specs.Prelude.{◌≡◌, ℕ, true, false, List, [], ◌∷◌, ◌++◌, length, map}
 use Rattle.oa_disk.specs.declared.disk.Disk.{Ghosts}
@@ -10,8 +10,8 @@ use Rattle.oa_groups.specs.Groups.{groups_of, joined}
 use Rattle.oa_groups.specs.Runs.{AllHoldState, HasMoments, InTurn, TurnsOver}
 use Rattle.oa_groups.specs.Turns.{Exchange, Turns, body_of, reply_of}
 
--- The replies to these bodies are those of a run, group for group. Where a call of the device failed, the run goes to
--- the end of that group, all of which is answered by that; what comes behind it is not looked at.
+-- The replies to these bodies are those of a run, group for group. If a call of the device failed, the run ends with
+-- that group, which is answered with the fault; later bodies are not looked at.
 pub record ServedInGroups {S R : Type 0} (t : Turns S R) (size : ℕ) (first : S) (bodies : List (List ℕ))
     (replies : List R) (last : S)
     (groups faulted : List (List (Exchange R))) (others : List (List ℕ)) : Type 0 where
@@ -22,7 +22,7 @@ pub record ServedInGroups {S R : Type 0} (t : Turns S R) (size : ℕ) (first : S
   pub replies_are : replies
       ≡ map reply_of (joined groups) ++ (map (λ asked. t.faulted asked.body) (joined faulted) ++ map t.failed others)
 
--- A call on a store that has not stopped: its replies are served, and there are the moments of its groups.
+-- A call on a store that has not stopped: its replies are served, and its groups have their points in time.
 pub record IsServed {S R D : Type 0} {g : Ghosts D} (t : Turns S R) (size : ℕ) (old new : Store D g) (before after : S)
     (bodies : List (List ℕ)) (replies : List R) : Type 0 where
   pub groups : List (List (Exchange R))
@@ -32,11 +32,11 @@ pub record IsServed {S R D : Type 0} {g : Ghosts D} (t : Turns S R) (size : ℕ)
   pub served : ServedInGroups t size before bodies replies after groups faulted others
   pub well : new.stopped ≡ false → (faulted ≡ []) × (others ≡ [])
   pub fault : new.stopped ≡ true → length faulted ≡ 1
-  -- what comes behind the fault's group calls nothing
+  -- bodies after the group of the fault call nothing
   pub in_turn : InTurn t old.disk before (groups ++ faulted) new.disk after
   pub moments : HasMoments t old new before (groups ++ faulted) (length groups)
   -- and the next call may begin
   pub all : new.stopped ≡ false → AllHoldState t old before → AllHoldState t new after
-  -- the calls of a checkpoint and a commit for each request at most, and those of a commit at the end
+  -- at most the calls of a checkpoint and a commit for each request, and those of a commit at the end
   pub calls : CallsForRequests (length bodies) 4 old new
   pub goes : Goes old new

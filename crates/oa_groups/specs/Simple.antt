@@ -16,7 +16,7 @@ abbrev pub asks_library : List ℕ → Bool
 asks_library [] = false
 asks_library (b ∷ bytes) = b == 0
 
--- its events make the new table
+-- its events turn the old table into the new one
 pub record Changes (asked : Exchange Bool) (old new : Kept) : Type 0 where
   pub kind : asks_library asked.body ≡ false
   pub event : asked.event ≡ asked.body
@@ -25,7 +25,7 @@ pub record Changes (asked : Exchange Bool) (old new : Kept) : Type 0 where
   pub same_bank : new.bank ≡ old.bank
   pub told : asked.reply ≡ true
 
--- its library takes the place of the other, and the table is carried
+-- its library replaces the old one, and the table stays
 pub record ReplacesSimply (asked : Exchange Bool) (old new : Kept) : Type 0 where
   pub kind : asks_library asked.body ≡ true
   pub event : asked.event ≡ []

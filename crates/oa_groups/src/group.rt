@@ -5,11 +5,11 @@ ghost use Rattle.oa_groups.specs.Groups.{fills};
 
 use oa_model::GROUP_BYTES;
 
-/// Whether so many requests, whose events have so many bytes, are a whole group of that size.
+/// Returns whether `count` requests whose events have `bytes` bytes are a whole group of `size` requests.
 #[tactic(auto, unfolding(crate::specs::Groups::fills))]
 pub fn is_full(size: usize, count: usize, bytes: usize) -> bool
     ensures fills { result ≡ fills size count bytes }
-    // A group that goes on has room for the greatest event.
+    // (an open group has space for the largest event)
     ensures few { result ≡ false → bytes < group_bytes }
 {
     size <= count || GROUP_BYTES <= bytes

@@ -1,10 +1,10 @@
-//! Groups of requests: what holds of every server that holds requests until their group ends, and whose events
-//! then go out under one gate.
+//! The theory of group commit: a server holds requests until their group ends, and commits the events of the group
+//! under one gate (commit flag).
 //!
-//! Its contract: what is taken one by one is served: the replies are a run's, and each image from its group's
-//! moment on holds that group (`IsServed`, `laws::headline`).
+//! Contract: requests that are admitted one by one are served. The replies are those of a run, and each image since a
+//! group was answered contains that group (`IsServed`, `laws::headline`).
 //!
-//! What stands on it: oa_server, and the laws of oa_history.
+//! Used by oa_server, and by the theorems of oa_history.
 #![tactic(auto)]
 
 mod group;

@@ -12,7 +12,7 @@ use Rattle.oa_idl.specs.Trees.{TreeValue}
 use Rattle.oa_image.proofs.Numbered.{unlocked_numbers}
 use Rattle.oa_image.proofs.TablesWithImages.{same_table}
 use Rattle.oa_image.specs.Tables.{FitsBank, is_numbered, reserved_bytes, table_image}
-use Rattle.oa_owners.specs.declared.owners.ClientLock.{ClientLock}
+use Rattle.oa_owners.specs.ClientLocks.{ClientLock}
 use Rattle.oa_record.specs.Replies.{ReplyValue}
 use Rattle.oa_server.specs.Openings.{IsOpened}
 use Rattle.oa_server.specs.Requests.{requests}
@@ -45,7 +45,7 @@ clients_are_served g size old (Disk new) before bodies replies after is = record
 
 -- ---- a session is begun
 
-sits_over : {D : Type 0} {g : Ghosts D} (disk : D) (state : State) → NothingPending g.contents g.image disk → ((d : D) → IsTrue (g.is_honest d)) → HoldsState requests state (g.contents disk) → (storage : Storage D g)
+pub sits_over : {D : Type 0} {g : Ghosts D} (disk : D) (state : State) → NothingPending g.contents g.image disk → ((d : D) → IsTrue (g.is_honest d)) → HoldsState requests state (g.contents disk) → (storage : Storage D g)
     → OverStore storage (λ store. IsOpened g disk state.library store state.table) → OverStore storage (λ store. Sits requests disk store state) → OverStore storage (λ store. Sits shared_requests disk store (shared state []))
 sits_over disk state alone honest holds (Memory d) found over = absurd over
 sits_over {D} {g} disk state alone honest holds (Disk store) found over =
@@ -57,11 +57,6 @@ sits_over {D} {g} disk state alone honest holds (Disk store) found over =
           (λ c is. subst (λ (l : List ℕ). HoldsState shared_requests (shared state []) l) (sym (alone c is)) holds))
           (record { shape = all.shape; has = all.has; all = all.all });
     }
-
-pub sits_for_many : {D : Type 0} {g : Ghosts D} (disk : D) (state : State) → NothingPending g.contents g.image disk → ((d : D) → IsTrue (g.is_honest d)) → HoldsState requests state (g.contents disk) → (storage many : Storage D g) → many ≡ storage
-    → OverStore storage (λ store. IsOpened g disk state.library store state.table) → OverStore storage (λ store. Sits requests disk store state) → OverStore many (λ store. Sits shared_requests disk store (shared state []))
-sits_for_many {D} {g} disk state alone honest holds storage many same found over =
-    subst (λ (s : Storage D g). OverStore s (λ store. Sits shared_requests disk store (shared state []))) (sym same) (sits_over {g = g} disk state alone honest holds storage found over)
 
 pub opened_again_for_many : (one : Shared) → opened (opened one) ≡ opened one
 opened_again_for_many one = ap (λ (s : State). shared s []) (opened_again one.state)
@@ -90,7 +85,7 @@ same_begins old new bank same is = record {
     of_image small = subst (λ (l : List ℕ). length l + reserved_bytes ≤ new.bank) image_is small
 
 module _ (turn_begins : (old new : State) (body : List ℕ) (reply : ReplyValue) → CanBegin old → Turn old body reply new → CanBegin new) where
-  turn_of : (client : ℕ) (brought : Brought) (told : ClientReply) (old new : Shared) → CanBeginShared old → TurnOf client brought told old new → CanBeginShared new
+  pub turn_of : (client : ℕ) (brought : Brought) (told : ClientReply) (old new : Shared) → CanBeginShared old → TurnOf client brought told old new → CanBeginShared new
   turn_of client (Body body) told old new is one = by one.turn
     where
       by : TurnsFor client body one.reply old new → CanBeginShared new

@@ -2,7 +2,7 @@
 use Rattle.std.proofs.Common.{◌≡◌, ◌⊎◌, inl, inr, ⊎_elim, ℕ, ◌+◌, length, List, [], ◌∷◌, ◌++◌, Bor, refl, sym, ◌∙◌, ap, subst, append_assoc}
 use Rattle.oa_disk.specs.declared.disk.Disk.{Ghosts}
 use Rattle.oa_disk.specs.declared.memory.MemoryDisk.{MemoryDisk}
-use Rattle.oa_owners.specs.declared.owners.ClientLock.{ClientLock}
+use Rattle.oa_owners.specs.ClientLocks.{ClientLock}
 use Rattle.oa_record.specs.Replacement.{is_replacement}
 use Rattle.oa_stream.specs.Ahead.{ahead, read_ahead}
 use Rattle.oa_stream.specs.Memory.{gathered_output}
@@ -14,8 +14,8 @@ use Rattle.oa_server.specs.SharedSessions.{HasServedClients}
 use Rattle.oa_server.specs.SharedTalks.{asked_written}
 use Rattle.oa_server.specs.Sharing.{ClientReply, Shared, shared}
 use Rattle.oa_server.specs.Storages.{OverStore}
-use Rattle.oa_server.specs.declared.shared_engine.SharedEngine.{SharedEngine}
-use Rattle.oa_server.specs.declared.shared_server.SharedServer.{SharedServer}
+use Rattle.oa_server.specs.declared.engine.Engine.{Engine}
+use Rattle.oa_server.specs.declared.server.Server.{Server}
 use Rattle.oa_server.specs.declared.storage.Storage.{Storage}
 use Rattle.oa_server.specs.declared.storage.Storage.TheVariants.{Disk, Memory}
 use Rattle.oa_share.specs.Marks.{Now, Owned}
@@ -27,11 +27,11 @@ use Rattle.oa_store.specs.declared.store.Store.{Store}
 use Rattle.oa_decision.specs.States.{State}
 use Rattle.oa_history.specs.Framed.{AreTurnsOf, HasWrittenFrames, MakesCalls, ServesShared, TurnsAreCalls, turns_asked, turns_told}
 use Rattle.oa_history.specs.Stops.{Done, Made}
-use Rattle.oa_history.specs.declared.shared_session.SharedInput.{SharedInput}
-use Rattle.oa_history.specs.declared.shared_session.WrittenFrames.{WrittenFrames}
+use Rattle.oa_history.specs.declared.session.SharedInput.{SharedInput}
+use Rattle.oa_history.specs.declared.session.WrittenFrames.{WrittenFrames}
 use Rattle.oa_history.proofs.Streams.{reads_from}
 
-module _ {D : Type 0} {g : Ghosts D} {input input' : Read} {out out' : Output} {old new : SharedEngine D g} {why : SessionEnd} (is : ServesClients is_replacement asked_written starting input input' out out' old new why) where
+module _ {D : Type 0} {g : Ghosts D} {input input' : Read} {out out' : Output} {old new : Engine D g} {why : SessionEnd} (is : ServesClients is_replacement asked_written starting input input' out out' old new why) where
   -- what was asked, and then ends of clients
   abbrev asked : List (Owned Brought)
   asked = parted is_replacement is.asked ++ ⊎_elim (λ all. ends_at why is.streams.clients) (λ fails. fails.ends) is.done
@@ -39,7 +39,7 @@ module _ {D : Type 0} {g : Ghosts D} {input input' : Read} {out out' : Output} {
   asked_are : turns_asked is ≡ asked ++ Now ∷ []
   asked_are = sym (append_assoc (parted is_replacement is.asked) (⊎_elim (λ all. ends_at why is.streams.clients) (λ fails. fails.ends) is.done) (Now ∷ []))
 
-  turns_made : AllTurned asked_written old (turns_asked is) (turns_told is) new
+  pub turns_made : AllTurned asked_written old (turns_asked is) (turns_told is) new
   turns_made = by is.done
     where
       by : (done : TellsAll asked_written (parted is_replacement is.asked) why is.streams (is.calls + length is.taken) input' out out' old new ⊎ FailsToTell asked_written (parted is_replacement is.asked) why is.streams.clients out out' old new)
@@ -49,12 +49,12 @@ module _ {D : Type 0} {g : Ghosts D} {input input' : Read} {out out' : Output} {
       by (inr fails) = fails.loses.run
 
 -- over a store the turns are calls
-module _ {g : Ghosts MemoryDisk} (law : TurnsAreCalls g) (input unread : Read) (out out' : Output) (size : ℕ) (old new : SharedEngine MemoryDisk g) (why : SessionEnd) (served : HasServedClients input unread out out' size old new why) where
+module _ {g : Ghosts MemoryDisk} (law : TurnsAreCalls g) (input unread : Read) (out out' : Output) (size : ℕ) (old new : Engine MemoryDisk g) (why : SessionEnd) (served : HasServedClients input unread out out' size old new why) where
   abbrev AreCalls : Type 0
   AreCalls = (calls : List (Done ClientReply)) × AreTurnsOf size calls (turns_asked served.serves) (turns_told served.serves)
-      × Made ServesShared old.storage (shared old.host old.desk.owners) calls new.storage (shared served.left.host served.left.desk.owners)
+      × Made ServesShared old.storage (shared old.host []) calls new.storage (shared served.left.host served.left.desk.owners)
 
-  first_same : shared served.begun.host served.begun.desk.owners ≡ shared old.host old.desk.owners
+  first_same : shared served.begun.host served.begun.desk.owners ≡ shared old.host []
   first_same = ap (λ (s : State). shared s served.begun.desk.owners) served.host ∙ ap (λ (l : List ClientLock). shared old.host l) served.owners
 
   calls_over : (storage : Storage MemoryDisk g) → old.storage ≡ storage → OverStore storage (λ store. Unit {0}) → AreCalls
@@ -65,12 +65,12 @@ module _ {g : Ghosts MemoryDisk} (law : TurnsAreCalls g) (input unread : Read) (
         all.0,
         subst (λ (l : List (Owned Brought)). AreTurnsOf size all.0 l (turns_told served.serves)) (sym (asked_are served.serves))
             (subst (λ (n : ℕ). AreTurnsOf n all.0 (asked served.serves ++ Now ∷ []) (turns_told served.serves)) served.size_is all.1),
-        subst (λ (s : Storage MemoryDisk g). Made ServesShared old.storage (shared old.host old.desk.owners) all.0 s (shared served.left.host served.left.desk.owners)) (sym served.kept)
-            (subst (λ (s : Storage MemoryDisk g). Made ServesShared s (shared old.host old.desk.owners) all.0 served.left.storage (shared served.left.host served.left.desk.owners)) served.storage
+        subst (λ (s : Storage MemoryDisk g). Made ServesShared old.storage (shared old.host []) all.0 s (shared served.left.host served.left.desk.owners)) (sym served.kept)
+            (subst (λ (s : Storage MemoryDisk g). Made ServesShared s (shared old.host []) all.0 served.left.storage (shared served.left.host served.left.desk.owners)) served.storage
             (subst (λ (s : Shared). Made ServesShared served.begun.storage s all.0 served.left.storage (shared served.left.host served.left.desk.owners)) first_same all.2)),
       )
 
-pub makes_calls : {g : Ghosts MemoryDisk} → TurnsAreCalls g → (input : SharedInput) (bytes : Bor (List ℕ)) (reader : Ahead (Bor (List ℕ))) (empty output : Gathered) (why : SessionEnd) (old new : SharedServer MemoryDisk g) (unread : Read)
+pub makes_calls : {g : Ghosts MemoryDisk} → TurnsAreCalls g → (input : SharedInput) (bytes : Bor (List ℕ)) (reader : Ahead (Bor (List ℕ))) (empty output : Gathered) (why : SessionEnd) (old new : Server MemoryDisk g) (unread : Read)
     → bytes.now ≡ input.bytes.items → reader.reader ≡ bytes → read_ahead reader ≡ [] → empty.bytes.items ≡ []
     → HasServedClients (ahead (λ (s : Bor (List ℕ)). in_memory s.now) reader) unread (gathered_output empty) (gathered_output output) input.group old.engine new.engine why
     → MakesCalls input (record { output = output; why = why }) old new
@@ -80,6 +80,7 @@ makes_calls {g} law input bytes reader empty output why old new unread same at n
     subst (λ (i : Read). HasServedClients i unread (gathered_output empty) (gathered_output output) input.group old.engine new.engine why) whole served in
     let calls = calls_over {g = g} law (in_memory input.bytes.items) unread (gathered_output empty) (gathered_output output) input.group old.engine new.engine why here old.engine.storage refl over in (
       calls.0,
-      record { empty = empty; nothing = nothing; unread = unread; served = here; are = calls.1 },
+      shared here.left.host here.left.desk.owners,
+      record { empty = empty; nothing = nothing; unread = unread; new = new; served = here; are = calls.1; last_is = refl; end_is = refl },
       calls.2,
     )

@@ -10,29 +10,30 @@ use Rattle.oa_decision.specs.States.{State}
 use Rattle.oa_store.proofs.OneStore.{one_store}
 use Rattle.oa_store.specs.Stores.{IsStore}
 use Rattle.oa_table.specs.Tables.{TableValue}
-use Rattle.oa_history.specs.Lived.{Lives}
+use Rattle.oa_history.specs.Lived.{IsStepped, Lives}
+use Rattle.oa_history.specs.declared.session.Heard.{Heard}
+use Rattle.oa_history.specs.declared.session.Step.{Step}
 
-module _ {X Y : Type 0} (stepped : X → Y → List ℕ → State → List ℕ → State → Type 0) where
-  lives_push : (found : List ℕ) (before : State) (steps : List X) (heard : List Y) (left : List ℕ) (mid : State) (step : X) (told : Y) (image : List ℕ) (after : State)
-      → Lives stepped found before steps heard left mid → stepped step told left mid image after → Lives stepped found before (steps ++ step ∷ []) (heard ++ told ∷ []) image after
-  lives_push found before [] [] left mid step told image after same one = (
-    image,
-    after,
-    subst (λ (s : State). stepped step told found s image after) (sym same.1) (subst (λ (l : List ℕ). stepped step told l mid image after) (sym same.0) one),
-    (refl, refl),
-  )
-  lives_push found before [] (h ∷ hs) left mid step told image after none one = absurd none
-  lives_push found before (s ∷ ss) [] left mid step told image after none one = absurd none
-  lives_push found before (s ∷ ss) (h ∷ hs) left mid step told image after all one = (all.0, all.1, all.2, lives_push all.0 all.1 ss hs left mid step told image after all.3 one)
+lives_push : (found : List ℕ) (before : State) (steps : List Step) (heard : List Heard) (left : List ℕ) (mid : State) (step : Step) (told : Heard) (image : List ℕ) (after : State)
+    → Lives found before steps heard left mid → IsStepped step told left mid image after → Lives found before (steps ++ step ∷ []) (heard ++ told ∷ []) image after
+lives_push found before [] [] left mid step told image after same one = (
+  image,
+  after,
+  subst (λ (s : State). IsStepped step told found s image after) (sym same.1) (subst (λ (l : List ℕ). IsStepped step told l mid image after) (sym same.0) one),
+  (refl, refl),
+)
+lives_push found before [] (h ∷ hs) left mid step told image after none one = absurd none
+lives_push found before (s ∷ ss) [] left mid step told image after none one = absurd none
+lives_push found before (s ∷ ss) (h ∷ hs) left mid step told image after all one = (all.0, all.1, all.2, lives_push all.0 all.1 ss hs left mid step told image after all.3 one)
 
-  -- the first i + 1 of them
-  pub lives_more : (found : List ℕ) (before : State) (steps : List X) (i : ℕ) (heard all : List Y) (left : List ℕ) (mid : State) (step : X) (told : Y) (image : List ℕ) (after : State)
-      → i < length steps → get_or steps i step ≡ step → all ≡ heard ++ told ∷ []
-      → Lives stepped found before (take i steps) heard left mid → stepped step told left mid image after → Lives stepped found before (take (i + 1) steps) all image after
-  lives_more found before steps i heard all left mid step told image after within is all_are lives one =
-      let here : take (i + 1) steps ≡ take i steps ++ step ∷ [] = rw (take_more steps i step within, is) refl in
-      subst (λ (hs : List Y). Lives stepped found before (take (i + 1) steps) hs image after) (sym all_are)
-      (subst (λ (ss : List X). Lives stepped found before ss (heard ++ told ∷ []) image after) (sym here) (lives_push found before (take i steps) heard left mid step told image after lives one))
+-- the first i + 1 of them
+pub lives_more : (found : List ℕ) (before : State) (steps : List Step) (i : ℕ) (heard all : List Heard) (left : List ℕ) (mid : State) (step : Step) (told : Heard) (image : List ℕ) (after : State)
+    → i < length steps → get_or steps i step ≡ step → all ≡ heard ++ told ∷ []
+    → Lives found before (take i steps) heard left mid → IsStepped step told left mid image after → Lives found before (take (i + 1) steps) all image after
+lives_more found before steps i heard all left mid step told image after within is all_are lives one =
+    let here : take (i + 1) steps ≡ take i steps ++ step ∷ [] = rw (take_more steps i step within, is) refl in
+    subst (λ (hs : List Heard). Lives found before (take (i + 1) steps) hs image after) (sym all_are)
+    (subst (λ (ss : List Step). Lives found before ss (heard ++ told ∷ []) image after) (sym here) (lives_push found before (take i steps) heard left mid step told image after lives one))
 
 -- what is shown of a store is what it holds of the state
 pub shown_library : (image text : List ℕ) (table : TableValue) (state : State) → IsStore image text table → HoldsState requests state image → text ≡ canonical state.library

@@ -38,7 +38,8 @@ reads_from bytes reader at none = ap (λ (l : List ℕ). with_front l (in_memory
 pub has_written : {g : Ghosts MemoryDisk} (input : Input) (framing : Framing) (bytes : Bor (List ℕ)) (reader : Ahead (Bor (List ℕ))) (empty output : Gathered) (served : Served) (old new : Server MemoryDisk g) (unread : Read)
     → input.framing ≡ framing → bytes.now ≡ input.bytes.items → reader.reader ≡ bytes → read_ahead reader ≡ [] → empty.bytes.items ≡ []
     → HasTalked (frames framing) (ahead (λ (s : Bor (List ℕ)). in_memory s.now) reader) unread (gathered_output empty) (gathered_output output) input.group old.engine new.engine served
-    → (done : List (Done ReplyValue)) × HasWritten input (record { output = output; served = served }) old new done × Made Serves old.engine.storage old.engine.host done new.engine.storage new.engine.host
+    → (done : List (Done ReplyValue)) × HasWritten input (record { output = output; served = served }) old.engine.storage old.engine.host done new.engine.storage new.engine.host
+    × Made Serves old.engine.storage old.engine.host done new.engine.storage new.engine.host
 has_written input framing bytes reader empty output served old new unread is same at none nothing talked =
     let whole : ahead (λ (s : Bor (List ℕ)). in_memory s.now) reader ≡ in_memory input.bytes.items = reads_from bytes reader at none ∙ ap in_memory same in
     let here : HasTalked (frames input.framing) (in_memory input.bytes.items) unread (gathered_output empty) (gathered_output output) input.group old.engine new.engine served =

@@ -18,7 +18,7 @@ use Rattle.oa_server.specs.Sharing.{ClientReply, Shared, failed, shared, tagged}
 use Rattle.oa_server.specs.Stretches.{IsLateFor, ServesStretch}
 use Rattle.oa_server.specs.declared.desk.Asker.{Asker}
 use Rattle.oa_server.specs.declared.desk.Desk.{Desk}
-use Rattle.oa_server.specs.declared.shared_engine.SharedEngine.{SharedEngine}
+use Rattle.oa_server.specs.declared.engine.Engine.{Engine}
 use Rattle.oa_server.specs.declared.storage.Storage.{Storage}
 use Rattle.oa_server.specs.declared.storage.Storage.TheVariants.{Disk, Memory}
 use Rattle.oa_share.specs.Marks.{Owned, Of, Now}
@@ -32,7 +32,7 @@ no_frames : all_frames [] ≡ []
 unfolding all_frames
 no_frames = refl
 
-told_none : (askers : List Asker) → told_to askers [] ≡ []
+pub told_none : (askers : List Asker) → told_to askers [] ≡ []
 told_none [] = refl
 told_none (asker ∷ askers) = refl
 
@@ -50,34 +50,34 @@ last_turn [] ask frames tolds = refl
 last_turn (x ∷ []) ask frames tolds = refl
 last_turn (x ∷ (y ∷ own)) ask frames tolds = ap (λ (l : List (List (ℕ × List ℕ))). [] ∷ l) (last_turn (y ∷ own) ask frames tolds)
 
-requests_more : (own : List (Owned Brought)) (client : ℕ) (brought : Brought) → requests_in (own ++ Of client brought ∷ []) ≡ requests_in own ++ tagged client brought ∷ []
+pub requests_more : (own : List (Owned Brought)) (client : ℕ) (brought : Brought) → requests_in (own ++ Of client brought ∷ []) ≡ requests_in own ++ tagged client brought ∷ []
 requests_more [] client brought = refl
 requests_more (Of other x ∷ own) client brought = ap (λ (l : List (List ℕ)). tagged other x ∷ l) (requests_more own client brought)
 requests_more (Now ∷ own) client brought = requests_more own client brought
 
-requests_same : (own : List (Owned Brought)) → requests_in (own ++ Now ∷ []) ≡ requests_in own
+pub requests_same : (own : List (Owned Brought)) → requests_in (own ++ Now ∷ []) ≡ requests_in own
 requests_same [] = refl
 requests_same (Of other x ∷ own) = ap (λ (l : List (List ℕ)). tagged other x ∷ l) (requests_same own)
 requests_same (Now ∷ own) = requests_same own
 
 module _ {D : Type 0} {g : Ghosts D} (only : (d : D) (c : List ℕ) → IsTrue (g.is_honest d) → g.image_since d (g.moment d) c → g.image d c) (size : ℕ) where
-  abbrev at_start : Store D g → Shared → Grouping Shared ClientReply D g
+  abbrev pub at_start : Store D g → Shared → Grouping Shared ClientReply D g
   at_start store state = record { store = store; state = state; pending = []; events = [] }
 
   -- the device had failed, and nothing was taken since
-  record IsLate (start : Store D g) (first : Shared) (now : Grouping Shared ClientReply D g) (front : List (List ℕ)) : Type 0 where
-    none : front ≡ []
-    state : now.state ≡ first
-    disk : now.store.disk ≡ start.disk
-    stopped : now.store.stopped ≡ true
+  pub record IsLate (start : Store D g) (first : Shared) (now : Grouping Shared ClientReply D g) (front : List (List ℕ)) : Type 0 where
+    pub none : front ≡ []
+    pub state : now.state ≡ first
+    pub disk : now.store.disk ≡ start.disk
+    pub stopped : now.store.stopped ≡ true
 
   -- these requests were taken since the last call, and nothing was told of them
-  record SoFar (start : Store D g) (first : Shared) (now : Grouping Shared ClientReply D g) (front : List (List ℕ)) : Type 0 where
-    going : start.stopped ≡ false → Underway shared_requests size (at_start start first) now front []
-    late : start.stopped ≡ true → IsLate start first now front
+  pub record SoFar (start : Store D g) (first : Shared) (now : Grouping Shared ClientReply D g) (front : List (List ℕ)) : Type 0 where
+    pub going : start.stopped ≡ false → Underway shared_requests size (at_start start first) now front []
+    pub late : start.stopped ≡ true → IsLate start first now front
 
   -- a call may begin
-  begins : (now : Grouping Shared ClientReply D g) → (now.store.stopped ≡ false → (now.pending ≡ []) × (now.events ≡ [])) → SoFar now.store now.state now []
+  pub begins : (now : Grouping Shared ClientReply D g) → (now.store.stopped ≡ false → (now.pending ≡ []) × (now.events ≡ [])) → SoFar now.store now.state now []
   begins now idle = record {
     going = λ going. subst (λ (n : Grouping Shared ClientReply D g). Underway shared_requests size (at_start now.store now.state) n [] []) (same (idle going).0 (idle going).1)
         (underway_start shared_requests {g = g} only (at_start now.store now.state) size going refl refl);
@@ -171,24 +171,24 @@ module _ {D : Type 0} {g : Ghosts D} (only : (d : D) (c : List ℕ) → IsTrue (
         }
 
   -- ---- the turns of the engine
-  abbrev SoFarIn : Store D g → Shared → Storage D g → State → Desk → List (List ℕ) → Type 0
+  abbrev pub SoFarIn : Store D g → Shared → Storage D g → State → Desk → List (List ℕ) → Type 0
   SoFarIn start first (Memory disk) state desk front = ⊥
   SoFarIn start first (Disk store) state desk front = (desk.open_group.size ≡ size) × SoFar start first (desk_grouping store state desk) front
 
   -- a call is over with this turn, and the next one may begin
-  record CallIn (start : Store D g) (first : Shared) (own : List (Owned Brought)) (frames : List (ℕ × List ℕ)) (new : Storage D g) (after : State) (desk : Desk) : Type 0 where
-    told : List ClientReply
-    are : frames ≡ all_frames told
-    mid : Store D g
-    mid_is : new ≡ Disk mid
-    serves : ServesStretch size start mid first (record { bodies = requests_in own; told = told }) (shared after desk.owners)
-    next : SoFarIn mid (shared after desk.owners) new after desk (requests_in [])
+  pub record CallIn (start : Store D g) (first : Shared) (own : List (Owned Brought)) (frames : List (ℕ × List ℕ)) (new : Storage D g) (after : State) (desk : Desk) : Type 0 where
+    pub told : List ClientReply
+    pub are : frames ≡ all_frames told
+    pub mid : Store D g
+    pub mid_is : new ≡ Disk mid
+    pub serves : ServesStretch size start mid first (record { bodies = requests_in own; told = told }) (shared after desk.owners)
+    pub next : SoFarIn mid (shared after desk.owners) new after desk (requests_in [])
 
-  abbrev TurnIn : Store D g → Shared → List (Owned Brought) → List (ℕ × List ℕ) → Storage D g → State → Desk → Type 0
+  abbrev pub TurnIn : Store D g → Shared → List (Owned Brought) → List (ℕ × List ℕ) → Storage D g → State → Desk → Type 0
   TurnIn start first own frames new after desk = ((frames ≡ []) × SoFarIn start first new after desk (requests_in own)) ⊎ CallIn start first own frames new after desk
 
   -- a client's body or its end
-  turned : (start : Store D g) (first : Shared) (old new : Storage D g) (before after : State) (desk desk' : Desk) (own : List (Owned Brought)) (client : ℕ) (brought : Brought) (frames : List (ℕ × List ℕ))
+  pub turned : (start : Store D g) (first : Shared) (old new : Storage D g) (before after : State) (desk desk' : Desk) (own : List (Owned Brought)) (client : ℕ) (brought : Brought) (frames : List (ℕ × List ℕ))
       → SoFarIn start first old before desk (requests_in own) → AsksIn old before desk (Of client brought) frames new after desk' → TurnIn start first (own ++ Of client brought ∷ []) frames new after desk'
   turned start first (Memory old) new before after desk desk' own client brought frames was is = absurd was
   turned start first (Disk old) (Memory new) before after desk desk' own client brought frames was is = absurd is
@@ -212,7 +212,7 @@ module _ {D : Type 0} {g : Ghosts D} (only : (d : D) (c : List ℕ) → IsTrue (
       })
 
   -- *now*
-  turned_now : (start : Store D g) (first : Shared) (old new : Storage D g) (before after : State) (desk desk' : Desk) (own : List (Owned Brought)) (frames : List (ℕ × List ℕ))
+  pub turned_now : (start : Store D g) (first : Shared) (old new : Storage D g) (before after : State) (desk desk' : Desk) (own : List (Owned Brought)) (frames : List (ℕ × List ℕ))
       → SoFarIn start first old before desk (requests_in own) → AsksIn old before desk Now frames new after desk' → CallIn start first (own ++ Now ∷ []) frames new after desk'
   turned_now start first (Memory old) new before after desk desk' own frames was is = absurd was
   turned_now start first (Disk old) (Memory new) before after desk desk' own frames was is = absurd is
@@ -228,12 +228,12 @@ module _ {D : Type 0} {g : Ghosts D} (only : (d : D) (c : List ℕ) → IsTrue (
       }
 
   -- ---- all turns, behind some that were made since the last call
-  record AllCalls (start : Store D g) (first : Shared) (own asks : List (Owned Brought)) (tolds : List (List (ℕ × List ℕ))) (new : SharedEngine D g) : Type 0 where
+  record AllCalls (start : Store D g) (first : Shared) (own asks : List (Owned Brought)) (tolds : List (List (ℕ × List ℕ))) (new : Engine D g) : Type 0 where
     calls : List (Done ClientReply)
     are : AreTurnsOf size calls (own ++ asks) (silent own ++ tolds)
     made : Made ServesShared (Disk start) first calls new.storage (shared new.host new.desk.owners)
 
-  more_held : (start : Store D g) (first : Shared) (own : List (Owned Brought)) (ask : Owned Brought) (asks : List (Owned Brought)) (told : List (ℕ × List ℕ)) (tolds : List (List (ℕ × List ℕ))) (new : SharedEngine D g)
+  more_held : (start : Store D g) (first : Shared) (own : List (Owned Brought)) (ask : Owned Brought) (asks : List (Owned Brought)) (told : List (ℕ × List ℕ)) (tolds : List (List (ℕ × List ℕ))) (new : Engine D g)
       → told ≡ [] → AllCalls start first (own ++ ask ∷ []) asks tolds new → AllCalls start first own (ask ∷ asks) (told ∷ tolds) new
   more_held start first own ask asks told tolds new none rest = record {
     calls = rest.calls;
@@ -243,7 +243,7 @@ module _ {D : Type 0} {g : Ghosts D} (only : (d : D) (c : List ℕ) → IsTrue (
     made = rest.made;
   }
 
-  more_called : (start : Store D g) (first : Shared) (own : List (Owned Brought)) (ask : Owned Brought) (asks : List (Owned Brought)) (told : List (ℕ × List ℕ)) (tolds : List (List (ℕ × List ℕ))) (mid new : SharedEngine D g)
+  more_called : (start : Store D g) (first : Shared) (own : List (Owned Brought)) (ask : Owned Brought) (asks : List (Owned Brought)) (told : List (ℕ × List ℕ)) (tolds : List (List (ℕ × List ℕ))) (mid new : Engine D g)
       → (call : CallIn start first (own ++ ask ∷ []) told mid.storage mid.host mid.desk) → AllCalls call.mid (shared mid.host mid.desk.owners) [] asks tolds new → AllCalls start first own (ask ∷ asks) (told ∷ tolds) new
   more_called start first own ask asks told tolds mid new call rest = record {
     calls = record { call = record { size = size; bodies = requests_in (own ++ ask ∷ []); replies = call.told }; moment = g.moment call.mid.disk } ∷ rest.calls;
@@ -261,15 +261,15 @@ module _ {D : Type 0} {g : Ghosts D} (only : (d : D) (c : List ℕ) → IsTrue (
   }
 
   -- nothing follows
-  none_more : (start : Store D g) (mid new : SharedEngine D g) → mid.storage ≡ Disk start → new ≡ mid → AllCalls start (shared mid.host mid.desk.owners) [] [] [] new
+  none_more : (start : Store D g) (mid new : Engine D g) → mid.storage ≡ Disk start → new ≡ mid → AllCalls start (shared mid.host mid.desk.owners) [] [] [] new
   none_more start mid new at same = record {
     calls = [];
     are = (refl, refl);
-    made = (ap (λ (e : SharedEngine D g). e.storage) same ∙ at, ap (λ (e : SharedEngine D g). shared e.host e.desk.owners) same);
+    made = (ap (λ (e : Engine D g). e.storage) same ∙ at, ap (λ (e : Engine D g). shared e.host e.desk.owners) same);
   }
 
   -- the last of them is *now*
-  all_calls : (start : Store D g) (first : Shared) (old new : SharedEngine D g) (own asks : List (Owned Brought)) (tolds : List (List (ℕ × List ℕ)))
+  all_calls : (start : Store D g) (first : Shared) (old new : Engine D g) (own asks : List (Owned Brought)) (tolds : List (List (ℕ × List ℕ)))
       → SoFarIn start first old.storage old.host old.desk (requests_in own) → AllTurned asked_written old (asks ++ Now ∷ []) tolds new → AllCalls start first own (asks ++ Now ∷ []) tolds new
   all_calls start first old new own [] (told ∷ []) was run =
       let call = turned_now start first old.storage run.0.storage old.host run.0.host old.desk run.0.desk own told was run.1 in

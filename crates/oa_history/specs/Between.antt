@@ -1,4 +1,4 @@
--- What stands beside sessions: a new store, one that is brought to format 2, and a checkpoint.
+-- Steps other than sessions: formatting a store, upgrading it to format 2, and a checkpoint.
 use Rattle.std.specs.Prelude.{◌≡◌, ◌⊎◌, ℕ, ◌+◌, ◌*◌, ◌-◌, ◌≤◌, IsTrue, true, min, List, length}
 use Rattle.oa_disk.specs.Disk.{Torn}
 use Rattle.oa_disk.specs.Memory.{IsTornAt, image_of, moments_of}
@@ -23,9 +23,9 @@ use Rattle.oa_store.specs.declared.store.Store.{Store}
 use Rattle.oa_table.specs.Tables.{TableValue, unlocked_table}
 use Rattle.oa_history.specs.declared.session.Stop.{Stop}
 
--- A disk that held this was formatted with the library, and stopped: it holds the same but for the first byte, or no
--- store, or the new one; and that is what a crash of the disk at the moment of the stop leaves, as the tear says. It
--- made the calls of one format at most.
+-- A disk with these contents was formatted with the library, and crashed. It has the old contents except for the
+-- first byte, or no store, or the new one; and that is what a crash of the disk at that point in time leaves, with
+-- that tear. At most the calls of one format were made.
 pub record IsStoppedFormatting (found : List ℕ) (library : TreeValue) (bank : ℕ) (moment : ℕ) (tear : Tear)
     (disk : MemoryDisk)
     (left : List ℕ) : Type 0 where
@@ -33,11 +33,10 @@ pub record IsStoppedFormatting (found : List ℕ) (library : TreeValue) (bank : 
   pub torn : IsTornAt disk tear (min moment (moments_of disk)) left
   pub calls : moments_of disk ≤ 2 * format_calls (canonical library)
 
--- A disk that held this was brought to format 2 with banks of this size, and stopped: whatever it was a store of, it is
--- that still, in its format of before or in the new one, as a crash of the disk at the moment of the stop leaves it and
--- the tear says. It was a store of format
--- 1, and once the last call of the disk has ended it is the same one in the new format. It made the calls of one
--- reading and of one checkpoint at most.
+-- A disk with these contents was upgraded to format 2 with banks of this size, and crashed. It is a store of the same
+-- state, in the old format or the new one, as a crash of the disk at that point in time leaves it, with that tear. It
+-- was a store of format 1, and after the last call of the disk it is the same store in the new format. At most the
+-- calls of one reading and of one checkpoint were made.
 pub record IsStoppedUpgrading (found : List ℕ) (bank : ℕ) (stop : Stop) (disk : MemoryDisk)
     (left : List ℕ) : Type 0 where
   pub either : IsUpgrade bank found left
@@ -49,7 +48,7 @@ pub record IsStoppedUpgrading (found : List ℕ) (bank : ℕ) (stop : Stop) (dis
   pub calls : moments_of disk + length brought.was.library
       ≤ 16 + gate + 2 * checkpoint_calls brought.was.library brought.was.table
 
--- A store was opened on the disk: what is read is that store, and each image is, once it was opened, which wrote
+-- A store was opened on the disk: the contents are that store, and so is each image after the opening, which wrote
 -- nothing.
 pub record IsFoundStore {D : Type 0} {g : Ghosts D} (disk : D) (store : Store D g) (table : TableValue) : Type 0 where
   pub contents : IsStoreAt store.bank.shape store.chosen store.bank.gate store.library.items table (g.contents disk)
@@ -61,9 +60,9 @@ pub record IsFoundStore {D : Type 0} {g : Ghosts D} (disk : D) (store : Store D 
   pub calls : IsTrue (g.is_honest store.disk)
       → g.moment store.disk + length store.library.items ≤ g.moment disk + (20 + store.bank.gate)
 
--- The store of the state that was found in one bank stands in the other one, without groups, once the last call of the
--- disk has ended. What is left is what a crash of the disk at the moment of the stop leaves, as the tear says, and
--- holds the state, wherever that is. It made the calls of one opening and of one checkpoint at most.
+-- The state that was found in one bank is in the other one, without groups, after the last call of the disk. What is
+-- left is what a crash of the disk at that point in time leaves, with that tear, and it is a store of the state at
+-- every such point. At most the calls of one opening and of one checkpoint were made.
 pub record IsCheckpointed (found : List ℕ) (stop : Stop) (disk : MemoryDisk) (left : List ℕ)
     (state : State) : Type 0 where
   pub chosen : ℕ

@@ -12,8 +12,8 @@ use Rattle.oa_server.specs.SharedTalks.{asked_written}
 use Rattle.oa_server.specs.Sharing.{ClientReply, Leaves, Replies, Shared, client_in, shared, tagged}
 use Rattle.oa_server.specs.Storages.{OverStore}
 use Rattle.oa_server.specs.Stretches.{ServesStretch}
-use Rattle.oa_server.specs.declared.shared_engine.SharedEngine.{SharedEngine}
-use Rattle.oa_server.specs.declared.shared_server.SharedServer.{SharedServer}
+use Rattle.oa_server.specs.declared.engine.Engine.{Engine}
+use Rattle.oa_server.specs.declared.server.Server.{Server}
 use Rattle.oa_server.specs.declared.storage.Storage.{Storage}
 use Rattle.oa_server.specs.declared.storage.Storage.TheVariants.{Disk, Memory}
 use Rattle.oa_share.specs.Marks.{Now, Of, Owned}
@@ -23,8 +23,8 @@ use Rattle.oa_share.specs.Talking.{AllTurned, ServesClients, ends_at, parted}
 use Rattle.oa_share.specs.declared.session_end.SessionEnd.{SessionEnd}
 use Rattle.oa_store.specs.declared.store.Store.{Store}
 use Rattle.oa_history.specs.Stops.{Done, Made}
-use Rattle.oa_history.specs.declared.shared_session.SharedInput.{SharedInput}
-use Rattle.oa_history.specs.declared.shared_session.WrittenFrames.{WrittenFrames}
+use Rattle.oa_history.specs.declared.session.SharedInput.{SharedInput}
+use Rattle.oa_history.specs.declared.session.WrittenFrames.{WrittenFrames}
 
 -- ---- the turns of a session as calls
 
@@ -36,32 +36,32 @@ ServesShared size (Disk old) (Disk new) before bodies replies after =
 ServesShared size (Disk old) (Memory new) before bodies replies after = ⊥
 ServesShared size (Memory old) new before bodies replies after = ⊥
 
--- to whom a reply goes
+-- the client of a reply
 abbrev pub client_of : ClientReply → ℕ
 client_of (Replies client reply) = client
 client_of (Leaves client why) = client
 
--- Each reply of a call goes to the client whose request it is of.
+-- Each reply of a call goes to the client of its request.
 abbrev pub RepliesGoToClients : {D : Type 0} → Ghosts D → Type 0
 RepliesGoToClients {D} g =
     (size : ℕ) (old new : Storage D g) (before after : Shared) (bodies : List (List ℕ)) (replies : List ClientReply)
     → ServesShared size old new before bodies replies after → map client_of replies ≡ map client_in bodies
 
--- the requests of some turns, in the one order of all clients: a body, or the end of a client, in its client's name;
--- *now* is none
+-- the requests of some turns, in the one order of all clients: a body, or the end of a client, with its client's
+-- number; a *now* is none
 abbrev pub requests_in : List (Owned Brought) → List (List ℕ)
 requests_in [] = []
 requests_in (Of client brought ∷ asks) = tagged client brought ∷ requests_in asks
 requests_in (Now ∷ asks) = requests_in asks
 
--- these frames are handed out at the last of some turns, and none before
+-- these frames are sent at the last of some turns, and none before
 abbrev pub at_last_turn : List (Owned Brought) → List (ℕ × List ℕ) → List (List (ℕ × List ℕ))
 at_last_turn [] frames = []
 at_last_turn (ask ∷ []) frames = frames ∷ []
 at_last_turn (ask ∷ (next ∷ asks)) frames = [] ∷ at_last_turn (next ∷ asks) frames
 
--- These turns are these calls, in groups of a size: each call has the requests of the next of them, and the frames that
--- are handed out at the last of those are those of its replies.
+-- These turns are these calls, in groups of a size: each call has the requests of the next turns, and the frames that
+-- are sent at the last of these are those of its replies.
 abbrev pub AreTurnsOf : ℕ → List (Done ClientReply) → List (Owned Brought) → List (List (ℕ × List ℕ)) → Type 0
 AreTurnsOf size [] asks tolds = (asks ≡ []) × (tolds ≡ [])
 AreTurnsOf size (one ∷ calls) asks tolds =
@@ -70,11 +70,11 @@ AreTurnsOf size (one ∷ calls) asks tolds =
     × (one.call.bodies ≡ requests_in own) × (asks ≡ own ++ later)
     × (tolds ≡ at_last_turn own (all_frames one.call.replies) ++ others) × AreTurnsOf size calls later others
 
--- Over a store, where no group was open: the turns up to a last *now* are calls that were served, each over where
--- frames are handed out again, or at a *now*.
+-- Over a store without an open group: the turns up to a last *now* are calls that were served, each of which ends
+-- when frames are sent, or at a *now*.
 abbrev pub TurnsAreCalls : {D : Type 0} → Ghosts D → Type 0
 TurnsAreCalls {D} g =
-    (old new : SharedEngine D g) (start : Store D g) (asks : List (Owned Brought)) (tolds : List (List (ℕ × List ℕ)))
+    (old new : Engine D g) (start : Store D g) (asks : List (Owned Brought)) (tolds : List (List (ℕ × List ℕ)))
     → old.storage ≡ Disk start → old.desk.open_group.replies.items ≡ [] → old.desk.open_group.batch ≡ []
     → AllTurned asked_written old (asks ++ Now ∷ []) tolds new
     → (calls : List (Done ClientReply)) × AreTurnsOf old.desk.open_group.size calls (asks ++ Now ∷ []) tolds
@@ -83,45 +83,42 @@ TurnsAreCalls {D} g =
 
 -- ---- a session
 
--- all turns that were made: what was asked, then ends of clients, and a last *now*
+-- all turns that were made: the requests, then ends of clients, and a last *now*
 abbrev pub turns_asked : {D : Type 0} {g : Ghosts D} {input input' : Read} {out out' : Output}
-    {old new : SharedEngine D g} {why : SessionEnd}
+    {old new : Engine D g} {why : SessionEnd}
     → ServesClients is_replacement asked_written starting input input' out out' old new why → List (Owned Brought)
 turns_asked {why = why} is =
     parted is_replacement is.asked
     ++ (⊎_elim (λ all. ends_at why is.streams.clients) (λ fails. fails.ends) is.done ++ Now ∷ [])
 
--- the frames that were handed out at each
+-- the frames that were sent at each
 abbrev pub turns_told : {D : Type 0} {g : Ghosts D} {input input' : Read} {out out' : Output}
-    {old new : SharedEngine D g} {why : SessionEnd}
+    {old new : Engine D g} {why : SessionEnd}
     → ServesClients is_replacement asked_written starting input input' out out' old new why → List (List (ℕ × List ℕ))
 turns_told is = ⊎_elim (λ all. all.told.tolds) (λ fails. fails.loses.given ++ fails.loses.unheard) is.done
 
--- A server of many clients was given this input, and an empty writer. What was read, answered and written is what
--- `serve_shared` says: what the clients' own streams bring, in one order, and the frames of its replies. These are the
--- calls.
+-- A server received this input of many clients, none of which has a lock, and an empty writer. What was read,
+-- answered and written is as `serve_shared` states: the requests of the clients' streams, in one order, and the
+-- frames of the replies. These are the calls; and the state at the last turn, when the clients that had not ended
+-- still have their locks.
 pub record HasWrittenFrames {D : Type 0} {g : Ghosts D} (input : SharedInput) (written : WrittenFrames)
-    (old new : SharedServer D g)
-    (done : List (Done ClientReply)) : Type 0 where
+    (old : Server D g)
+    (done : List (Done ClientReply)) (last : Storage D g) (end : Shared) : Type 0 where
   pub empty : Gathered
   pub nothing : empty.bytes.items ≡ []
   pub unread : Read
+  pub new : Server D g
   pub served : HasServedClients (in_memory input.bytes.items) unread (gathered_output empty)
       (gathered_output written.output) input.group
       old.engine new.engine written.why
   pub are : AreTurnsOf input.group done (turns_asked served.serves) (turns_told served.serves)
+  pub last_is : new.engine.storage ≡ last
+  pub end_is : shared served.left.host served.left.desk.owners ≡ end
 
--- the state at its last turn, where the clients that had no end still have their locks
-abbrev pub left_by : {D : Type 0} {g : Ghosts D} {input : SharedInput} {written : WrittenFrames}
-    {old new : SharedServer D g}
-    {done : List (Done ClientReply)} → HasWrittenFrames input written old new done → Shared
-left_by is = shared is.served.left.host is.served.left.desk.owners
-
--- So where it is over a store: each call was made where the one before was over.
-abbrev pub MakesCalls : {D : Type 0} {g : Ghosts D} → SharedInput → WrittenFrames → SharedServer D g → SharedServer D g
-    → Type 0
+-- So over a store each call was made after the one before had ended.
+abbrev pub MakesCalls : {D : Type 0} {g : Ghosts D} → SharedInput → WrittenFrames → Server D g → Server D g → Type 0
 MakesCalls input written old new =
     OverStore old.engine.storage (λ store. Unit {0})
-    → (done : List (Done ClientReply)) × (is : HasWrittenFrames input written old new done)
-    × Made ServesShared old.engine.storage (shared old.engine.host old.engine.desk.owners) done new.engine.storage
-    (left_by is)
+    → (done : List (Done ClientReply)) × (end : Shared)
+    × HasWrittenFrames input written old done new.engine.storage end
+    × Made ServesShared old.engine.storage (shared old.engine.host []) done new.engine.storage end

@@ -1,4 +1,4 @@
--- What stands on a disk between two sessions, and what an opening of it makes.
+-- A disk between two sessions, and its recovery.
 use Rattle.std.specs.Prelude.{◌≡◌, ◌<◌, ℕ, List, false, [], ⊤}
 use Rattle.oa_disk.specs.Disk.{NothingPending}
 use Rattle.oa_disk.specs.Memory.{contents_of, image_of, moments_of}
@@ -30,18 +30,18 @@ use Rattle.oa_store.specs.declared.store.Store.{Store}
 use Rattle.oa_history.specs.declared.fault.HistoryFault.{HistoryFault}
 use Rattle.oa_history.specs.declared.fault.HistoryFault.TheVariants.{Format, Upgrade, Open, Checkpoint, Text, Memory}
 
--- A disk that was just made, or found after a crash: its clock stands at 0, and a crash leaves what a read gives.
+-- A disk that was just made, or found after a crash: its clock is at 0, and a crash leaves what a read returns.
 pub record IsFreshDisk (disk : MemoryDisk) : Type 0 where
   pub start : moments_of disk ≡ 0
   pub alone : NothingPending contents_of image_of disk
 
--- The disk holds a store of the state, with which a server can begin. Nobody holds a lock.
+-- The disk is a store of the state, with which a server may begin. There are no locks.
 pub record IsKept (disk : MemoryDisk) (state : State) : Type 0 where
   pub holds : HoldsState requests state (contents_of disk)
   pub begins : CanBegin state
   pub unlocked : opened state ≡ state
 
--- These are a store of format 1 of the state's library and table, with which a server can begin once it is brought to
+-- These are a store of format 1 of the state's library and table, with which a server may begin after an upgrade to
 -- banks of this size.
 pub record CanBecome (bank : ℕ) (contents : List ℕ) (state : State) : Type 0 where
   pub was : IsStoreIn One contents (canonical state.library) (held_of state)
@@ -49,19 +49,19 @@ pub record CanBecome (bank : ℕ) (contents : List ℕ) (state : State) : Type 0
   pub begins : CanBegin state
   pub unlocked : opened state ≡ state
 
--- A session of a server was begun on the disk: it serves the state, and so far nothing was asked.
+-- A session of a server was begun on the disk: it serves the state, and there were no requests yet.
 pub record Sits {S R D : Type 0} {g : Ghosts D} (t : Turns S R) (disk : D) (store : Store D g)
     (state : S) : Type 0 where
   pub goes_on : store.stopped ≡ false
   pub sits : Sitting t disk store state state []
 
--- It was opened on that very disk: nothing was written, and no more calls were made than an opening makes.
+-- It was opened on that very disk: nothing was written, and at most the calls of an opening were made.
 pub record BeginsServing {D : Type 0} {g : Ghosts D} (disk : D) (server : Server D g) (state : State) : Type 0 where
   pub host : server.engine.host ≡ state
   pub found : OverStore server.engine.storage (λ store. IsOpened g disk state.library store state.table)
   pub over : OverStore server.engine.storage (λ store. Sits requests disk store state)
 
--- Why a store that stands has no history: memory is wanting, or room on the disk, or a call of it has failed. No
+-- Why a valid store has no history: an allocation failed, the log of a disk was full, or a call of it failed. No
 -- opening was refused, and the text of each library is read.
 abbrev pub IsWanting : HistoryFault → Type 0
 IsWanting (Format fault) = ⊥
@@ -71,13 +71,13 @@ IsWanting (Checkpoint fault) = fault ≡ writes.Device devices.Write
 IsWanting (Text fault) = fault ≡ texts.Memory
 IsWanting Memory = ⊤
 
--- it says no more than that of a disk of this size: one is too small where it has no room for a store with such banks
+-- the error is one of a disk of this size: it is too small exactly if a store with such banks does not fit
 abbrev pub IsUnformatted : ℕ → ℕ → FormatFault → Type 0
 IsUnformatted bank size formats.TooSmall = size < disk_bytes (Two bank)
 IsUnformatted bank size (formats.Device fault) = ⊤
 IsUnformatted bank size formats.Memory = ⊤
 
--- Why a disk of this size has none over a new store with such banks: that, or it was not formatted.
+-- Why a disk of this size has no history over a new store with such banks: that, or it was not formatted.
 abbrev pub IsUnmade : ℕ → ℕ → HistoryFault → Type 0
 IsUnmade bank size (Format fault) = IsUnformatted bank size fault
 IsUnmade bank size (Upgrade fault) = ⊥
@@ -86,8 +86,8 @@ IsUnmade bank size (Checkpoint fault) = fault ≡ writes.Device devices.Write
 IsUnmade bank size (Text fault) = fault ≡ texts.Memory
 IsUnmade bank size Memory = ⊤
 
--- Why a store of format 1 that such banks take was not brought to them on a disk of this size: it has no room for them,
--- or memory is wanting, or a call of it has failed.
+-- Why a store of format 1 that fits into such banks was not upgraded to them on a disk of this size: they do not fit,
+-- an allocation failed, or a call of the disk failed.
 abbrev pub IsNotBrought : ℕ → ℕ → UpgradeFault → Type 0
 IsNotBrought bank size upgrades.TooSmall = size < disk_bytes (Two bank)
 IsNotBrought bank size upgrades.NotAStore = ⊥

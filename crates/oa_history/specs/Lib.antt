@@ -3,7 +3,6 @@ pub mod Framed
 pub mod Kept
 pub mod Lived
 pub mod OneGroup
-pub mod SharedLived
 pub mod Stops
 pub mod Streamed
 pub mod Survived

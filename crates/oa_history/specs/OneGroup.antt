@@ -5,8 +5,8 @@ use Rattle.oa_groups.specs.Groups.{NoneAlone, events_in, joined}
 use Rattle.oa_groups.specs.Sessions.{AnsweredCall, IsCalled}
 use Rattle.oa_groups.specs.Turns.{Exchange, Turns}
 
--- A call of no more bodies than a group has, none of which is a group of its own, is one group, unless its events fill
--- one before its end.
+-- A call with at most a group's number of bodies, none of which is a group of its own, is one group, unless its
+-- events fill one before its end.
 abbrev pub FewAreOneGroup : {S R : Type 0} → Turns S R → Type 0
 FewAreOneGroup {S} {R} t =
     (was : Bool) (first : S) (call : AnsweredCall R) (groups : List (List (Exchange R))) (count : ℕ) (is : Bool)

@@ -1,4 +1,4 @@
--- What calls of a server come to, and what a stop leaves of them, whatever its requests are.
+-- The results of a server's calls, and what a crash leaves of them, for any kind of requests.
 use Rattle.std.specs.Prelude.{◌≡◌, ℕ, ◌+◌, ◌≤◌, nat_le, Bool, false, if◌then◌else◌, List, [], ◌∷◌, ◌++◌, length}
 use Rattle.oa_disk.specs.declared.disk.Disk.{Ghosts}
 use Rattle.oa_groups.specs.Groups.{joined}
@@ -11,18 +11,18 @@ use Rattle.oa_server.specs.declared.storage.Storage.{Storage}
 
 -- ---- what was asked, and answered
 
--- A call that a server has answered, and the moment of its disk's clock at which it was over.
+-- A completed call, and the point in time of its disk's clock at which it ended.
 pub record Done (R : Type 0) : Type 0 where
   pub call : AnsweredCall R
   pub moment : ℕ
 
--- What is said of a call: the size of its groups, the storage of before and the one behind it, the state of before, the
--- bodies, the replies, and the state behind it.
+-- A property of calls: the size of groups, the storage before and after the call, the state before, the bodies, the
+-- replies, and the state after.
 abbrev pub Serving : {D : Type 0} → Ghosts D → Type 0 → Type 0 → Type 1
 Serving {D} g S R = ℕ → Storage D g → Storage D g → S → List (List ℕ) → List R → S → Type 0
 
--- Calls of a server, each made where the one before was over: this is said of each, and the moment at which it was
--- over.
+-- Calls of a server, each made after the one before had ended: each with this property, and with the point in time at
+-- which it ended.
 abbrev pub Made : {S R D : Type 0} {g : Ghosts D} → Serving g S R → Storage D g → S → List (Done R) → Storage D g → S
     → Type 0
 Made serving old first [] new last = (new ≡ old) × (last ≡ first)
@@ -32,12 +32,12 @@ Made {S} {R} {D} {g} serving old first (one ∷ calls) new last =
 
 -- ---- what it comes to
 
--- how many groups count of a call that was over at a moment, where the session is stopped at another
+-- how many groups count of a call that ended at one point in time, if the session crashes at another
 abbrev pub over_by : ℕ → ℕ → ℕ → ℕ
 over_by stop moment answered = if nat_le moment stop then answered else 0
 
--- The replies of each call are those of a run from the state at which the one before has ended, group for group, up to
--- a fault of the device. So many groups were answered by calls that were over by the stop.
+-- The replies of each call are those of a run from the state in which the one before ended, group for group, up to a
+-- fault of the device. This many groups were answered by calls that had ended by the crash.
 abbrev pub Plays : {S R : Type 0} → Turns S R → ℕ → Bool → S → List (Done R) → List (List (Exchange R)) → ℕ → Bool → S
     → Type 0
 Plays t stop was first [] groups count is last = (groups ≡ []) × (count ≡ 0) × (is ≡ was) × (first ≡ last)
@@ -46,21 +46,21 @@ Plays {S} {R} t stop was first (one ∷ calls) groups count is last =
     × (here : ℕ) × (after : ℕ) × IsCalled t was first one.call own here fails mid × (groups ≡ own ++ later)
     × (count ≡ over_by stop one.moment here + after) × Plays t stop fails mid calls later after is last
 
--- Calls from a state, and the state that a stop has left.
+-- Calls from a state, and the state that a crash has left.
 pub record Stops {S R : Type 0} (t : Turns S R) (stop : ℕ) (calls : List (Done R)) (before after : S) : Type 0 where
   -- the groups of all calls: those that were answered, and the one in which the device failed, if it did
   pub groups : List (List (Exchange R))
-  -- how many were answered by calls that were over by the stop
+  -- how many were answered by calls that had ended by the crash
   pub count : ℕ
   pub fault : Bool
   pub last : S
   pub plays : Plays t stop false before calls groups count fault last
-  -- some first groups are kept, whole, and all of those are among them
+  -- a prefix of the groups is kept, each whole, and it contains all of those
   pub done : List (List (Exchange R))
   pub later : List (List (Exchange R))
   pub parts : groups ≡ done ++ later
   pub enough : count ≤ length done
-  -- the state after is that of a run of these, opened again, and of a run of those alone that were answered as done
+  -- the state after is that of a run of these, opened again, and of a run of only their requests that were done
   pub state : S
   pub run : TurnsOver t before (joined done) state
   pub alone : TurnsOver t before (accepted t (joined done)) state

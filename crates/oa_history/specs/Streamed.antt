@@ -6,16 +6,16 @@ use Rattle.oa_stream.specs.Memory.{gathered_output}
 use Rattle.oa_stream.specs.Source.{Input as Read, in_memory}
 use Rattle.oa_stream.specs.declared.gathered.Gathered.{Gathered}
 use Rattle.oa_record.specs.Replies.{ReplyValue}
+use Rattle.oa_server.specs.Serving.{last_written}
 use Rattle.oa_server.specs.Storages.{disk_of}
-use Rattle.oa_server.specs.Talks.{HasTalked, InParts, Part, Parts}
-use Rattle.oa_server.specs.declared.server.Server.{Server}
+use Rattle.oa_server.specs.Talks.{InParts, Part, Parts, ServesSession}
 use Rattle.oa_server.specs.declared.storage.Storage.{Storage}
 use Rattle.oa_decision.specs.States.{State}
 use Rattle.oa_history.specs.Stops.{Done}
 use Rattle.oa_history.specs.declared.session.Input.{Input}
 use Rattle.oa_history.specs.declared.session.Written.{Written}
 
--- The parts of a session over a stream as calls: each is over at the moment at which its replies are handed out.
+-- The parts of a session over a stream as calls: each ends at the point in time at which its replies are sent.
 abbrev pub parts_of : {D : Type 0} {g : Ghosts D} (size : ℕ) (old new : Storage D g) (before after : State)
     (parts : List Part)
     → Parts size old new before parts after → List (Done ReplyValue)
@@ -27,7 +27,7 @@ parts_of {D} {g} size old new before after (part ∷ parts) is =
     }
     ∷ parts_of size is.0 new is.1 after parts is.3
 
--- So is what the open group held at the end, behind them.
+-- So are the requests that the open group held at the end, after them.
 abbrev pub calls_in : {D : Type 0} {g : Ghosts D} {size : ℕ} {old new : Storage D g} {before after : State}
     {bodies : List (List ℕ)}
     {handed : List (List (List ℕ))} {held : List (List ℕ)} → InParts size old new before after bodies handed held
@@ -39,15 +39,16 @@ calls_in {D} {g} {size} {old} {new} {before} {after} {bodies} {handed} {held} is
       moment = g.moment (disk_of new);
     } ∷ []
 
--- A server was given this input, and an empty writer. What was read, answered and written is what `serve_hex` and
--- `serve` say: the replies to the bodies of the input, in order, each part's behind its last call of the disk. These
--- are the parts.
-pub record HasWritten {D : Type 0} {g : Ghosts D} (input : Input) (written : Written) (old new : Server D g)
-    (done : List (Done ReplyValue)) : Type 0 where
+-- A server received this input, and an empty writer. What was read, answered and written is as `serve_hex` and
+-- `serve` state: the replies to the bodies of the input, in order, those of each part after its last call of the
+-- disk. These are the parts.
+pub record HasWritten {D : Type 0} {g : Ghosts D} (input : Input) (written : Written) (old : Storage D g)
+    (before : State)
+    (done : List (Done ReplyValue)) (new : Storage D g) (after : State) : Type 0 where
   pub empty : Gathered
   pub nothing : empty.bytes.items ≡ []
   pub unread : Read
-  pub talked : HasTalked (frames input.framing) (in_memory input.bytes.items) unread (gathered_output empty)
-      (gathered_output written.output) input.group
-      old.engine new.engine written.served
+  pub talked : ServesSession (frames input.framing) last_written (in_memory input.bytes.items) unread
+      (gathered_output empty) (gathered_output written.output) input.group
+      old new before after written.served
   pub are : done ≡ calls_in talked.in_parts

@@ -1,4 +1,4 @@
--- What calls of a server come to over a disk that fails from some call on, and what is found on it then.
+-- The results of a server's calls over a disk that fails from some call on, and what is found on it afterwards.
 use Rattle.std.specs.Prelude.{◌≡◌, ℕ, ◌+◌, ◌-◌, Bool, false, true, List, [], ◌∷◌, length, Result, IfOk, IfErr}
 use Rattle.std.specs.Global.{Vec}
 use Rattle.oa_disk.specs.Fuse.{calls_left_of, inner_of}
@@ -39,9 +39,9 @@ told_calls [] told = []
 told_calls (call ∷ calls) [] = []
 told_calls (call ∷ calls) (one ∷ told) = told_call call one ∷ told_calls calls told
 
--- Calls of a server, each made where the one before has returned: what is said of each by `run`, and how often a call
--- of the disk had failed when it had returned. Where one had failed before, the disk behind the call is the disk before
--- it (`late`).
+-- Calls of a server, each made after the one before had returned: each with the contract of `run`, and with the
+-- number of calls of the disk that had failed when it returned. If one had failed before, the disk after the call is
+-- the disk before it (`late`).
 abbrev pub Answered : {D : Type 0} {g : Ghosts D} → Storage D g → State → List ServerCall → List Told → Storage D g
     → State → Type 0
 Answered old first [] [] new last = (new ≡ old) × (last ≡ first)
@@ -57,8 +57,8 @@ AnsweredBy old calls told new =
 
 -- ---- a disk that fails from some call on
 
--- A server was opened on a disk that passes the calls before that one on to this disk, and fails each one from there
--- on. It serves the state.
+-- A server was opened on a disk that passes the calls before number `first_failing` on to this disk, and fails each
+-- one from there on. It serves the state.
 pub record BeginsOver {g : Ghosts (FuseDisk MemoryDisk)} (disk : MemoryDisk) (first_failing : ℕ)
     (server : Server (FuseDisk MemoryDisk) g) (state : State) : Type 0 where
   pub fuse : FuseDisk MemoryDisk
@@ -66,11 +66,11 @@ pub record BeginsOver {g : Ghosts (FuseDisk MemoryDisk)} (disk : MemoryDisk) (fi
   pub passes : calls_left_of fuse ≡ first_failing - 1
   pub begins : BeginsServing fuse server state
 
--- each image holds the state
+-- each image is a store of the state
 abbrev pub HoldsAlone : MemoryDisk → State → Type 0
 HoldsAlone disk state = (c : List ℕ) → image_of disk c → HoldsState requests state c
 
--- Such a server was opened, the calls were made, and it has handed the disk back.
+-- Such a server was opened, the calls were made, and it has returned the disk.
 pub record IsPlayed (disk : MemoryDisk) (first_failing : ℕ) (calls : List ServerCall) (told : List Told)
     (before : State)
     (groups : List (List (Exchange ReplyValue))) (count : ℕ) (back : MemoryDisk) : Type 0 where
@@ -79,17 +79,17 @@ pub record IsPlayed (disk : MemoryDisk) (first_failing : ℕ) (calls : List Serv
   pub last : Fused
   pub answered : AnsweredBy first.server calls told last.server
   pub handed_back : back ≡ inner_of (disk_of last.server.engine.storage)
-  -- The replies are those of a run from the state before, group for group. Where a call of the disk fails, all of the
-  -- open group is answered by that, and all that comes behind it is refused.
+  -- the replies are those of a run from the state before, group for group; if a call of the disk fails, the open
+  -- group is answered with the fault, and everything after it is refused
   pub fault : Bool
   pub state : State
   pub plays : ServesCalls requests false before (told_calls calls told) groups count fault state
-  -- so many groups were answered: all, or all but that one
+  -- this many groups were answered: all, or all but that one
   pub all : fault ≡ false → length groups ≡ count
   pub all_but_one : fault ≡ true → length groups ≡ count + 1
 
--- A server was refused on such a disk, with this library, by a fault of the device of this kind, and the disk was
--- handed back.
+-- Opening a server on such a disk, with this library, failed by a fault of the device of this kind, and the disk was
+-- returned.
 pub record IsUnopened (g : Ghosts (FuseDisk MemoryDisk)) (disk : MemoryDisk) (first_failing : ℕ) (library : TreeValue)
     (fault : DeviceFault)
     (back : MemoryDisk) : Type 0 where
@@ -100,7 +100,7 @@ pub record IsUnopened (g : Ghosts (FuseDisk MemoryDisk)) (disk : MemoryDisk) (fi
   pub handed_back : back ≡ inner_of end
   pub tells : IsNotOpened g fuse end library (Device fault)
 
--- What calls over such a disk come to, and what it may hold when it is handed back.
+-- The results of calls over such a disk, and what it may contain when it is returned.
 pub record IsWithstood (g : Ghosts (FuseDisk MemoryDisk)) (disk : MemoryDisk) (first_failing : ℕ)
     (calls : List ServerCall) (told : Result (Vec Told) DeviceFault)
     (before : State)
@@ -108,33 +108,33 @@ pub record IsWithstood (g : Ghosts (FuseDisk MemoryDisk)) (disk : MemoryDisk) (f
   pub groups : List (List (Exchange ReplyValue))
   pub count : ℕ
   pub played : IfOk told (λ all. IsPlayed disk first_failing calls all.items before groups count back)
-  -- no server was opened, which tells how it was refused, and so there is no group
+  -- no server was opened, with the fault as the reason, so there is no group
   pub unopened : IfErr told (λ fault. IsUnopened g disk first_failing before.library fault back × (groups ≡ []))
-  -- All groups that were answered are kept, and the one in which the device failed, whole or not at all: so what is
-  -- read, and so whatever a loss of power leaves.
+  -- all answered groups are kept, and the one in which the device failed, whole or not at all: in the contents, and
+  -- in whatever a crash leaves
   pub kept : (c : List ℕ) → image_of back c → IsAfter requests count before groups c
 
 -- ---- what is found then
 
--- A server was opened on the disk, whatever is pending on it, and serves the state, over a store that holds it.
+-- A server was opened on the disk, whatever is pending, and serves the state, over a store of it.
 pub record IsTakenUp {D : Type 0} {g : Ghosts D} (disk : D) (server : Server D g) (state : State) : Type 0 where
   pub host : server.engine.host ≡ state
   pub found : OverStore server.engine.storage (λ store. IsOpened g disk state.library store state.table)
   pub over : OverStore server.engine.storage (λ store. AllHoldState requests store state)
 
--- Calls over a store of a state, on a disk that fails from some call on; then the disk is opened as it was handed back,
--- by way of nothing that fails.
+-- Calls over a store of a state, on a disk that fails from some call on; then the returned disk is opened, without
+-- failures.
 pub record IsSurvivedOn (g : Ghosts (FuseDisk MemoryDisk)) (disk : MemoryDisk) (state : State) (calls : List ServerCall)
     (first_failing : ℕ) (survived : Survived) : Type 0 where
   pub back : MemoryDisk
   pub withstood : IsWithstood g disk first_failing calls survived.told state back
-  -- what is read of it
+  -- its contents
   pub kept : IsAfter requests withstood.count state withstood.groups (contents_of back)
   pub taken_up : IsTakenUp back survived.opened.server (opened kept.state)
   pub library : survived.library.items ≡ canonical kept.state.library
   pub table : survived.table ≡ held_of kept.state
 
--- Such a store is new, on a disk of so many bytes.
+-- Such a store is new, on a disk of this many bytes.
 pub record IsSurvived (g : Ghosts (FuseDisk MemoryDisk)) (bytes : ℕ) (state : State) (calls : List ServerCall)
     (first_failing : ℕ)
     (survived : Survived) : Type 0 where

@@ -1,4 +1,4 @@
-//! A checkpoint between two sessions, and its stop.
+//! A checkpoint between two sessions, and its crash.
 ghost use Rattle.std.specs.Prelude.{◌≡◌, false, IfOk, IfErr};
 ghost use Rattle.oa_disk.specs.Memory.{contents_of};
 ghost use Rattle.oa_journal.specs.Shapes.{body_bytes};
@@ -15,7 +15,8 @@ use oa_store::{OpenFault, Store};
 use oa_table::Table;
 use std::alloc::Global;
 
-/// Opens the store on the disk with its own library. As by a server it is refused where its table leaves too little room in a bank.
+/// Opens the store on the disk with its own library. As in a server, it is refused if its table leaves too little of
+/// a bank free.
 fn opened_store(alloc: Global, disk: MemoryDisk) -> Result<(Store<MemoryDisk>, Table), HistoryFault>
     ensures opened { IfOk result (λ r. IsFoundStore disk r.0 r.1) }
     ensures goes_on { IfOk result (λ r. r.0.stopped ≡ false) }
@@ -34,8 +35,8 @@ fn opened_store(alloc: Global, disk: MemoryDisk) -> Result<(Store<MemoryDisk>, T
     Ok((store, table))
 }
 
-/// Opens the store on the disk with its own library, makes a checkpoint of its table, and stops. Answers the disk as it was at
-/// the end, and the disk that the stop has left.
+/// Opens the store on the disk with its own library, makes a checkpoint of its table, and crashes. Returns the disk
+/// at the end, and the disk that the crash has left.
 pub fn checkpointed(
     alloc: Global,
     disk: MemoryDisk,

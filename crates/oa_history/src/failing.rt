@@ -16,23 +16,23 @@ use oa_server::laws::{
 use oa_store::OpenFault;
 use std::alloc::Global;
 
-/// What a call was answered, and how often a call of the disk had failed when it had returned.
+/// The replies of a call, and how many calls of the disk had failed when it returned.
 #[derive(Drop)]
 pub struct Told {
-    /// The replies to its requests, in turn.
+    /// The replies to its requests, in order.
     pub replies: Vec<Reply>,
-    /// How many calls of the disk had failed when it had returned.
+    /// How many calls of the disk had failed when it returned.
     pub failures: u64,
 }
 
-/// A server that was opened on a disk in memory by way of one that fails from some call on.
+/// A server over a disk that fails from some call on, above a disk in memory.
 #[derive(Drop)]
 pub struct Fused {
     /// The server.
     pub server: Server<FuseDisk<MemoryDisk>>,
 }
 
-/// A server over the disk, or the fault of the device that kept it from being opened, with the disk.
+/// Opens a server over the disk. Returns the fault of the device and the disk if the opening met it.
 fn opened_through(
     alloc: Global,
     disk: MemoryDisk,
@@ -76,9 +76,9 @@ fn told_by(
     Ok(told)
 }
 
-/// Opens the store on the disk with its own library, makes the calls, and hands the disk back; from call number `first_failing` of the disk
-/// on, each call of it fails. Answers what each call of the server was told, or the fault of the device that the opening has met, as it tells
-/// it.
+/// Opens the store on the disk with its own library, makes the calls, and returns the disk. Each call of the disk
+/// from number `first_failing` on fails. Returns the replies of each call of the server, or the fault of the device
+/// that the opening met.
 pub fn withstood(
     alloc: Global,
     disk: MemoryDisk,

@@ -7,25 +7,25 @@ use oa_store::{FormatFault, OpenFault, UpgradeFault, WriteFault};
 use std::alloc::{AllocError, AllocFailed};
 use thiserror::Error;
 
-/// Why sessions were not played to their end.
+/// Why sessions were not run to their end.
 #[derive(Clone, Copy, Debug, PartialEq, Eq, Error)]
 pub enum HistoryFault {
     /// The disk was not formatted.
     #[error("not formatted: {0}")]
     Format(FormatFault),
-    /// A store of format 1 was not brought to format 2.
+    /// A store of format 1 was not upgraded to format 2.
     #[error("not brought: {0}")]
     Upgrade(UpgradeFault),
-    /// A store was not opened, since memory was refused or a call of the device failed.
+    /// A store was not opened, since an allocation or a call of the device failed.
     #[error("not opened: {0}")]
     Open(OpenFault),
     /// A checkpoint was not made, since a call of the device failed.
     #[error("no checkpoint: {0}")]
     Checkpoint(WriteFault),
-    /// The text of a store's library was not read, since memory was refused.
+    /// The text of a store's library was not read, since an allocation failed.
     #[error("library: {0}")]
     Text(TextError),
-    /// Memory was refused.
+    /// An allocation failed.
     #[error("out of memory")]
     Memory,
 }

@@ -1,4 +1,4 @@
-//! A new store whose making is stopped.
+//! A new store whose formatting crashes.
 ghost use Rattle.std.specs.Prelude.{◌≤◌, IfOk, IfErr};
 ghost use Rattle.oa_disk.specs.Memory.{contents_of, moments_of};
 ghost use Rattle.oa_journal.specs.Shapes.{least_bank_bytes, most_bank_bytes};
@@ -14,8 +14,9 @@ use oa_store::format;
 use oa_typelib::Library;
 use std::alloc::Global;
 
-/// Formats the disk with the library and bodies of that size, and stops at the moment. Answers the disk as it was at the end, and the disk that the stop has left:
-/// that holds what was there but for the first byte, or no store, or the new store; and at the end the new store.
+/// Formats the disk with the library and bodies of that size, and crashes at the given point in time. Returns the
+/// disk at the end, and the disk that the crash has left: it has the old contents except for the first byte, or no
+/// store, or the new store; at the end the new store.
 pub fn formatted(
     alloc: Global,
     disk: MemoryDisk,

@@ -14,10 +14,10 @@ use oa_table::Table;
 use oa_typelib::Library;
 use std::alloc::Global;
 
-/// What was heard of all steps, and what is left.
+/// The results of all steps, and what is left.
 #[derive(Drop)]
 pub struct Lived {
-    /// Of each step what was heard of it.
+    /// The result of each step.
     pub heard: Vec<Heard>,
     /// The canonical text of the library.
     pub library: Vec<u8>,
@@ -27,7 +27,7 @@ pub struct Lived {
     pub opened: Opened,
 }
 
-/// Plays a session, or makes a checkpoint, and stops. Answers what was heard of it, and the disk that the stop has left.
+/// Runs a session, or makes a checkpoint, and crashes. Returns its result, and the disk that the crash has left.
 pub(crate) fn stepped(
     alloc: Global,
     disk: MemoryDisk,
@@ -49,17 +49,24 @@ pub(crate) fn stepped(
     }
 }
 
-/// Plays the sessions on the disk and makes the checkpoints, one after another, and opens it once more.
+/// Runs a crash history: the sessions and checkpoints on the disk, one after another, each up to its crash; then
+/// opens the disk once more.
 ///
-/// Each session opens what the stop before it has left. Its replies are those of a run from the state that was kept, a library and a table of
-/// objects, group for group; and its own stop keeps some first groups of it, whole, all that were answered among them: over a stream all whose
-/// replies had been handed out. A checkpoint keeps the state. The state that is told at last is the one that the last stop has kept. A request
-/// that was not answered with S_OK leaves no trace in it.
+/// Each session opens what the crash before it has left. Its replies are those of a run from the recovered state, a
+/// library and a table of objects, group for group. Its own crash keeps a prefix of its groups, each whole, that
+/// contains all answered ones; over a stream all those whose replies had been sent. A checkpoint keeps the state. The
+/// state that is returned at the end is the one that the last crash has kept. A request that was not answered with
+/// S_OK leaves no trace in it.
 ///
-/// The disk holds a store, whatever its banks, new or with objects: one that `formatted` or `upgraded` has left, or what was left by steps.
+/// In a session of many clients, the requests of all clients have one order, that in which their last bytes came,
+/// with the ends of these clients among them. The run is one over these, and each reply goes to the client that made
+/// the request, in a frame of its own.
 ///
-/// Memory is taken for each disk's calls and for what they write. An Err says that it was refused, or that a disk has no room for a call
-/// more: no opening is refused, and the text of a store's library is read.
+/// The disk must be a store with banks of any size, new or with objects: one that `formatted` or `upgraded` has left,
+/// or a history.
+///
+/// Memory is allocated for each disk's calls and for what they write. Err: an allocation failed, or the log of a disk
+/// was full. No recovery fails otherwise.
 pub fn relive_on(alloc: Global, disk: MemoryDisk, steps: &[Step]) -> Result<Lived, HistoryFault>
     requires { IsFreshDisk disk }
     ensures lived { IfOk result (λ lived. (state : State) → IsKept disk state
@@ -83,10 +90,10 @@ pub fn relive_on(alloc: Global, disk: MemoryDisk, steps: &[Step]) -> Result<Live
     })
 }
 
-/// Formats the disk with the library and bodies of that size, and then does what `relive_on` does. The state at first is that of the
-/// library and no objects.
+/// Formats the disk with the library and bodies of that size, and then runs a crash history as `relive_on` does. The
+/// first state is that of the library without objects.
 ///
-/// An Err says what it says there, or that the disk was not formatted: where it has no room for a store, too.
+/// Err: as of `relive_on`, or the disk was not formatted, also because it is too small for a store.
 pub fn relive(
     alloc: Global,
     library: &Library,

@@ -23,7 +23,8 @@ use oa_table::Table;
 use oa_typelib::Library;
 use std::alloc::Global;
 
-/// A disk with a store of this library and no objects, with bodies of that size, as it is found after its making.
+/// Returns a disk with a store of this library and no objects, with bodies of that size, as it is found after its
+/// formatting.
 pub(crate) fn begun(
     alloc: Global,
     disk: MemoryDisk,
@@ -46,7 +47,7 @@ pub(crate) fn begun(
     Ok(disk.crash(disk.moments(), Tear::Kept)?)
 }
 
-/// A disk that holds what is read of this one, all of it on the device.
+/// Returns a disk with the contents of this one, all of them on the device.
 fn copied(disk: &MemoryDisk) -> Result<MemoryDisk, HistoryFault>
     ensures contents { IfOk result (λ copy. contents_of copy ≡ contents_of disk.now) }
     ensures wanting { IfErr result (λ fault. fault ≡ Memory) }
@@ -54,7 +55,8 @@ fn copied(disk: &MemoryDisk) -> Result<MemoryDisk, HistoryFault>
     Ok(disk.crash(disk.moments(), Tear::Kept)?)
 }
 
-/// The text of the library, and the table, of the store that the disk holds. A copy of the disk is read, so that its clock stays.
+/// Returns the text of the library, and the table, of the store on the disk. It reads a copy of the disk, so the
+/// disk's clock does not advance.
 pub(crate) fn shown(alloc: Global, disk: &MemoryDisk) -> Result<(Vec<u8>, Table), HistoryFault>
     ensures shown { IfOk result (λ r. IsStore (contents_of disk.now) r.0.items r.1) }
     ensures wanting { IfErr result (λ fault. (state : State) → HoldsState requests state (contents_of disk.now) → IsWanting fault) }
@@ -66,7 +68,7 @@ pub(crate) fn shown(alloc: Global, disk: &MemoryDisk) -> Result<(Vec<u8>, Table)
     }
 }
 
-/// The library of the store that the disk holds.
+/// Returns the library of the store on the disk.
 pub(crate) fn library_on(alloc: Global, disk: &MemoryDisk) -> Result<Library, HistoryFault>
     ensures kept { IfOk result (λ library. (state : State) → HoldsState requests state (contents_of disk.now)
         → IsChecked state.library → library ≡ state.library) }
@@ -84,7 +86,7 @@ pub(crate) fn library_on(alloc: Global, disk: &MemoryDisk) -> Result<Library, Hi
     }
 }
 
-/// Opens the store that the disk holds, with its own library.
+/// Opens the store on the disk with its own library.
 pub(crate) fn reopened(alloc: Global, disk: MemoryDisk) -> Result<Opened, HistoryFault>
     requires { IsFreshDisk disk }
     ensures begins { IfOk result (λ opened. (state : State) → IsKept disk state → BeginsServing disk opened.server state) }

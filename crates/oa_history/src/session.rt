@@ -1,26 +1,26 @@
-//! What a session asks, and what is heard of it.
+//! The requests of a session, and its result.
 ghost use Rattle.std.specs.Prelude.{◌≡◌, ◌≤◌};
 ghost use Rattle.oa_model.specs.Limits.{max_group};
 
 use oa_disk::{MemoryDisk, Tear};
 use oa_frame::Framing;
 use oa_record::Reply;
-use oa_server::{Served, Server};
+use oa_server::{Served, Server, SessionEnd};
 use oa_stream::Gathered;
 
-/// One call of a server: requests, of which so many are a group.
+/// One call of a server: requests in groups of a size.
 #[derive(Drop)]
 pub struct ServerCall {
-    /// The requests' bodies, in turn.
+    /// The requests' bodies, in order.
     pub bodies: Vec<Vec<u8>>,
-    /// How many requests a group has at most.
+    /// The greatest number of requests of a group.
     pub group: usize,
     ghost some: { 1 ≤ group },
     ghost few: { group ≤ max_group },
 }
 
 impl ServerCall {
-    /// These requests, in groups of 1 to 1,024.
+    /// Makes a call of these requests, in groups of 1 to 1,024.
     pub fn new(bodies: Vec<Vec<u8>>, group: usize) -> ServerCall
         requires some { 1 ≤ group }
         requires few { group ≤ max_group }
@@ -31,21 +31,21 @@ impl ServerCall {
     }
 }
 
-/// What a server reads in a session over a stream, and in groups of how many requests it answers.
+/// The input of a session over a stream, and the size of its groups.
 #[derive(Drop)]
 pub struct Input {
-    /// The bytes that are read.
+    /// The bytes of the input.
     pub bytes: Vec<u8>,
     /// Whether they are lines of hexadecimal digits, or records.
     pub framing: Framing,
-    /// How many requests a group has at most.
+    /// The greatest number of requests of a group.
     pub group: usize,
     ghost some: { 1 ≤ group },
     ghost few: { group ≤ max_group },
 }
 
 impl Input {
-    /// These bytes, whose requests are answered in groups of 1 to 1,024.
+    /// Makes an input of these bytes, whose requests are answered in groups of 1 to 1,024.
     pub fn new(bytes: Vec<u8>, framing: Framing, group: usize) -> Input
         requires some { 1 ≤ group }
         requires few { group ≤ max_group }
@@ -61,78 +61,114 @@ impl Input {
     }
 }
 
-/// What is asked in a session: calls of a server, one after another, or what it reads from a stream.
+/// The input of a session of many clients, and the size of its groups.
+#[derive(Drop)]
+pub struct SharedInput {
+    /// The bytes of the input: frames, each with bytes of one client's stream.
+    pub bytes: Vec<u8>,
+    /// The greatest number of requests of a group, of any clients.
+    pub group: usize,
+    ghost some: { 1 ≤ group },
+    ghost few: { group ≤ max_group },
+}
+
+impl SharedInput {
+    /// Makes an input of these frames, whose requests are answered in groups of 1 to 1,024.
+    pub fn new(bytes: Vec<u8>, group: usize) -> SharedInput
+        requires some { 1 ≤ group }
+        requires few { group ≤ max_group }
+        ensures bytes { result.bytes ≡ bytes }
+        ensures group { result.group ≡ group }
+    {
+        SharedInput { bytes, group }
+    }
+}
+
+/// The requests of a session: calls of a server, one after another, or a stream of one client or of many.
 #[derive(Drop)]
 pub enum Asked {
     /// Calls of a server, one after another.
     Calls(Vec<ServerCall>),
-    /// What a server reads from a stream.
+    /// The stream of one client.
     Stream(Input),
+    /// The stream of many clients.
+    Frames(SharedInput),
 }
 
-/// What a session asks, and where it is stopped.
+/// A session, and its crash.
 #[derive(Drop)]
 pub struct Session {
-    /// What it asks.
+    /// Its requests.
     pub asked: Asked,
-    /// The moment of its stop, by its disk's clock, which begins at 0 with its opening: moment `2k - 1` lies within call k of the disk,
-    /// and moment `2k` comes after it. A moment behind the session's end is its end.
+    /// The point in time of its crash, by its disk's clock, which begins at 0 with the opening: `2k - 1` lies within
+    /// call k of the disk, and `2k` after it. A point after the session's end counts as its end.
     pub moment: u64,
-    /// What becomes of what was pending then.
+    /// How the crash tears pending writes.
     pub tear: Tear,
 }
 
-/// Where a checkpoint is stopped: at a moment of its disk's clock, as a session is.
+/// The crash of a checkpoint: a point in time of its disk's clock, as for a session.
 #[derive(Clone, Copy, Debug, PartialEq, Eq)]
 pub struct Stop {
-    /// The moment of the stop. One behind the checkpoint's end is its end.
+    /// The point in time of the crash. A point after the checkpoint's end counts as its end.
     pub moment: u64,
-    /// What becomes of what was pending then.
+    /// How the crash tears pending writes.
     pub tear: Tear,
 }
 
-/// What is done on a store: a session of a server, or a checkpoint between two of them.
+/// A step of a crash history: a session of a server, or a checkpoint between two of them.
 #[derive(Drop)]
 pub enum Step {
-    /// A session, with its stop.
+    /// A session, with its crash.
     Session(Session),
-    /// A checkpoint, with its stop.
+    /// A checkpoint, with its crash.
     Checkpoint(Stop),
 }
 
-/// What a call was answered, and the moment at which it had returned.
+/// The replies of a call, and the point in time at which it returned.
 #[derive(Drop)]
 pub struct Answer {
-    /// The replies to its requests, in turn.
+    /// The replies to its requests, in order.
     pub replies: Vec<Reply>,
-    /// The moment at which it had returned, by its disk's clock.
+    /// The point in time at which it returned, by its disk's clock.
     pub moment: u64,
 }
 
-/// What was written in a session over a stream, and how it went.
+/// The output of a session over a stream, and how it ended.
 #[derive(Drop)]
 pub struct Written {
-    /// The writer, with what was written on it.
+    /// The writer, with the output.
     pub output: Gathered,
     /// How many requests were answered, and why the session ended.
     pub served: Served,
 }
 
-/// What was answered in a session: each of its calls, or on a stream.
+/// The output of a session of many clients, and why it ended.
 #[derive(Drop)]
-pub enum Replies {
-    /// What each call was answered, in turn.
-    Calls(Vec<Answer>),
-    /// What was written on a stream.
-    Stream(Written),
+pub struct WrittenFrames {
+    /// The writer, with the frames.
+    pub output: Gathered,
+    /// Why the session ended.
+    pub why: SessionEnd,
 }
 
-/// What was heard of a session: its replies, and its disk as it was at its end. A checkpoint has no calls.
+/// The replies of a session: of each of its calls, or on a stream, to one client or to many.
+#[derive(Drop)]
+pub enum Replies {
+    /// The replies of each call, in order.
+    Calls(Vec<Answer>),
+    /// The output to one client.
+    Stream(Written),
+    /// The output to many clients.
+    Frames(WrittenFrames),
+}
+
+/// The result of a step: the replies of a session, none for a checkpoint, and its disk at its end.
 #[derive(Drop)]
 pub struct Heard {
     /// Its replies.
     pub replies: Replies,
-    /// Its disk as it was at its end.
+    /// Its disk at its end.
     pub disk: MemoryDisk,
 }
 

@@ -1,21 +1,20 @@
-//! One session, and its stop.
-ghost use Rattle.std.specs.Prelude.{◌≡◌, List, IfOk, IfErr, length};
-ghost use Rattle.oa_disk.specs.Memory.{contents_of};
+//! One session, and its crash.
+ghost use Rattle.std.specs.Prelude.{◌≡◌, min, IfOk, IfErr, length};
+ghost use Rattle.oa_disk.specs.Memory.{IsTornAt, contents_of, moments_of};
 ghost use Rattle.oa_decision.specs.States.{State};
 ghost use Rattle.oa_history.specs.Kept.{IsKept, IsFreshDisk, IsWanting};
-ghost use Rattle.oa_history.specs.Lived.{HasAsked, IsHeardUntilStop, calls_of};
-ghost use Rattle.oa_history.specs.Stops.{Done, Made};
-ghost use Rattle.oa_record.specs.Replies.{ReplyValue};
+ghost use Rattle.oa_history.specs.Lived.{IsHeardUntilStop, calls_of};
+ghost use Rattle.oa_history.specs.Stops.{Made};
 ghost use Rattle.oa_server.specs.Storages.{Serves};
 ghost use Rattle.oa_history.specs.declared.fault.HistoryFault.TheVariants.{Memory};
 
 use crate::reopening::reopened;
-use crate::streaming::written;
+use crate::streaming::{framed, written};
 use crate::{Answer, Asked, Heard, HistoryFault, Opened, Replies, ServerCall, Session};
-use oa_disk::MemoryDisk;
+use oa_disk::{Disk, MemoryDisk};
 use oa_server::Server;
 use oa_server::laws::{
-    a_stop_keeps_what_was_answered, no_trace_of_groups, sessions_go_on,
+    a_stop_keeps_what_was_answered, many_clients, no_trace_of_groups, sessions_go_on,
     what_was_served_is_served_again,
 };
 use std::alloc::Global;
@@ -40,30 +39,24 @@ fn answered(
     Ok(answers)
 }
 
-/// Asks a server what a session asks.
-fn replied(
-    alloc: Global,
-    server: &mut Server<MemoryDisk>,
-    asked: &Asked,
-) -> Result<Replies, HistoryFault>
-    ensures asked { IfOk result (λ replies. (done : List (Done ReplyValue)) × HasAsked asked.now replies server.old server.new done
-        × Made Serves server.old.engine.storage server.old.engine.host done server.new.engine.storage server.new.engine.host) }
+/// Returns the result of a session whose server has returned this disk, and the disk that its crash has left.
+fn cut(
+    session: &Session,
+    replies: Replies,
+    disk: MemoryDisk,
+) -> Result<(Heard, MemoryDisk), HistoryFault>
+    ensures heard { IfOk result (λ r. (r.0.replies ≡ replies) × (r.0.disk ≡ disk)) }
+    ensures settled { IfOk result (λ r. IsFreshDisk r.1) }
+    ensures torn { IfOk result (λ r. IsTornAt disk session.now.tear (min session.now.moment (moments_of disk)) (contents_of r.1)) }
+    ensures left { IfOk result (λ r. ⟦<MemoryDisk as Disk>⟧.image_since disk (min session.now.moment (moments_of disk)) (contents_of r.1)) }
     ensures wanting { IfErr result (λ fault. fault ≡ Memory) }
 {
-    match asked {
-        Asked::Calls(calls) => {
-            let answers = answered(alloc, server, calls.as_slice())?;
-            Ok(Replies::Calls(answers))
-        }
-        Asked::Stream(input) => {
-            let written = written(alloc, server, input)?;
-            Ok(Replies::Stream(written))
-        }
-    }
+    let left = disk.crash(session.moment.min(disk.moments()), session.tear)?;
+    Ok((Heard { replies, disk }, left))
 }
 
-/// Plays one session: opens the store on the disk with its own library, asks what it asks, and stops. Answers what was heard, and the disk
-/// that the stop has left.
+/// Runs one session, of one client or of many: opens the store on the disk with its own library, makes its requests,
+/// and crashes. Returns its result, and the disk that the crash has left.
 pub fn stopped(
     alloc: Global,
     disk: MemoryDisk,
@@ -79,9 +72,20 @@ pub fn stopped(
     what_was_served_is_served_again();
     sessions_go_on::<MemoryDisk>();
     a_stop_keeps_what_was_answered::<MemoryDisk>();
+    many_clients::<MemoryDisk>();
     let Opened { mut server } = reopened(alloc, disk)?;
-    let replies = replied(alloc, &mut server, &session.asked)?;
-    let disk = server.into_disk();
-    let left = disk.crash(session.moment.min(disk.moments()), session.tear)?;
-    Ok((Heard { replies, disk }, left))
+    match &session.asked {
+        Asked::Calls(calls) => {
+            let answers = answered(alloc, &mut server, calls.as_slice())?;
+            cut(session, Replies::Calls(answers), server.into_disk())
+        }
+        Asked::Stream(input) => {
+            let written = written(alloc, &mut server, input)?;
+            cut(session, Replies::Stream(written), server.into_disk())
+        }
+        Asked::Frames(input) => {
+            let written = framed(alloc, &mut server, input)?;
+            cut(session, Replies::Frames(written), server.into_disk())
+        }
+    }
 }

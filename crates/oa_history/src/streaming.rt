@@ -1,25 +1,28 @@
-//! What a server answers on a stream in memory.
+//! Sessions over streams in memory, of one client and of many.
 ghost use Rattle.std.specs.Prelude.{◌≡◌, List, IfOk, IfErr};
+ghost use Rattle.oa_history.specs.Framed.{MakesCalls};
 ghost use Rattle.oa_history.specs.Stops.{Done, Made};
 ghost use Rattle.oa_record.specs.Replies.{ReplyValue};
 ghost use Rattle.oa_server.specs.Storages.{Serves};
 ghost use Rattle.oa_history.specs.Streamed.{HasWritten};
 ghost use Rattle.oa_history.specs.declared.fault.HistoryFault.TheVariants.{Memory};
 
-use crate::{HistoryFault, Input, Written};
+use crate::laws::turns_are_calls;
+use crate::{HistoryFault, Input, SharedInput, Written, WrittenFrames};
 use oa_disk::MemoryDisk;
 use oa_frame::Framing;
 use oa_server::Server;
 use oa_stream::{Ahead, Gathered};
 use std::alloc::Global;
 
-/// Answers the requests of the input on a writer in memory.
+/// Serves one client, with this input, on a writer in memory.
 pub(crate) fn written(
     alloc: Global,
     server: &mut Server<MemoryDisk>,
     input: &Input,
 ) -> Result<Written, HistoryFault>
-    ensures written { IfOk result (λ written. (done : List (Done ReplyValue)) × HasWritten input.now written server.old server.new done
+    ensures written { IfOk result (λ written. (done : List (Done ReplyValue))
+        × HasWritten input.now written server.old.engine.storage server.old.engine.host done server.new.engine.storage server.new.engine.host
         × Made Serves server.old.engine.storage server.old.engine.host done server.new.engine.storage server.new.engine.host) }
     ensures wanting { IfErr result (λ fault. fault ≡ Memory) }
 {
@@ -30,4 +33,20 @@ pub(crate) fn written(
         Framing::Records => server.serve(&mut reader, &mut output, input.group)?,
     };
     Ok(Written { output, served })
+}
+
+/// Serves many clients, with this input of frames, on a writer in memory.
+pub(crate) fn framed(
+    alloc: Global,
+    server: &mut Server<MemoryDisk>,
+    input: &SharedInput,
+) -> Result<WrittenFrames, HistoryFault>
+    ensures written { IfOk result (λ written. MakesCalls input.now written server.old server.new) }
+    ensures wanting { IfErr result (λ fault. fault ≡ Memory) }
+{
+    turns_are_calls::<MemoryDisk>();
+    let mut reader = Ahead::new(alloc, input.bytes.as_slice())?;
+    let mut output = Gathered::new(Vec::new(alloc));
+    let why = server.serve_shared(&mut reader, &mut output, input.group)?;
+    Ok(WrittenFrames { output, why })
 }

@@ -1,4 +1,4 @@
-//! What is found behind calls over a disk that fails.
+//! A session over a disk that fails, and what is found after it.
 ghost use Rattle.std.specs.Prelude.{◌≤◌, IfOk, IfErr};
 ghost use Rattle.oa_disk.specs.Memory.{contents_of};
 ghost use Rattle.oa_groups.specs.Runs.{HoldsState};
@@ -21,20 +21,20 @@ use oa_table::Table;
 use oa_typelib::Library;
 use std::alloc::Global;
 
-/// What calls were told over a disk that fails from some call on, and what was found on it then.
+/// The replies of calls over a disk that fails from some call on, and what was found on it afterwards.
 #[derive(Drop)]
 pub struct Survived {
-    /// What each call of the server was told, or the fault of the device that its opening has met.
+    /// The replies of each call of the server, or the fault of the device that its opening met.
     pub told: Result<Vec<Told>, DeviceFault>,
     /// The canonical text of the library that was found.
     pub library: Vec<u8>,
     /// The table of objects that was found.
     pub table: Table,
-    /// A server that was opened on the disk that was handed back.
+    /// A server that was opened on the returned disk.
     pub opened: Opened,
 }
 
-/// Opens the store that the disk holds, whatever is pending on it, with its own library.
+/// Opens the store on the disk with its own library, whatever is pending.
 fn taken_up(alloc: Global, disk: MemoryDisk) -> Result<Opened, HistoryFault>
     ensures taken { IfOk result (λ r. (state : State) → HoldsState requests state (contents_of disk) → CanBegin state
         → IsTakenUp disk r.server (opened state)) }
@@ -51,14 +51,15 @@ fn taken_up(alloc: Global, disk: MemoryDisk) -> Result<Opened, HistoryFault>
     }
 }
 
-/// Opens a server on the disk, makes the calls, and takes the disk back; from call number `first_failing` of the disk on, which is counted
-/// from the opening's first, each call of it fails. Then the disk is opened as it was handed back, and there no call fails.
+/// Opens a server on the disk, makes the calls, and takes the disk back. Each call of the disk from number
+/// `first_failing` on, counted from the opening's first, fails. Then it opens the returned disk, without failures.
 ///
-/// The replies are those of a run, group for group, up to the group in which the device fails: all of that is answered STG_E_WRITEFAULT,
-/// and what comes behind it E_FAIL, without a call of the disk. What is found then is the state after all groups that were answered, with
-/// the one in which the device failed or without it, whole or not at all. Where the opening has met the fault, it is the state of before.
+/// The replies are those of a run, group for group, up to the group in which the device fails: that group gets
+/// STG_E_WRITEFAULT, and later requests E_FAIL, without a call of the disk. The recovered state is the one after all
+/// answered groups, with the group in which the device failed or without it. If the opening met the fault, it is the
+/// old state.
 ///
-/// The disk holds a store, as for `relive_on`; an Err says what it says of that.
+/// The disk must be a store, as for `relive_on`; Err as there.
 pub fn survive_on(
     alloc: Global,
     disk: MemoryDisk,
@@ -84,7 +85,7 @@ pub fn survive_on(
 
 /// Formats the disk with the library and bodies of that size, and then does what `survive_on` does.
 ///
-/// An Err says what it says of `relive`.
+/// Err: as of `relive`.
 pub fn survive(
     alloc: Global,
     library: &Library,

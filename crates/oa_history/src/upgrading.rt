@@ -1,4 +1,4 @@
-//! A store of format 1 that is brought to format 2, and the stop of that.
+//! An upgrade of a store from format 1 to format 2, and its crash.
 ghost use Rattle.std.specs.Prelude.{◌≤◌, IfOk, IfErr};
 ghost use Rattle.oa_disk.specs.Memory.{contents_of, moments_of};
 ghost use Rattle.oa_journal.specs.Shapes.{least_bank_bytes, most_bank_bytes};
@@ -13,9 +13,9 @@ use oa_store::laws::what_can_be_brought_is_not_refused;
 use oa_store::upgrade;
 use std::alloc::Global;
 
-/// Brings the store of format 1 on the disk to format 2 with bodies of that size, and stops. Answers the disk as it was at the end, and the
-/// disk that the stop has left: that holds the same store in the old format or in the new one, and at the end in the new one, with which a
-/// server can begin where it could with a state of such banks.
+/// Upgrades the store of format 1 on the disk to format 2 with bodies of that size, and crashes. Returns the disk at
+/// the end, and the disk that the crash has left: it is the same store in the old format or the new one, at the end
+/// in the new one. A server may begin with it if it could with a state of such banks.
 pub fn upgraded(
     alloc: Global,
     disk: MemoryDisk,

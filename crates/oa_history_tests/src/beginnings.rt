@@ -1,4 +1,4 @@
-//! Histories that begin with other banks than the least, and with a store of format 1.
+//! Histories with larger banks than the smallest, and histories of a store of format 1.
 ghost use Rattle.std.specs.Prelude.{IfSome};
 ghost use Rattle.oa_history.specs.Kept.{IsFreshDisk};
 
@@ -16,7 +16,7 @@ const AT_END: Stop = Stop {
     tear: Tear::Lost,
 };
 
-/// A session of these requests, each a group, that is stopped at its end.
+/// Returns a session of these requests, one per group, with a crash at its end.
 fn session_of(alloc: Global, lines: &[&str]) -> Option<Step> {
     Some(Step::Session(Session {
         asked: Asked::Calls(calls_of(alloc, lines, 1)?),
@@ -25,7 +25,7 @@ fn session_of(alloc: Global, lines: &[&str]) -> Option<Step> {
     }))
 }
 
-/// A session of these requests, and one that reads.
+/// Returns a session of these requests, and a session that reads.
 fn steps_of(alloc: Global, lines: &[&str]) -> Option<Vec<Step>> {
     let mut steps = Vec::new(alloc);
     steps.push(session_of(alloc, lines)?).ok()?;
@@ -33,7 +33,7 @@ fn steps_of(alloc: Global, lines: &[&str]) -> Option<Vec<Step>> {
     Some(steps)
 }
 
-/// Whether a history holds all requests of the first session at its end.
+/// Returns whether all requests of the first session are kept at the end of a history.
 fn holds_all(alloc: Global, library: &Library, lived: &mut Lived) -> bool {
     let Some(last) = lived.heard.last() else {
         return false;
@@ -43,7 +43,7 @@ fn holds_all(alloc: Global, library: &Library, lived: &mut Lived) -> bool {
         && are_told(library, lived.library.as_slice(), &lived.table, 5)
 }
 
-/// A history over banks of 40 MiB.
+/// Runs a history with banks of 40 MiB.
 fn over_larger_banks(alloc: Global) -> Option<bool> {
     let library = library(alloc)?;
     let disk = MemoryDisk::new(alloc, 117_448_704, 200, 4000).ok()?;
@@ -63,13 +63,14 @@ fn lay(disk: &mut MemoryDisk, at: usize, bytes: &[u8]) -> Option<()> {
     }
 }
 
-/// The group that creates object 1 of the coclass, behind the gate before it.
+/// The gate byte of the group that creates object 1 of the coclass, and the group.
 static CREATED: [u8; 27] = [
     1, 21, 0, 0, 0, 1, 1, 0, 0, 0, 0x44, 0x33, 0x22, 0x11, 0x66, 0x55, 0x88, 0x77, 0x99, 0xaa,
     0xbb, 0xcc, 0xdd, 0xee, 0xff, 3, 0,
 ];
 
-/// A store of format 1 of the library: in bank 0 its head, the library, a snapshot of no objects, and that group.
+/// Returns a store of format 1 with the library: in bank 0 the head, the library, a snapshot of no objects, and that
+/// group.
 fn old_store(alloc: Global, library: &Library) -> Option<MemoryDisk>
     ensures { IfSome result IsFreshDisk }
 {
@@ -87,7 +88,7 @@ fn old_store(alloc: Global, library: &Library) -> Option<MemoryDisk>
     left_by(&disk, Tear::Kept)
 }
 
-/// Such a store, brought to format 2.
+/// Returns such a store after an upgrade to format 2.
 fn new_store_of(alloc: Global, library: &Library) -> Option<MemoryDisk>
     ensures { IfSome result IsFreshDisk }
 {
@@ -97,7 +98,7 @@ fn new_store_of(alloc: Global, library: &Library) -> Option<MemoryDisk>
     }
 }
 
-/// A history over it, in which the requests behind the first one are made.
+/// Runs a history on the upgraded store, with all requests of the first session except the first.
 fn over_an_old_store(alloc: Global) -> Option<bool> {
     let library = library(alloc)?;
     let steps = steps_of(alloc, first().get(1..)?)?;
@@ -107,7 +108,7 @@ fn over_an_old_store(alloc: Global) -> Option<bool> {
     }
 }
 
-/// The same over a disk whose calls do not fail, by `survive_on`.
+/// Runs this history with `survive_on`, on a disk whose calls do not fail.
 fn survives_over_an_old_store(alloc: Global) -> Option<bool> {
     let library = library(alloc)?;
     let calls = calls_of(alloc, first().get(1..)?, 1)?;

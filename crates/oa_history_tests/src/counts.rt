@@ -1,31 +1,34 @@
-//! How often the disk is called for the script, and how many moments its clock has then: by the calls that docs/store.md counts.
+//! How many calls of the disk the script makes, and the time on the clock of the disk then. docs/store.md counts
+//! these calls.
 ghost use Rattle.std.specs.Prelude.{◌≡◌, ◌+◌, ◌*◌, ◌<◌, ◌≤◌};
 
-/// The calls of an opening: a sync, and reads of the first byte, of the selector, of the head three times, of the library, of the
-/// snapshot, and of the first gate. With that one all groups of the script are read.
+/// The calls of an open: a sync, and reads of the first byte, of the selector, of the head three times, of the
+/// library, of the snapshot, and of the first gate byte. The last read returns all groups of the script.
 pub const OPENING: u64 = 9;
 
-/// Those of a group's commit: its bytes, a sync, its gate, a sync.
+/// The calls of a commit of a group: its bytes, a sync, its gate byte, a sync.
 pub const COMMIT: u64 = 4;
 
-/// Those of a checkpoint: the head, the body in one piece, a sync, the selector, a sync.
+/// The calls of a checkpoint: the head, the body in one piece, a sync, the selector, a sync.
 pub const CHECKPOINT: u64 = 5;
 
-/// The moments of a session of so many groups, each with an event: its start, and two of each call of the disk.
+/// Returns the number of crash points of a session of this many groups, each with a log record: its start, and two
+/// for each call of the disk.
 pub fn session_moments(groups: u16) -> u64
     ensures { result ≡ 19 + 8 * groups }
 {
     1 + 2 * (OPENING + COMMIT * u64::from(groups))
 }
 
-/// Those of a checkpoint, and of the opening before it.
+/// Returns the number of crash points of a checkpoint and of the open before it.
 pub fn checkpoint_moments() -> u64
     ensures { result ≡ 29 }
 {
     1 + 2 * (OPENING + CHECKPOINT)
 }
 
-/// How many groups of a session, each with an event, are over at one of its moments: the last call of their commits has ended.
+/// Returns how many groups of a session, each with a log record, are committed at a point in time: the last call of
+/// their commits has ended.
 pub fn groups_over(moment: u64) -> u64
     ensures all { moment < 26 + 8 * result }
     ensures no_more { 0 < result → 18 + 8 * result ≤ moment }

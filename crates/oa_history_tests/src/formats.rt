@@ -1,11 +1,12 @@
-//! A format answers wherever it is stopped. What its stop leaves is shown of the program (`tests/program/test_crashes.py`).
+//! A format with a crash at each point in time returns. What each crash leaves is a test of the program
+//! (`tests/program/test_crashes.py`).
 use crate::script::{BANK, library, new_disk};
 use oa_disk::Tear;
 use oa_history::formatted;
 use std::alloc::Global;
 use std::rt::HostRuntime;
 
-/// The eight calls of a format end at moment 16.
+/// Crashes a format at each point in time. Its eight calls end at point 16.
 fn answers(alloc: Global) -> Option<()> {
     let library = library(alloc)?;
     for moment in 0..17u64 {

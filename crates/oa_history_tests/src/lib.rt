@@ -1,9 +1,10 @@
-//! Tests of sessions on a disk in memory that are stopped at every moment, or fail at every call, as a caller of
-//! oa_history sees them.
+//! Tests of sessions on a disk in memory that crash at each point in time, or fail at each call, through the
+//! functions of oa_history.
 //!
-//! Its contract: that of every function, to be safe; how often a script is stopped, opened and fails is counted, and held.
+//! Contract: safety, as of every function; the tests also check the number of crashes, opens and failures of a
+//! script.
 //!
-//! What stands on it: no crate.
+//! Used by no crate.
 #![tactic(auto)]
 
 #[cfg(test)]

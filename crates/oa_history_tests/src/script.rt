@@ -1,5 +1,5 @@
-//! One script in two sessions, with a checkpoint between them: what is asked, what is answered, what is read after so many of its
-//! requests, and how the tests play it.
+//! A script of two sessions with a checkpoint between them: the requests, the replies, the values that are read after
+//! each prefix of the requests, and functions that run the script.
 ghost use Rattle.std.specs.Prelude.{◌≤◌, IfSome};
 ghost use Rattle.oa_history.specs.Kept.{IsFreshDisk};
 
@@ -19,7 +19,8 @@ const SMALL: &str = "[uuid(11223344-5566-7788-99AA-BBCCDDEEFF01), version(1.0)] 
 [uuid(11223344-5566-7788-99AA-BBCCDDEEFF02)] dispinterface DItem { properties: [id(1)] long Count; [id(2)] BSTR Name; [id(8)] SAFEARRAY(short) Grid; }
 [uuid(11223344-5566-7788-99AA-BBCCDDEEFF03)] coclass Item { [default] dispinterface DItem; } }";
 
-/// An object is made, and its count, its name and its grid are put; the grid gets another first bound.
+/// The first session creates an object, puts its count, its name and its grid, and changes the first bound of the
+/// grid.
 static FIRST: [&str; 5] = [
     "0100000001000000443322116655887799aabbccddeeff03",
     "02000000040000000100000001000000000000000000000000000000000000000000000000000000000000000000000000000000040000000100000001000000fdffffff000000001800000000000000030000000000000003000000000000000300000007000000",
@@ -28,13 +29,13 @@ static FIRST: [&str; 5] = [
     "05000000070000000100000008000000000000000000000000000000000000000000000000000000000000000000000000000000000000000000000000000000030000000a000000",
 ];
 
-/// In the second session the count is put again, and the object is released.
+/// The second session puts the count again, and releases the object.
 static SECOND: [&str; 2] = [
     "06000000040000000100000001000000000000000000000000000000000000000000000000000000000000000000000000000000040000000100000001000000fdffffff000000001800000000000000030000000000000003000000000000000300000008000000",
     "07000000020000000100000000000000",
 ];
 
-/// What both are answered, one behind the other.
+/// The replies to the first session and then those to the second.
 static REPLIES: [&str; 7] = [
     "0100000000000000ffffffff000000000100000000000000",
     "0200000000000000ffffffff00000000",
@@ -45,7 +46,7 @@ static REPLIES: [&str; 7] = [
     "0700000000000000ffffffff00000000",
 ];
 
-/// The count, the name and the grid are read.
+/// Requests that read the count, the name and the grid.
 static READS: [&str; 3] = [
     "08000000040000000100000001000000000000000000000000000000000000000000000000000000000000000000000000000000020000000000000000000000",
     "09000000040000000100000002000000000000000000000000000000000000000000000000000000000000000000000000000000020000000000000000000000",
@@ -57,7 +58,7 @@ const GONE: &str = "0800000008010180ffffffff00000000
 0a00000008010180ffffffff00000000
 ";
 
-/// What is read after so many of the requests.
+/// The replies to `READS` after each prefix of the requests.
 static READ: [&str; 8] = [
     GONE,
     "0800000000000000ffffffff000000001800000000000000030000000000000003000000000000000300000000000000
@@ -87,33 +88,33 @@ static READ: [&str; 8] = [
     GONE,
 ];
 
-/// The requests of the first session, five of them.
+/// Returns the five requests of the first session.
 pub(crate) fn first() -> &'static [&'static str] {
     &FIRST
 }
 
-/// Those of the second one, two of them.
+/// Returns the two requests of the second session.
 pub(crate) fn second() -> &'static [&'static str] {
     &SECOND
 }
 
-/// Those that read.
+/// Returns the requests that read.
 pub(crate) fn reads() -> &'static [&'static str] {
     &READS
 }
 
-/// What the requests of both sessions are answered, from one of them to before another.
+/// Returns the replies to the requests from number `from` to before number `to`, counted over both sessions.
 pub(crate) fn replies(from: usize, to: usize) -> Option<&'static [&'static str]> {
     REPLIES.get(from..to)
 }
 
-/// The bytes of a bank's body.
+/// The size of a bank's body in bytes.
 pub(crate) const BANK: u32 = 20_971_520;
 
-/// Behind the end of any session.
+/// A point in time after the end of any session.
 pub(crate) const END: u64 = 0xffff_ffff;
 
-/// What becomes of what was pending.
+/// Tears of the pending writes.
 pub(crate) const TEARS: [Tear; 7] = [
     Tear::Lost,
     Tear::Kept,
@@ -124,7 +125,7 @@ pub(crate) const TEARS: [Tear; 7] = [
     Tear::Cut(1),
 ];
 
-/// The bodies that some lines spell.
+/// Decodes lines of hexadecimal digits.
 pub(crate) fn bodies_of(alloc: Global, lines: &[&str]) -> Option<Vec<Vec<u8>>> {
     let mut bodies = Vec::new(alloc);
     for line in lines {
@@ -133,7 +134,7 @@ pub(crate) fn bodies_of(alloc: Global, lines: &[&str]) -> Option<Vec<Vec<u8>>> {
     Some(bodies)
 }
 
-/// The requests of these lines, so many in each call, which is one group.
+/// Returns calls with the requests in these lines, `group` requests in each. Each call is one group.
 pub(crate) fn calls_of(alloc: Global, lines: &[&str], group: usize) -> Option<Vec<ServerCall>>
     requires { 1 ≤ group }
 {
@@ -152,21 +153,21 @@ fn put_digits(alloc: Global, text: &mut String, bytes: &[u8]) {
     }
 }
 
-/// A reply as a line.
+/// Adds a reply as a line.
 fn put_reply(alloc: Global, text: &mut String, reply: &Reply) {
     put_digits(alloc, text, &reply.head());
     put_digits(alloc, text, reply.body());
     let _ = text.push_str("\n");
 }
 
-/// Replies as lines.
+/// Adds replies as lines.
 fn put_replies(alloc: Global, text: &mut String, replies: &[Reply]) {
     for reply in replies {
         put_reply(alloc, text, reply);
     }
 }
 
-/// What calls were answered, as lines.
+/// Returns the replies of calls as lines.
 fn lines_of(alloc: Global, answers: &[Answer]) -> String {
     let mut text = String::new(alloc);
     for answer in answers {
@@ -175,7 +176,8 @@ fn lines_of(alloc: Global, answers: &[Answer]) -> String {
     text
 }
 
-/// Whether a session was answered so: by lines, or by what was written over a stream, whose end it has met behind so many requests.
+/// Returns whether a session has these replies: as lines, or as the bytes written to a stream that ended after this
+/// many requests.
 pub(crate) fn is_answered(alloc: Global, heard: &Heard, requests: usize, due: &[u8]) -> bool {
     match &heard.replies {
         Replies::Calls(answers) => {
@@ -188,10 +190,11 @@ pub(crate) fn is_answered(alloc: Global, heard: &Heard, requests: usize, due: &[
                 && served.requests == requests as u64
                 && served.why == End::Closed
         }
+        Replies::Frames(_) => false,
     }
 }
 
-/// How many of the requests lead to what is read, from `least` to `most` of them.
+/// Returns after how many of the requests these replies are read, from `least` to `most`.
 fn place_of(text: &str, least: usize, most: usize) -> Option<usize> {
     let mut place = 0usize;
     for read in &READ {
@@ -203,18 +206,18 @@ fn place_of(text: &str, least: usize, most: usize) -> Option<usize> {
     None
 }
 
-/// How many of the requests were found by a session that has read the three properties.
+/// Returns how many of the requests are kept according to a session that reads the three properties.
 pub(crate) fn place_in(alloc: Global, heard: &Heard, least: usize, most: usize) -> Option<usize> {
     match &heard.replies {
         Replies::Calls(answers) => {
             let text = lines_of(alloc, answers.as_slice());
             place_of(text.as_str(), least, most)
         }
-        Replies::Stream(_) => None,
+        Replies::Stream(_) | Replies::Frames(_) => None,
     }
 }
 
-/// What a server answers to each of these requests by itself, as lines.
+/// Returns the replies of a server to these requests, one call per request, as lines.
 fn answered(alloc: Global, server: &mut Server<MemoryDisk>, bodies: &[Vec<u8>]) -> String {
     let mut text = String::new(alloc);
     for body in bodies {
@@ -223,7 +226,8 @@ fn answered(alloc: Global, server: &mut Server<MemoryDisk>, bodies: &[Vec<u8>]) 
     text
 }
 
-/// How many of the requests the server holds, as it is told by one call of three groups, and by a call for each request.
+/// Returns how many of the requests the server has kept. Reads with one call of three groups and with a call for each
+/// request, which must agree.
 pub(crate) fn read_by(
     alloc: Global,
     server: &mut Server<MemoryDisk>,
@@ -241,7 +245,7 @@ pub(crate) fn read_by(
     place_of(text.as_str(), least, most)
 }
 
-/// A disk of zeros, with room for what is played on it.
+/// Returns a disk of zeros whose log has capacity for each test.
 pub(crate) fn new_disk(alloc: Global) -> Option<MemoryDisk>
     ensures { IfSome result IsFreshDisk }
 {
@@ -252,13 +256,13 @@ pub(crate) fn library(alloc: Global) -> Option<Library> {
     check(alloc, parse(alloc, SMALL).ok()?).ok()
 }
 
-/// Whether the library and the table are told that a server behind so many of the requests has.
+/// Returns whether the library and the table are those of a server after this many of the requests.
 pub(crate) fn are_told(library: &Library, text: &[u8], table: &Table, place: usize) -> bool {
     let next = if place == 0 { 1 } else { 2 };
     text == library.text() && table.next() == next
 }
 
-/// A new store of the library.
+/// Returns a new store with the library.
 pub(crate) fn new_store(alloc: Global) -> Option<MemoryDisk>
     ensures { IfSome result IsFreshDisk }
 {
@@ -269,14 +273,14 @@ pub(crate) fn new_store(alloc: Global) -> Option<MemoryDisk>
     }
 }
 
-/// What a loss of power now with this tear leaves of a disk.
+/// Returns the disk after a power loss now with this tear.
 pub(crate) fn left_by(disk: &MemoryDisk, tear: Tear) -> Option<MemoryDisk>
     ensures { IfSome result IsFreshDisk }
 {
     disk.crash(disk.moments(), tear).ok()
 }
 
-/// Plays a session of these calls to its end: what was heard, and what it has left.
+/// Runs a session of these calls to its end. Returns its replies and the disk after it.
 fn played(alloc: Global, disk: MemoryDisk, calls: Vec<ServerCall>) -> Option<(Heard, MemoryDisk)>
     requires { IsFreshDisk disk }
     ensures { IfSome result (λ r. IsFreshDisk r.1) }
@@ -289,7 +293,7 @@ fn played(alloc: Global, disk: MemoryDisk, calls: Vec<ServerCall>) -> Option<(He
     stopped(alloc, disk, &session).ok()
 }
 
-/// The store behind the first session and the checkpoint.
+/// Returns the store after the first session and the checkpoint.
 pub(crate) fn next_store(alloc: Global, store: MemoryDisk, group: usize) -> Option<MemoryDisk>
     requires some { 1 ≤ group }
     requires fresh { IsFreshDisk store }
@@ -306,7 +310,7 @@ pub(crate) fn next_store(alloc: Global, store: MemoryDisk, group: usize) -> Opti
     }
 }
 
-/// How many of the requests a store holds, by its three properties.
+/// Returns how many of the requests a store has kept, by its three properties.
 pub(crate) fn read_of(alloc: Global, store: MemoryDisk, least: usize, most: usize) -> Option<usize>
     requires { IsFreshDisk store }
 {
@@ -314,7 +318,7 @@ pub(crate) fn read_of(alloc: Global, store: MemoryDisk, least: usize, most: usiz
     place_in(alloc, &heard, least, most)
 }
 
-/// Prints what was counted, and ends the test where something of the script was lost, or where other numbers are due.
+/// Prints the counts. Fails the test if acknowledged requests were lost or the counts differ from those expected.
 pub(crate) fn expect(
     rt: &(impl Abort + Print),
     counts: &str,

@@ -1,4 +1,4 @@
-//! The script, each of whose two sessions is played over disks that fail from each call on.
+//! Each of the two sessions of the script, on disks that fail from each call on.
 ghost use Rattle.std.specs.Prelude.{◌≤◌};
 
 use crate::counts::{COMMIT, OPENING};
@@ -14,8 +14,8 @@ use oa_typelib::Library;
 use std::alloc::Global;
 use std::rt::HostRuntime;
 
-/// What is due behind a session over a disk that fails: so many of the requests were done, or the group in which it has failed too; and
-/// whether it has failed, and was opened.
+/// The expected state after a session on a disk that fails: how many requests are kept without and with the group
+/// that failed, whether a call failed, and whether the store was opened.
 #[derive(Clone, Copy)]
 struct Due {
     least: usize,
@@ -24,8 +24,8 @@ struct Due {
     opened: bool,
 }
 
-/// The requests that were done come first, then those of the group in which the device failed, and then all others; and the failures were
-/// counted.
+/// Returns the expected state after calls with these replies, or `None` if the replies or the counts of failures are
+/// wrong. Successful requests come first, then those of the group that failed, and then all others.
 fn due_of_calls(all: &[Told], first: usize) -> Option<Due> {
     let mut least = first;
     let mut most = first;
@@ -56,7 +56,8 @@ fn due_of_calls(all: &[Told], first: usize) -> Option<Due> {
     })
 }
 
-/// An opening that meets a fault tells which kind of call has failed: the first one is a sync, the others are reads.
+/// Returns the expected state after these calls. An open that fails returns the kind of call that failed: the first
+/// call is a sync, the others are reads.
 fn due_of(told: &Result<Vec<Told>, DeviceFault>, first: usize, first_failing: u64) -> Option<Due> {
     match told {
         Ok(all) => due_of_calls(all.as_slice(), first),
@@ -74,7 +75,7 @@ fn due_of(told: &Result<Vec<Told>, DeviceFault>, first: usize, first_failing: u6
     }
 }
 
-/// How many of the requests a server holds that is opened on this disk, as it is.
+/// Opens a server on this disk without a crash. Returns how many of the requests it has kept.
 fn read_as_it_is(alloc: Global, disk: MemoryDisk, least: usize, most: usize) -> Option<usize> {
     match Server::open(alloc, disk, library(alloc)?) {
         Ok(mut server) => read_by(alloc, &mut server, least, most),
@@ -82,8 +83,8 @@ fn read_as_it_is(alloc: Global, disk: MemoryDisk, least: usize, most: usize) -> 
     }
 }
 
-/// A loss of power now with each tear: how many there were, if each leaves the requests that are due, with the group that is in doubt or
-/// without it.
+/// Cuts the power now with each tear. Returns the number of power losses if each keeps the expected requests, with or
+/// without the group that failed.
 fn losses_of(alloc: Global, disk: &MemoryDisk, due: Due) -> Option<u64> {
     let mut count = 0u64;
     for tear in TEARS {
@@ -96,8 +97,8 @@ fn losses_of(alloc: Global, disk: &MemoryDisk, due: Due) -> Option<u64> {
     Some(count)
 }
 
-/// Which of these was found, where so many of the requests are: that an opening has met the fault, that the group that is in doubt is there whole, or that
-/// it is not there.
+/// Returns the kind of failure if this many requests are kept: 0 if the open failed, 1 if the group that failed is
+/// kept whole, 2 if it is not kept.
 fn kind_of(due: Due, place: usize) -> Option<usize> {
     if !due.opened {
         Some(0)
@@ -110,7 +111,8 @@ fn kind_of(due: Due, place: usize) -> Option<usize> {
     }
 }
 
-/// What is due behind calls over a disk, how many of the requests were found on the one that was handed back, and how many losses of power were tried.
+/// Returns the expected state after calls on a disk, how many requests are kept on the disk that the calls returned,
+/// and the number of power losses that were tried.
 fn found_behind(
     alloc: Global,
     told: &Result<Vec<Told>, DeviceFault>,
@@ -124,7 +126,7 @@ fn found_behind(
     Some((due, place, losses))
 }
 
-/// Plays the session of these requests over a disk that fails from a call on.
+/// Runs these calls on a disk that fails from call `first_failing` on.
 fn failed(
     alloc: Global,
     disk: &MemoryDisk,
@@ -137,8 +139,9 @@ fn failed(
     found_behind(alloc, &told, back, first, first_failing)
 }
 
-/// Plays these calls, before which so many of the requests were made, over disks that fail from each call on, up to one that does not fail. Answers how
-/// often an opening has met the fault, how often the group in doubt was found whole, and how often not at all; and how many losses of power were tried.
+/// Runs these calls, after `first` requests, on disks that fail from each call on, up to one that does not fail.
+/// Returns how often the open failed, how often the group that failed was kept whole, how often it was not kept, and
+/// the number of power losses that were tried.
 fn failures(
     alloc: Global,
     disk: &MemoryDisk,
@@ -160,7 +163,7 @@ fn failures(
     None
 }
 
-/// What is due of calls that have survived, and how many of the requests were found.
+/// Returns the expected state after the calls of `survive`, and how many of the requests are kept.
 fn found_by(
     alloc: Global,
     library: &Library,
@@ -176,7 +179,7 @@ fn found_by(
     }
 }
 
-/// Plays these calls over a new store by `survive`, on a disk that fails from a call on.
+/// Runs these calls with `survive` on a new store, on a disk that fails from call `first_failing` on.
 fn survived(alloc: Global, calls: &[ServerCall], first_failing: u64) -> Option<(Due, usize)> {
     let library = library(alloc)?;
     let disk = new_disk(alloc)?;
@@ -186,7 +189,8 @@ fn survived(alloc: Global, calls: &[ServerCall], first_failing: u64) -> Option<(
     }
 }
 
-/// The same of the first session by `survive`, and what it tells of the library and the table, without losses of power.
+/// Runs the first session as `failures` does, but with `survive`, without power losses, and checks the library and
+/// the table that it returns.
 fn survivals(alloc: Global, group: usize) -> Option<[u64; 4]>
     requires { 1 ≤ group }
 {
@@ -205,7 +209,7 @@ fn survivals(alloc: Global, group: usize) -> Option<[u64; 4]>
     None
 }
 
-/// The first session, in groups of so many.
+/// Runs the first session in groups of this many requests.
 fn first_failures(alloc: Global, group: usize) -> Option<[u64; 4]>
     requires { 1 ≤ group }
 {
@@ -213,7 +217,7 @@ fn first_failures(alloc: Global, group: usize) -> Option<[u64; 4]>
     failures(alloc, &new_store(alloc)?, calls.as_slice(), 0)
 }
 
-/// The second one, behind a checkpoint.
+/// Runs the second session after a checkpoint.
 fn second_failures(alloc: Global, group: usize) -> Option<[u64; 4]>
     requires { 1 ≤ group }
 {
@@ -222,9 +226,10 @@ fn second_failures(alloc: Global, group: usize) -> Option<[u64; 4]>
     failures(alloc, &store, calls.as_slice(), 5)
 }
 
-/// What is due of a session of so many groups, with so many losses of power behind each failure. Each call of the disk has failed once. A group whose
-/// bytes, sync or gate has failed is not there: a call that fails is not made. Where the sync behind its gate has failed, the gate was written, and is
-/// read.
+/// Returns the expected counts for a session of this many groups, with this many power losses after each failure.
+/// Each call of the disk fails once. If the write of a group, its sync or the write of its gate byte fails, the group
+/// is not kept: a call that fails has no effect. If the sync after the gate byte fails, the gate byte is written, and
+/// the group is read.
 fn due_by(groups: u16, losses: u16) -> [u64; 4] {
     let whole = u64::from(groups);
     let calls = OPENING + COMMIT * whole;
@@ -251,7 +256,7 @@ fn fails_in_groups_of_3(rt: HostRuntime) {
     expect(&rt, COUNTS, second_failures(rt.alloc(), 3), due_by(1, 7));
 }
 
-/// The groups of the first session.
+/// The first session has five groups of 1 or two groups of 3.
 #[test]
 fn survives_in_groups_of_1_and_3(rt: HostRuntime) {
     expect(&rt, COUNTS, survivals(rt.alloc(), 1), due_by(5, 0));

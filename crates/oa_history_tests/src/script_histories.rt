@@ -1,6 +1,6 @@
-//! The script as histories of `relive`, in each of which one of its three steps is stopped, at each moment with each tear, and then the opening
-//! behind it at each of its own moments, one after another. Its sessions are asked by calls, or over streams. What is kept is read by a session behind
-//! all stops, and by the server that the history hands back.
+//! The script as histories of `relive`. In each, one of the three steps crashes, at each point in time with each
+//! tear, and then the open after it at each of its own points, one after another. The sessions are calls or streams.
+//! A session after all crashes and the server that the history returns read what is kept.
 ghost use Rattle.std.specs.Prelude.{◌≤◌};
 ghost use Rattle.oa_model.specs.Limits.{max_group};
 
@@ -15,7 +15,7 @@ use oa_typelib::Library;
 use std::alloc::Global;
 use std::rt::HostRuntime;
 
-/// How the sessions are asked: in groups of so many, over streams in a framing, or by calls.
+/// The form of the sessions: the number of requests per group, and the framing of a stream, or calls.
 #[derive(Clone, Copy)]
 struct Way {
     group: usize,
@@ -24,7 +24,7 @@ struct Way {
     ghost few: { group ≤ max_group },
 }
 
-/// Adds a body to others, in this framing.
+/// Adds a body in this framing.
 fn put_line(alloc: Global, bytes: &mut Vec<u8>, line: &str, framing: Framing) -> Option<()> {
     match framing {
         Framing::HexLines => {
@@ -40,7 +40,7 @@ fn put_line(alloc: Global, bytes: &mut Vec<u8>, line: &str, framing: Framing) ->
     }
 }
 
-/// These lines in this framing.
+/// Returns these lines in this framing.
 fn bytes_of(alloc: Global, lines: &[&str], framing: Framing) -> Option<Vec<u8>> {
     let mut bytes = Vec::new(alloc);
     for line in lines {
@@ -49,7 +49,7 @@ fn bytes_of(alloc: Global, lines: &[&str], framing: Framing) -> Option<Vec<u8>> 
     Some(bytes)
 }
 
-/// What a session asks that has these requests.
+/// Returns the input of a session with these requests.
 fn asked_of(alloc: Global, lines: &[&str], way: Way) -> Option<Asked> {
     match way.framing {
         Some(framing) => {
@@ -60,7 +60,7 @@ fn asked_of(alloc: Global, lines: &[&str], way: Way) -> Option<Asked> {
     }
 }
 
-/// Adds a session that asks this.
+/// Adds a session with this input.
 fn add(steps: &mut Vec<Step>, asked: Asked, stop: Stop) -> Option<()> {
     let session = Session {
         asked,
@@ -79,7 +79,7 @@ fn add_step(alloc: Global, steps: &mut Vec<Step>, step: usize, way: Way, stop: S
     }
 }
 
-/// Adds an opening for each of its moments, which is stopped there: a session that asks nothing.
+/// Adds an open, which is a session without requests, with a crash at each of its points in time.
 fn add_openings(alloc: Global, steps: &mut Vec<Step>, stop: Stop) -> Option<()> {
     for moment in 0..session_moments(0) {
         let again = Stop {
@@ -91,7 +91,7 @@ fn add_openings(alloc: Global, steps: &mut Vec<Step>, stop: Stop) -> Option<()> 
     Some(())
 }
 
-/// Adds the steps of the script up to the one that is stopped, the openings, and a session that reads.
+/// Adds the steps of the script up to the one that crashes, the opens, and a session that reads.
 fn add_all(alloc: Global, steps: &mut Vec<Step>, step: usize, way: Way, stop: Stop) -> Option<()> {
     let end = Stop {
         moment: END,
@@ -105,18 +105,19 @@ fn add_all(alloc: Global, steps: &mut Vec<Step>, step: usize, way: Way, stop: St
     add(steps, Asked::Calls(calls_of(alloc, reads(), 3)?), end)
 }
 
-/// How many of the requests were made before each of the steps, and how many behind it.
+/// How many of the requests were made before each step, and how many by its end.
 static BOUNDS: [(usize, usize); 3] = [(0, 5), (5, 5), (5, 7)];
 
-/// Whether a step of the script was answered so that is asked this way, from one of the requests to before another.
+/// Returns whether a step of the script in this form has the replies to the requests from number `from` to before
+/// number `to`.
 fn is_due(alloc: Global, heard: &Heard, way: Way, from: usize, to: usize) -> Option<bool> {
     let framing = way.framing.unwrap_or(Framing::HexLines);
     let due = bytes_of(alloc, replies(from, to)?, framing)?;
     Some(is_answered(alloc, heard, to.saturating_sub(from), due.as_slice()))
 }
 
-/// How many of the requests were kept, all of those among them whose groups were over when the step was stopped; None where the step was answered
-/// otherwise.
+/// Returns how many of the requests were kept, or `None` if the step has other replies or a group that was committed
+/// before the crash is lost.
 fn kept_of(alloc: Global, heard: &[Heard], step: usize, way: Way, stop: Stop) -> Option<usize> {
     let (before, behind) = *BOUNDS.get(step)?;
     if is_due(alloc, heard.get(step)?, way, before, behind) != Some(true) {
@@ -127,8 +128,8 @@ fn kept_of(alloc: Global, heard: &[Heard], step: usize, way: Way, stop: Stop) ->
     place_in(alloc, heard.last()?, least.min(behind), behind)
 }
 
-/// Of a history whose server reads what was kept, and whose library and table are told so, the last moment of the step that was stopped, and how
-/// many openings there were, one for each step and the last one.
+/// Checks the replies of a history, its library, its table and the reads of its server. Returns the last point in
+/// time of the step that crashed, and the number of opens: one for each step, and the last one.
 fn ends_of(
     alloc: Global,
     library: &Library,
@@ -147,7 +148,7 @@ fn ends_of(
     Some((heard.get(step)?.disk.moments(), openings))
 }
 
-/// One history. Answers the last moment of the step that was stopped, and how many openings there were.
+/// Runs one history. Returns the last point in time of the step that crashed, and the number of opens.
 fn history(alloc: Global, step: usize, way: Way, stop: Stop) -> Option<(u64, u64)> {
     let mut steps = Vec::new(alloc);
     add_all(alloc, &mut steps, step, way, stop)?;
@@ -159,7 +160,8 @@ fn history(alloc: Global, step: usize, way: Way, stop: Stop) -> Option<(u64, u64
     }
 }
 
-/// Stops each of the three steps at each moment with each tear: how many stops there were of each, and how many openings in the histories of all.
+/// Crashes each of the three steps at each point in time with each tear. Returns the number of crashes of each step,
+/// and of the opens in all histories.
 fn histories(alloc: Global, way: Way) -> Option<[u64; 4]> {
     let mut tried = [0u64; 4];
     for tear in TEARS {
@@ -175,8 +177,9 @@ fn histories(alloc: Global, way: Way) -> Option<[u64; 4]> {
     Some(tried)
 }
 
-/// What is due where the sessions have so many groups, with each of seven tears: in a history for each moment of the first one three openings, for
-/// each of the checkpoint four, for each of the second one five, and in each of them those that are stopped.
+/// Returns the expected counts for sessions of this many groups, with seven tears. A history has three opens if the
+/// first session crashes, four if the checkpoint does, five if the second session does, and in each case the opens
+/// that crash.
 fn due(first: u16, second: u16) -> [u64; 4] {
     let (one, between, two) = (
         7 * session_moments(first),
@@ -191,7 +194,7 @@ fn due(first: u16, second: u16) -> [u64; 4] {
 const COUNTS: &str =
     "stops of the first session, of the checkpoint, of the second session, and openings";
 
-/// Five groups, and two.
+/// The sessions have five groups and two.
 #[test]
 fn calls_in_groups_of_1(rt: HostRuntime) {
     let way = Way {
@@ -201,7 +204,7 @@ fn calls_in_groups_of_1(rt: HostRuntime) {
     expect(&rt, COUNTS, histories(rt.alloc(), way), due(5, 2));
 }
 
-/// Two groups, and one.
+/// The sessions have two groups and one.
 #[test]
 fn calls_in_groups_of_3(rt: HostRuntime) {
     let way = Way {

@@ -1,6 +1,6 @@
-//! The script as histories of `relive_shared`: its two sessions are of many clients, to whom its requests are dealt in turn. Each record comes in two
-//! frames, and the first of the next client's stands between them. One of the three steps is stopped, at each moment with each tear. What is kept is
-//! read by the server that the history hands back.
+//! The script as histories of `relive` with many clients, which make the requests of the two sessions in turn. Each
+//! record comes in two frames, and the first frame of the next client is between them. One of the three steps
+//! crashes, at each point in time with each tear. The server that the history returns reads what is kept.
 ghost use Rattle.std.specs.Prelude.{◌≤◌, ◌<◌};
 ghost use Rattle.oa_model.specs.Limits.{max_group};
 
@@ -8,15 +8,13 @@ use crate::counts::{checkpoint_moments, groups_over, session_moments};
 use crate::script::{
     BANK, END, TEARS, are_told, expect, first, library, new_disk, read_by, replies, second,
 };
-use oa_history::{
-    SharedInput, SharedLived, SharedSession, SharedStep, Step, StepHeard, Stop, relive_shared,
-};
+use oa_history::{Asked, Heard, Lived, Replies, Session, SharedInput, Step, Stop, relive};
 use oa_server::SessionEnd;
 use oa_typelib::Library;
 use std::alloc::Global;
 use std::rt::HostRuntime;
 
-/// How many clients there are, how many requests a group has, and whether *now* follows each of them.
+/// The number of clients, the number of requests per group, and whether *now* follows each request.
 #[derive(Clone, Copy)]
 struct Way {
     clients: u32,
@@ -28,7 +26,7 @@ struct Way {
     ghost few: { group ≤ max_group },
 }
 
-/// For all clients.
+/// The client number of a frame for all clients.
 const NOW: u32 = 0xffff_ffff;
 
 /// Adds a frame.
@@ -39,7 +37,7 @@ fn put_frame(bytes: &mut Vec<u8>, client: u32, part: &[u8]) -> Option<()> {
     bytes.extend_from_slice(part).ok()
 }
 
-/// The record that a line spells.
+/// Returns the record of a line of hexadecimal digits.
 fn record_of(alloc: Global, line: &str) -> Option<Vec<u8>> {
     let body = hex::decode(alloc, line).ok()?;
     let length = u32::try_from(body.len()).ok()?;
@@ -49,13 +47,13 @@ fn record_of(alloc: Global, line: &str) -> Option<Vec<u8>> {
     Some(record)
 }
 
-/// Whose the requests of a session are, from number 0 on.
+/// Returns the client that makes the request with this number, from 0.
 fn client_of(way: Way, number: usize) -> Option<u32> {
     let number = u32::try_from(number).ok()?;
     Some((number % way.clients).saturating_add(1))
 }
 
-/// Adds the first bytes of the record of that line, where there is one.
+/// Adds the first bytes of the record of that line, if there is one.
 fn put_first(
     alloc: Global,
     bytes: &mut Vec<u8>,
@@ -72,7 +70,7 @@ fn put_first(
     }
 }
 
-/// The frames of a session that has these requests.
+/// Returns the frames of a session with these requests.
 fn frames_of(alloc: Global, lines: &[&str], way: Way) -> Option<Vec<u8>> {
     let mut bytes = Vec::new(alloc);
     put_first(alloc, &mut bytes, lines, way, 0)?;
@@ -93,7 +91,8 @@ fn frames_of(alloc: Global, lines: &[&str], way: Way) -> Option<Vec<u8>> {
     Some(bytes)
 }
 
-/// What such a session hands out: the replies, each to the client that asked, and at the end to each of them that it has had its last.
+/// Returns the frames that such a session sends: each reply to the client that made the request, and at the end a
+/// last frame to each of these clients.
 fn due_frames(alloc: Global, lines: &[&str], way: Way) -> Option<Vec<u8>> {
     let mut bytes = Vec::new(alloc);
     let mut number = 0usize;
@@ -110,39 +109,27 @@ fn due_frames(alloc: Global, lines: &[&str], way: Way) -> Option<Vec<u8>> {
     Some(bytes)
 }
 
-/// Adds a session of these requests.
-fn add(
-    alloc: Global,
-    steps: &mut Vec<SharedStep>,
-    lines: &[&str],
-    way: Way,
-    stop: Stop,
-) -> Option<()> {
-    let session = SharedSession {
-        input: SharedInput::new(frames_of(alloc, lines, way)?, way.group),
+/// Adds a session with these requests.
+fn add(alloc: Global, steps: &mut Vec<Step>, lines: &[&str], way: Way, stop: Stop) -> Option<()> {
+    let session = Session {
+        asked: Asked::Frames(SharedInput::new(frames_of(alloc, lines, way)?, way.group)),
         moment: stop.moment,
         tear: stop.tear,
     };
-    steps.push(SharedStep::Many(session)).ok()
+    steps.push(Step::Session(session)).ok()
 }
 
 /// Adds one of the three steps of the script: a session, a checkpoint, and another session.
-fn add_step(
-    alloc: Global,
-    steps: &mut Vec<SharedStep>,
-    step: usize,
-    way: Way,
-    stop: Stop,
-) -> Option<()> {
+fn add_step(alloc: Global, steps: &mut Vec<Step>, step: usize, way: Way, stop: Stop) -> Option<()> {
     match step {
         0 => add(alloc, steps, first(), way, stop),
-        1 => steps.push(SharedStep::Single(Step::Checkpoint(stop))).ok(),
+        1 => steps.push(Step::Checkpoint(stop)).ok(),
         _ => add(alloc, steps, second(), way, stop),
     }
 }
 
-/// The steps of the script up to the one that is stopped.
-fn steps_to(alloc: Global, step: usize, way: Way, stop: Stop) -> Option<Vec<SharedStep>> {
+/// Returns the steps of the script up to the one that crashes.
+fn steps_to(alloc: Global, step: usize, way: Way, stop: Stop) -> Option<Vec<Step>> {
     let end = Stop {
         moment: END,
         tear: stop.tear,
@@ -155,25 +142,31 @@ fn steps_to(alloc: Global, step: usize, way: Way, stop: Stop) -> Option<Vec<Shar
     Some(steps)
 }
 
-/// How many of the requests were made before each of the steps, and how many behind it.
+/// How many of the requests were made before each step, and how many by its end.
 static BOUNDS: [(usize, usize); 3] = [(0, 5), (5, 5), (5, 7)];
 
-/// The last moment of a step that was answered by these frames; None where it was answered otherwise.
-fn end_of(heard: &StepHeard, due: &[u8]) -> Option<u64> {
-    match heard {
-        StepHeard::Many(heard) => {
-            let written = &heard.written;
+/// Returns the last point in time of a step whose replies are these frames, or `None` if it has other replies.
+fn end_of(heard: &Heard, due: &[u8]) -> Option<u64> {
+    match &heard.replies {
+        Replies::Frames(written) => {
             if written.output.bytes() == due && written.why == SessionEnd::Closed {
                 Some(heard.disk.moments())
             } else {
                 None
             }
         }
-        StepHeard::Single(heard) => Some(heard.disk.moments()),
+        Replies::Calls(answers) => {
+            if answers.is_empty() {
+                Some(heard.disk.moments())
+            } else {
+                None
+            }
+        }
+        Replies::Stream(_) => None,
     }
 }
 
-/// How many requests at least were kept of a step that was stopped there.
+/// Returns how many requests must be kept after a crash at this point.
 fn least_of(way: Way, stop: Stop, before: usize, behind: usize) -> Option<usize> {
     let over = usize::try_from(groups_over(stop.moment)).ok()?;
     let each = if way.now { 1 } else { way.group };
@@ -181,11 +174,12 @@ fn least_of(way: Way, stop: Stop, before: usize, behind: usize) -> Option<usize>
     Some(least.min(behind))
 }
 
-/// Of a history whose server reads what was kept, and whose library and table are told so, the last moment of the step that was stopped.
+/// Checks the replies of a history, its library, its table and the reads of its server. Returns the last point in
+/// time of the step that crashed.
 fn end_in(
     alloc: Global,
     library: &Library,
-    lived: &mut SharedLived,
+    lived: &mut Lived,
     step: usize,
     way: Way,
     stop: Stop,
@@ -202,18 +196,19 @@ fn end_in(
     }
 }
 
-/// One history. Answers the last moment of the step that was stopped.
+/// Runs one history. Returns the last point in time of the step that crashed.
 fn history(alloc: Global, step: usize, way: Way, stop: Stop) -> Option<u64> {
     let steps = steps_to(alloc, step, way, stop)?;
     let library = library(alloc)?;
     let disk = new_disk(alloc)?;
-    match relive_shared(alloc, &library, BANK, disk, steps.as_slice()) {
+    match relive(alloc, &library, BANK, disk, steps.as_slice()) {
         Ok(mut lived) => end_in(alloc, &library, &mut lived, step, way, stop),
         Err(_) => None,
     }
 }
 
-/// Stops each of the three steps at each moment with each tear: how many stops there were of each, and of all.
+/// Crashes each of the three steps at each point in time with each tear. Returns the number of crashes of each step,
+/// and of all.
 fn histories(alloc: Global, way: Way) -> Option<[u64; 4]> {
     let mut tried = [0u64; 4];
     for tear in TEARS {
@@ -229,7 +224,7 @@ fn histories(alloc: Global, way: Way) -> Option<[u64; 4]> {
     Some(tried)
 }
 
-/// What is due where the sessions have so many groups, with each of seven tears.
+/// Returns the expected counts for sessions of this many groups, with seven tears.
 fn due(first: u16, second: u16) -> [u64; 4] {
     let (one, between, two) = (
         7 * session_moments(first),
@@ -241,7 +236,7 @@ fn due(first: u16, second: u16) -> [u64; 4] {
 
 const COUNTS: &str = "stops of the first session, of the checkpoint, of the second session, of all";
 
-/// Five groups, and two.
+/// The sessions have five groups and two.
 #[test]
 fn two_clients_in_groups_of_1(rt: HostRuntime) {
     let way = Way {
@@ -252,7 +247,8 @@ fn two_clients_in_groups_of_1(rt: HostRuntime) {
     expect(&rt, COUNTS, histories(rt.alloc(), way), due(5, 2));
 }
 
-/// Two groups, of which the second has the end of a client too; and one.
+/// The first session has two groups, the second of which also contains the end of a client; the second session has
+/// one.
 #[test]
 fn three_clients_in_groups_of_3(rt: HostRuntime) {
     let way = Way {

@@ -1,4 +1,4 @@
--- What reading a whole text says of it.
+-- The meaning of the result of parsing a whole text.
 use Rattle.std.proofs.Common.{◌≡◌, ℕ, ◌-◌, true, List, [], ◌∷◌, ◌++◌, length, map, refl, sym, ap, subst, ◌∙◌, append_assoc, arith, Result}
 use Rattle.std.proofs.Common.{Ok, Err}
 use Rattle.std.proofs.lemmas.List.{append-nil}
@@ -28,7 +28,7 @@ use Rattle.oa_idl.proofs.Whole.{library_parses}
 use Rattle.oa_idl.proofs.Bounds.{tree_keeps, tree_kept}
 use Rattle.oa_idl.proofs.Ended.{Ended, ended, end_token, words_are, place_is}
 
--- after the end nothing stands
+-- Nothing follows the end.
 nothing_after : (a : List Word) (w : Word) (left : List Word) → Ended (a ++ w ∷ left) → passes [] w ≡ true → left ≡ []
 nothing_after [] w [] e is = refl
 nothing_after [] w (v ∷ left) e is = absurd (clash is e.0)

@@ -40,7 +40,7 @@ over_none m b c name e = by_length (nat_lt max_name_characters (length name)) re
     by_length true is e = absurd cc
     by_length false is e = by_count (ltb-false max_name_characters (length name) is) (nat_le b c) refl e
 
--- ---- what is kept is kept step by step
+-- ---- A limit that a tree keeps is kept step by step.
 
 not_over : (m l : TreeLimit) (b c : ℕ) (name : List ℕ) → (l ≡ limits.Name → length name ≤ max_name_characters) → (l ≡ m → c < b)
     → over m b c name ≡ Some l
@@ -108,7 +108,7 @@ tree_keeps limits.Coclasses t k = (short_entry limits.Coclasses t.name (λ e. ab
 tree_keeps limits.Members t k = (short_entry limits.Members t.name (λ e. absurd cc), items_keep limits.Members no_items t.items (λ e. absurd cc) (λ e. absurd cc) (λ e. absurd cc) (λ _. k) (λ e. absurd cc))
 tree_keeps limits.Params t k = (short_entry limits.Params t.name (λ e. absurd cc), items_keep limits.Params no_items t.items (λ e. absurd cc) (λ e. absurd cc) (λ e. absurd cc) (λ e. absurd cc) (λ _. k))
 
--- ---- what was kept step by step is kept
+-- ---- A limit that is kept step by step is kept by the tree.
 
 parameters_kept : (n : ℕ) (ps : List Parameter) → n ≤ max_parameters → KeepsFrom {B = Unit {0}} one_more ParameterKept NoEndLimit n ps tt
     → AllByRecursion (λ (p : Parameter). IsShort p.name) ps × (n + length ps ≤ max_parameters)

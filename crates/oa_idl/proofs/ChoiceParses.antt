@@ -1,4 +1,4 @@
--- What is read is chosen by the next word.
+-- The next word chooses the parser.
 use Rattle.std.proofs.Common.{◌≡◌, ℕ, ◌≤◌, Bool, true, false, cond, List, [], ◌++◌, length, refl, sym, ap}
 use Rattle.std.proofs.Common.{subst, ◌∙◌, append_assoc}
 use Rattle.std.proofs.Math.Logic.{⊎_elim, inl, inr}
@@ -12,7 +12,7 @@ use Rattle.oa_idl.specs.Reading.ReadStep.{Got, Stuck}
 use Rattle.oa_idl.proofs.Parses.{Parses, Stops, Takes, begins_heads, got, got_is, stuck_at, test_cases}
 use Rattle.oa_idl.proofs.PartParses.{skip_parses}
 
--- a reading of a part of a form takes what is of the form
+-- A parser of a part of a form accepts only sequences of the form.
 part_takes : {n : ℕ} {C : Type 0} {R : C → Type 0} {F A : C → List Word → Type 0} {K : TreeLimit → C → Type 0} {Q : C → Type 0} {read : Reading C}
     → Parses n R A K Q read → ((c : C) (text : List Word) → R c → A c text → F c text)
     → (words : List Word) (x : C) (left : List Word) → length words ≤ n → read words ≡ Got x left → (R x × Q x) × Takes (F x) words left
@@ -20,7 +20,7 @@ part_takes r from words x left le e =
     let h = r.takes words x left le e in
     (h.0, record { text = h.1.text; parts = h.1.parts; form = from x h.1.text h.0.0 h.1.form })
 
--- and it stops where the form does, where what begins as the words do is of the part
+-- It stops where the form does, if each sequence that begins with these words is of the part.
 part_stops : {n : ℕ} {C : Type 0} {R : C → Type 0} {F A : C → List Word → Type 0} {K : TreeLimit → C → Type 0} {Q : C → Type 0} {read : Reading C}
     → Parses n R A K Q read → (test : Word → Bool) (words : List Word)
     → ((c : C) (text more : List Word) → R c → F c text → heads test (text ++ more) ≡ heads test words → A c text)
@@ -63,7 +63,7 @@ choose_parses {n} {C} {R} {F} {A} {B} {K} {Q} {first} {other} test yes_a no_b fr
     stopped words why left le true is e = part_stops r test words (λ c text more s f k. yes_a c text more s f (k ∙ is)) why left le e
     stopped words why left le false is e = part_stops q test words (λ c text more s f k. no_b c text more s f (k ∙ is)) why left le e
 
--- no words, and a value that a form tells
+-- No words, and a value that the form determines.
 pub given_parses : {n : ℕ} {C : Type 0} {R : C → Type 0} {L : TreeLimit → C → Type 0} {Q : C → Type 0} (v : C) → R v → Q v
     → Parses n R (λ c. given (c ≡ v)) L Q (give v)
 unfolding give
@@ -86,7 +86,7 @@ pub then_heads : {F G : List Word → Type 0} (test : Word → Bool) (v : Bool) 
     → ((a left : List Word) → F a → heads test (a ++ left) ≡ v) → Then F G text → heads test (text ++ more) ≡ v
 then_heads test v text more begins f = ap (λ (ws : List Word). heads test (ws ++ more)) f.parts ∙ ap (heads test) (append_assoc f.front f.back more) ∙ begins f.front (f.back ++ more) f.first
 
--- a word that may stand or not, before what never begins with it
+-- An optional word, before words that never begin with it.
 pub perhaps_parses : {n : ℕ} {C : Type 0} {R : C → Type 0} {G : C → List Word → Type 0} {L : TreeLimit → C → Type 0} {Q : C
     → Type 0} {read : Reading C} (test : Word → Bool)
     → ((c : C) (text more : List Word) → R c → G c text → heads test (text ++ more) ≡ false)

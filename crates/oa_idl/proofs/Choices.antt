@@ -27,7 +27,7 @@ pub branch_parses : {n : ℕ} {A C : Type 0} {R : C → Type 0} {F : C → List 
 branch_parses {F = F} v proj is back has known r = said_parses {F = λ c. F (v (proj c))} (λ c h. h) (λ c h. h) (λ c t h f. subst (λ z. F z t) (sym (is c h)) f) (λ c t h f. subst (λ z. F z t) (is c h) f) (λ c h. h)
     (end_part_parses {F = λ a. F (v a)} proj v r has back known (λ a c h. is c h.0 ∙ ap v h.1))
 
--- the same where there are no limits
+-- As above, without limits.
 pub free_branch_parses : {n : ℕ} {A C : Type 0} {R : C → Type 0} {F : C → List Word → Type 0} {read : Reading A} (v : A → C) (proj : C → A)
     → ((c : C) → R c → c ≡ v (proj c)) → ((a : A) → R (v a) × (proj (v a) ≡ a)) → Parses n Always (λ a. F (v a)) NoLimit Always read
     → Parses n R F NoLimit Always (bind read (λ a. give (v a)))

@@ -46,5 +46,5 @@ digits_end base value n bs total le small so_far =
     under : (t : ℕ) → t < 2 ^ 96 → below (2 ^ 96) t ≡ Some t
     under t h = search (rules, h)
 
--- what the loop over digits needs
+-- The rules for the loop over digits.
 pub ruleset digit_steps = (digits_go_on, digits_stop, digits_end)

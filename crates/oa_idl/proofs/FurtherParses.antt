@@ -15,7 +15,7 @@ use Rattle.oa_idl.proofs.Parses.{Always, Keeps, NoLimit, Parses, some, stuck_at,
 use Rattle.oa_idl.proofs.PartParses.{fact_parses, give_parses, one_parses, part_parses, said_parses, skip_parses}
 use Rattle.oa_idl.proofs.ChoiceParses.{clash}
 
--- a reading that does the same
+-- A parser with the same results.
 pub alike_parses : {n : ℕ} {C : Type 0} {R : C → Type 0} {F : C → List Word → Type 0} {K : TreeLimit → C → Type 0} {Q : C
     → Type 0} {f g : Reading C} → ((words : List Word) → f words ≡ g words) → Parses n R F K Q f → Parses n R F K Q g
 alike_parses alike r = record {
@@ -24,7 +24,7 @@ alike_parses alike r = record {
   stuck = λ words why left le e. r.stuck words why left le (alike words ∙ e);
 }
 
--- only where a test holds
+-- Only if a test holds.
 pub require_parses : {n : ℕ} {C : Type 0} {R : C → Type 0} {F : C → List Word → Type 0} {K : TreeLimit → C → Type 0} {Q : C
     → Type 0} {read : Reading C} (b : Bool) → Parses n R F K Q read → Parses n R (λ c ws. (b ≡ true) × F c ws) K Q (require b read)
 unfolding require
@@ -67,7 +67,7 @@ pub end_parses : {n : ℕ} {C : Type 0} {R : C → Type 0} {L : TreeLimit → C 
     → Q v → ((c : C) → R c → c ≡ v) → Parses n R (λ _. this test) L Q (bind (this_at test) (λ _. give v))
 end_parses test v hr hq only = said_parses {F = λ _. this test ▸ nothing} (λ c h. h) (λ c h. h) (λ c t h f. less_nothing t f) (λ c t h f. add_nothing t f) (λ c h. h) (skip_parses test (give_parses v hr hq only))
 
--- a last part, which tells the value
+-- A last part, which determines the value.
 pub end_part_parses : {n : ℕ} {A C : Type 0} {F : A → List Word → Type 0} {K : TreeLimit → A → Type 0} {P : A → Type 0} {R : C
     → Type 0} {L : TreeLimit → C → Type 0} {Q : C → Type 0} {read : Reading A}
     (proj : C → A) (v : A → C) → Parses n Always F K P read → ((l : TreeLimit) (c : C) → R c → L l c → K l (proj c))
@@ -76,7 +76,7 @@ pub end_part_parses : {n : ℕ} {A C : Type 0} {F : A → List Word → Type 0} 
 end_part_parses {F = F} proj v r has hr hq only = said_parses {F = λ c. F (proj c) ▸ nothing} (λ c h. h) (λ c h. h) (λ c t h f. less_nothing t f) (λ c t h f. add_nothing t f) (λ c h. h)
     (part_parses {G = λ _. nothing} proj r has (λ a. give_parses (v a) (hr a) (hq a) (only a)))
 
--- the same with a stronger limit
+-- As above, with a stronger limit.
 pub limit_parses : {n : ℕ} {C : Type 0} {R : C → Type 0} {F : C → List Word → Type 0} {K L : TreeLimit → C → Type 0} {Q : C
     → Type 0} {read : Reading C} → ((l : TreeLimit) (c : C) → L l c → K l c) → Parses n R F K Q read → Parses n R F L Q read
 limit_parses {n} {C} {R} {F} {K} {L} {Q} {read} has r = record {
@@ -103,7 +103,7 @@ pub sure_parses : {n : ℕ} {A : Type 0} (meaning : Word → Option A)
     → Parses n Always (one meaning) NoLimit Always (one_at meaning never_over)
 sure_parses meaning = limit_parses (λ l c _ e. absurd cc) (said_parses (λ c h. h) (λ c h. h) (λ c t h f. f) (λ c t h f. f) (λ c h. tt) (one_parses meaning never_over (λ l w x e o. absurd cc)))
 
--- where there is a value, a last word, which says nothing
+-- A last word without a value, if the list has a value.
 pub demand_parses : {n : ℕ} {B : Type 0} (test : Word → Bool) (o : Option B)
     → Parses n Always (λ b ws. (o ≡ Some b) × this test ws) NoLimit Always (demand o (λ b. bind (this_at test) (λ _. give b)))
 unfolding demand

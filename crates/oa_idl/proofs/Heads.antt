@@ -1,4 +1,4 @@
--- What the first word of a stretch passes.
+-- The tests that the first word of a sequence passes.
 use Rattle.std.proofs.Common.{◌≡◌, ℕ, ◌<◌, Bool, true, false, List, ◌++◌, length, Option, Some, None, refl, ap, subst, ◌∙◌, arith}
 use Rattle.std.specs.Prelude.{ℤ, if◌then◌else◌, ◌&&◌, codes}
 use Rattle.std.proofs.Math.Logic.{⊎_elim}

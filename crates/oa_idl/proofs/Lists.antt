@@ -18,7 +18,7 @@ use Rattle.oa_idl.proofs.Parses.{this_parses}
 use Rattle.oa_idl.proofs.ChoiceParses.{given_parses, choose_parses, perhaps_parses, then_heads, this_heads}
 use Rattle.oa_idl.proofs.FurtherParses.{add_fact, less_fact}
 
--- each item keeps a limit, by what came before it, and the end does
+-- Each item keeps a limit, which may depend on the items before it, and so does the end.
 abbrev pub KeepsFrom : {S A B : Type 0} → (S → A → S) → (S → A → Type 0) → (S → B → Type 0) → S → List A → B → Type 0
 KeepsFrom grow K E s [] b = E s b
 KeepsFrom grow K E s (x ∷ xs) b = K s x × KeepsFrom grow K E (grow s x) xs b
@@ -54,7 +54,7 @@ module _ {S A B : Type 0} {F : S → A → List Word → Type 0} {K : S → Tree
     listed_some s [] b text f = end_some s b text f
     listed_some s (x ∷ xs) b text f = omega (arith, some_words s x f.front f.first, ap length f.parts, length-append f.front f.back)
 
-    -- what follows a first item
+    -- The words after a first item.
     after_same : {G H : List Word → Type 0} {X : Type 0} (y : A) (a b s t : List Word)
         → ((text more : List Word) → G text → heads (apart y) (text ++ more) ≡ false)
         → ((text more : List Word) → H text → heads (apart y) (text ++ more) ≡ false)
@@ -184,7 +184,7 @@ module _ {S A B : Type 0} {F : S → A → List Word → Type 0} {K : S → Tree
       stuck = λ words why left le w. (until_parses (length words) s).stuck words why left (omega arith) w;
     }
 
--- ---- where only the state is kept
+-- ---- If only the state is kept.
 
 module _ {S A B : Type 0} {F : S → A → List Word → Type 0} {item : S → List Word → ReadStep A} {E : S → B → List Word → Type 0} {last : S
     → List Word → ReadStep B}

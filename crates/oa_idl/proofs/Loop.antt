@@ -21,7 +21,7 @@ use Rattle.oa_idl.specs.Reading.{ReadStep, Reading, and_then, bind, give, fail, 
 use Rattle.oa_idl.specs.Reading.{until, gather, ReadsWords}
 use Rattle.oa_idl.specs.Reading.ReadStep.{Got, Stuck}
 
--- what was read before, and what is still read
+-- The items read so far, followed by those still to read.
 abbrev pub with_front : {A B : Type 0} → List A → ReadStep (List A × B) → ReadStep (List A × B)
 with_front front (Got r left) = Got (front ++ r.0, r.1) left
 with_front front (Stuck why left) = Stuck why left
@@ -46,7 +46,7 @@ until_goes_on test apart item grow last front n i state s t u x total lt going h
     let one : with_front front (until test apart item grow last (n - i) state s) ≡ with_front (front ++ x ∷ []) (until test apart item grow last (n - (i + 1)) (grow state x) u) = rw (k, going, h, is) (regroup front x (until test apart item grow last (n - (i + 1)) (grow state x) (cond (heads (apart x) t) (later_words t) t))) in
     sym one ∙ so_far
 
--- the same without a word between
+-- As above, without a word between the items.
 pub plain_goes_on : {S A B : Type 0} (test : Word → Bool) (item : S → Reading A) (grow : S → A → S) (last : S → Reading B) (front : List A)
     (n i : ℕ) (state : S) (s t : List Word) (x : A) (total : ReadStep (List A × B)) → i < n → heads test s ≡ false → item state s ≡ Got x t
     → with_front front (until test nowhere item grow last (n - i) state s) ≡ total
@@ -76,7 +76,7 @@ until_ends_at test apart item grow front n i state s total lt closed so_far =
     let h : this_at test s ≡ Got done (later_words s) = rw closed refl in
     until_ends test apart item grow (λ _. this_at test) front n i state done s (later_words s) total lt closed h so_far
 
--- the end cannot stand yet
+-- The end is not allowed yet.
 pub until_early : {S A B : Type 0} (test : Word → Bool) (apart : A → Word → Bool) (item : S → Reading A) (grow : S → A → S)
     (last : S → Reading B) (front : List A) (n i : ℕ) (state : S) (s u : List Word) (why : Stop) (total : ReadStep (List A × B)) → i < n
     → heads test s ≡ true → last state s ≡ Stuck why u
@@ -115,7 +115,7 @@ until_err test apart item grow last Syntax front n i state s t total lt going h 
 until_err test apart item grow last (stops.Limit l) front n i state s t total lt going h so_far = until_stops test apart item grow last front n i state s t (stops.Limit l) total lt going h so_far
 until_err test apart item grow last Memory front n i state s t total lt going h so_far = tt
 
--- the same for two sections, where the end tells the second
+-- As above for two sections, if the end determines the second.
 pub properties_err : {A C : Type 0} (test : Word → Bool) (apart : A → Word → Bool) (item : ℕ → Reading A) (grow : ℕ → A → ℕ)
     (last : ℕ → Reading (List C)) (e : Stop) (front : List A) (n i state : ℕ) (s t : List Word) (total : ReadStep (List A × List C)) → i < n
     → heads test s ≡ false → ReadsWords {X = A} (λ x. x) (Err e) t (item state s)
@@ -134,7 +134,7 @@ properties_end_err test apart item grow last Syntax front n i state s t total lt
 properties_end_err test apart item grow last (stops.Limit l) front n i state s t total lt closed h so_far = until_early test apart item grow last front n i state s t (stops.Limit l) total lt closed h so_far
 properties_end_err test apart item grow last Memory front n i state s t total lt closed h so_far = tt
 
--- ---- where only the state is kept
+-- ---- If only the state is kept.
 
 some_more : (n : ℕ) → (n ≡ 0 → ⊥) → n ≡ suc (n - 1)
 some_more n h = let k : 0 < n = positive n h in omega (arith, k)
@@ -175,7 +175,7 @@ gather_err test step last Syntax n state s t some going h = gather_stops test st
 gather_err test step last (stops.Limit l) n state s t some going h = gather_stops test step last n state s t (stops.Limit l) some going h
 gather_err test step last Memory n state s t some going h = tt
 
--- what a list of attributes needs
+-- The rules for a list of attributes.
 pub ruleset gathering = (gather_goes_on, gather_ends, gather_err)
 
 -- ---- the states of this grammar's lists
@@ -207,7 +207,7 @@ either_heads a b (w ∷ words) = refl
 abbrev pub so_far_read : ℕ → ItemsSeen → List Word → ReadStep (List LibraryContent × Unit {0})
 so_far_read n s words = until (passes (codes "}")) semicolon_after element_at elements_grow closing_at n s words
 
--- what was read before has these items
+-- The items among the elements read so far.
 pub record ItemsRead (xs : List Item) (n : ℕ) (s : ItemsSeen) (words : List Word) (total : ReadStep (List LibraryContent × Unit {0})) : Type 0 where
   pub front : List LibraryContent
   pub are : items_in front ≡ xs

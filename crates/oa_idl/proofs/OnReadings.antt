@@ -1,4 +1,4 @@
--- What a reading is made of: an answer that computes one unfolds it, and the definition of that reading.
+-- The parts of a parser: a proof that computes one unfolds it, and its definition.
 use Rattle.std.specs.Prelude.{⊤}
 use Rattle.oa_idl.specs.Reading.{bind, give, choose, require, demand, perhaps_at, list_at, gather_at, gather, fail}
 

@@ -1,5 +1,5 @@
--- A reading reads a form: what it takes is of the form; where it stops, nothing of the form begins with the words up to that one; and no
--- text of the form begins another.
+-- A parser agrees with a form: the words that it consumes are of the form. If it stops at a word, nothing of the form
+-- begins with the words up to and including this one. No sequence of the form is a proper prefix of another.
 use Rattle.std.proofs.Common.{◌≡◌, ℕ, ◌≤◌, Bool, true, false, cond, List, [], ◌∷◌, ◌++◌, length, Option, Some, ◌⊎◌, refl, sym, ap}
 use Rattle.std.proofs.Common.{subst, ◌∙◌, append_assoc}
 use Rattle.std.proofs.lemmas.List.{append-nil}
@@ -13,9 +13,9 @@ use Rattle.oa_idl.specs.Reading.{ReadStep, Reading, and_then, heads, done, later
 use Rattle.oa_idl.specs.Words.{NamedAt}
 use Rattle.oa_idl.specs.Reading.ReadStep.{Got, Stuck}
 
--- ---- what the laws say
+-- ---- The statements of the theorems.
 
--- what was taken from the front
+-- The words that a parser has consumed from the front.
 pub record Takes (F : List Word → Type 0) (words left : List Word) : Type 0 where
   pub text : List Word
   pub parts : words ≡ text ++ left
@@ -46,7 +46,7 @@ pub record Stops {C : Type 0} (R : C → Type 0) (F : C → List Word → Type 0
   pub named : StopsAt why left
   pub apart : (c : C) (text more : List Word) → R c → Keeps K why c → F c text → BeginsWithWords front left (text ++ more) → ⊥
 
--- R says which values are meant, K which of them keep a limit, and Q what is known of a value that was read
+-- R is the condition on the values, K says which of them keep a limit, and Q is known of a value that has been read.
 pub record Parses (n : ℕ) {C : Type 0} (R : C → Type 0) (F : C → List Word → Type 0) (K : TreeLimit → C → Type 0) (Q : C → Type 0)
     (read : List Word → ReadStep C) : Type 0 where
   pub same : (x y : C) (a b s t : List Word) → R x → R y → F x a → F y b → a ++ s ≡ b ++ t → (x ≡ y) × (s ≡ t)
@@ -95,7 +95,7 @@ bind_stuck {A} {B} (Stuck w s) next why t e = inl (same_stop w why s t e)
     same_stop : (w why : Stop) (s t : List Word) → stuck_at {A = B} w s ≡ Stuck why t → stuck_at {A = A} w s ≡ Stuck why t
     same_stop w why s t e = cc
 
--- a fault of syntax stands anywhere
+-- A syntax error may be at any word.
 pub syntax_stops : {A : Type 0} (words : List Word) (why : Stop) (left : List Word) → stuck_at {A = A} Syntax words ≡ Stuck why left
     → StopsAt why left
 syntax_stops words why left e = let z : Syntax ≡ why = cc in subst (λ (v : Stop). StopsAt v left) z tt
@@ -103,7 +103,7 @@ syntax_stops words why left e = let z : Syntax ≡ why = cc in subst (λ (v : St
 pub apart_cons : (w v : Word) (s t : List Word) → w ∷ s ≡ v ∷ t → (w ≡ v) × (s ≡ t)
 apart_cons w v s t e = (cc, cc)
 
--- what begins with two stretches goes on after the first as the second does
+-- Words that begin with two sequences continue after the first as the second does.
 pub begins_after : (a b left words : List Word) → BeginsWithWords (a ++ b) left words → (s : List Word) × (words ≡ a ++ s) × BeginsWithWords b left s
 begins_after a b [] words e = (b, e, refl)
 begins_after a b (w ∷ left) words e = (b ++ w ∷ e.0, e.1 ∙ append_assoc a b (w ∷ e.0), (e.0, refl))

@@ -14,7 +14,7 @@ use Rattle.oa_idl.specs.Words.{NamedAt}
 use Rattle.oa_idl.specs.Reading.ReadStep.{Got, Stuck}
 use Rattle.oa_idl.proofs.Parses.{Always, Keeps, Later, Parses, Stops, StopsAt, Takes, apart_cons, begins_after, bind_got, bind_stuck, got_is, shorter, some, stuck_at, syntax_stops, this_parses}
 
--- a part that says what follows, where H is known of its value
+-- A part that determines the following ones, if H is known of its value.
 pub with_known_parses : {n m : ℕ} {A C : Type 0} {F : A → List Word → Type 0} {K : TreeLimit → A → Type 0} {P H : A → Type 0} {R : C
     → Type 0} {G : A → C → List Word → Type 0} {L : TreeLimit → C → Type 0} {Q : C → Type 0} {read : Reading A} {next : A → Reading C}
     → Parses n Always F K P read
@@ -77,7 +77,7 @@ with_known_parses {n} {m} {A} {C} {F} {K} {P} {H} {R} {G} {L} {Q} {read} {next} 
               s.apart c f.form.back more h k (subst (λ (v : A). G v c f.form.back) one.0 f.form.second) (subst (BeginsWithWords s.front left) (sym one.1) past.2);
         }
 
--- a part that says what follows
+-- A part that determines the following ones.
 pub with_parses : {n m : ℕ} {A C : Type 0} {F : A → List Word → Type 0} {K : TreeLimit → A → Type 0} {P : A → Type 0} {R : C
     → Type 0} {G : A → C → List Word → Type 0} {L : TreeLimit → C → Type 0} {Q : C → Type 0} {read : Reading A} {next : A → Reading C}
     → Parses n Always F K P read
@@ -87,7 +87,7 @@ pub with_parses : {n m : ℕ} {A C : Type 0} {F : A → List Word → Type 0} {K
     → Parses n R (λ c. with F (λ a. G a c)) L Q (bind read next)
 with_parses r less has then = with_known_parses {H = Always} r less has (λ a text f. tt) (λ a h. then a)
 
--- the same texts, said otherwise
+-- The same sequences, by another form.
 pub said_parses : {n : ℕ} {C : Type 0} {R S : C → Type 0} {F G : C → List Word → Type 0} {K : TreeLimit → C → Type 0} {P Q : C
     → Type 0} {read : Reading C}
     → ((c : C) → R c → S c) → ((c : C) → S c → R c) → ((c : C) (text : List Word) → R c → F c text → G c text)
@@ -109,7 +109,7 @@ said_parses to from there back known r = record {
       };
 }
 
--- a fact that the form tells
+-- A fact that the form implies.
 pub fact_parses : {n : ℕ} {C : Type 0} {R P : C → Type 0} {F : C → List Word → Type 0} {K : TreeLimit → C → Type 0} {Q : C
     → Type 0} {read : Reading C} → Parses n (λ c. R c × P c) F K Q read → Parses n R (λ c ws. P c × F c ws) K Q read
 fact_parses r = record {
@@ -197,7 +197,7 @@ one_parses {n} {A} meaning over name_at = record {
         meant None is e = absurd cc
         meant (Some y) is e = within y is (over y) refl e
 
-    -- it stopped at the first word, which stands for nothing or breaks a limit
+    -- The parser stopped at the first word, which has no meaning or exceeds a limit.
     at_first : (words : List Word) (why : Stop) (left : List Word) → words ≡ left → StopsAt why left
         → ((x : A) (text more : List Word) → Keeps (λ l x. over x ≡ Some l → ⊥) why x → one meaning x text → BeginsWithWords [] words (text ++ more)
         → ⊥)

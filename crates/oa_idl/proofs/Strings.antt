@@ -1,11 +1,11 @@
--- The characters of a string as a loop takes them.
+-- The characters of a string, as a loop reads them.
 use Rattle.std.proofs.Common.{◌≡◌, ℕ, ◌+◌, ◌<◌, ◌≤◌, Bool, true, false, List, [], ◌∷◌, ◌++◌, length, drop, get_or, Option, Some, None, refl}
 use Rattle.std.proofs.Common.{sym, ap, ◌∙◌, append_assoc}
 use Rattle.std.specs.Prelude.{◌==◌}
 use Rattle.std.proofs.lemmas.List.{drop_more, drop_all, append-nil}
 use Rattle.oa_idl.specs.Words.{is_printable, is_escaped, with_character, characters_from}
 
--- what was taken before, and what follows
+-- The characters read so far, and the following ones.
 abbrev pub after_front : List ℕ → Option (List ℕ) → Option (List ℕ)
 after_front front None = None
 after_front front (Some bs) = Some (front ++ bs)
@@ -74,5 +74,5 @@ characters_end front bs n false total le so_far =
     let one : characters_from false (drop n bs) ≡ None = rw (drop_all n bs le) refl in
     sym (ap (after_front front) one) ∙ so_far
 
--- what the loop over characters needs
+-- The rules for the loop over characters.
 pub ruleset character_steps = (escape_taken, escape_refused, string_closed, escape_begins, character_taken, character_refused, characters_end)

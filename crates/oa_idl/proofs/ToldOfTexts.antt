@@ -1,4 +1,4 @@
--- What is told of a text, by what reading its words gave and where it stopped.
+-- The result for a text, from the result of parsing its words and the place at which parsing stopped.
 use Rattle.std.proofs.Common.{◌≡◌, ℕ, ◌-◌, List, length, Result, Ok, Err, refl, sym, subst}
 use Rattle.std.specs.Result.{MatchResult, IsErrAnd}
 use Rattle.oa_tokens.specs.declared.lexer.Token.{Token}
@@ -20,7 +20,7 @@ stop_told end place tokens words left Syntax at read = (left, read, at)
 stop_told end place tokens words left (stops.Limit l) at read = (left, l, refl, read)
 stop_told end place tokens words left Memory at read = tt
 
--- `error` says of each stop what its error is
+-- `error` is the error for each stop.
 pub parsed : (end place : ℕ) (tokens : List Token) (words left : List Word) (read : Result TreeValue Stop) (error : Stop → ParseError → Type 0)
     (result : Result TreeValue ParseError)
     → ((stop : Stop) (e : ParseError) → error stop e → e ≡ error_of place stop) → place ≡ place_after end tokens (length tokens - length left)

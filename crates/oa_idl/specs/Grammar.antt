@@ -30,19 +30,21 @@ use Rattle.oa_idl.specs.Forms.{Word, Form, ◌▸◌, nothing, given, this, one,
 use Rattle.oa_idl.specs.Forms.{gathered, nowhere}
 use Rattle.oa_idl.specs.Words.{passes, is_text, name_of, guid_of, part_of, id_of, word_type, amount_of, characters_of}
 
+-- One keyword or mark.
 abbrev pub sign : List ℕ → Form
 sign s = this (passes s)
 
 -- ---- lists of attributes: "[" att {"," att} "]"
 
--- the next attribute may come only where it did not come before
+-- A comma and an attribute that has not come before.
 abbrev pub next_attribute : {S A : Type 0} → (A → Form) → (S → A → Bool) → S → A → Form
 next_attribute attribute may_come s x = where_is (may_come s x ≡ true) (sign (codes ",") ▸ attribute x)
 
--- the list ends only where what is required was there; b is what the list says
+-- The end of a list of attributes; the required ones must have come before, and `b` is the value of the list.
 abbrev pub last_attribute : {S B : Type 0} → (S → Option B) → S → B → Form
 last_attribute finish s b = where_is (finish s ≡ Some b) (sign (codes "]"))
 
+-- A list of at least one attribute, none of them twice, with the value `b`.
 abbrev pub attributes : {S A B : Type 0} → (A → Form) → (S → A → Bool) → (S → A → S) → (S → Option B) → S → B → Form
 attributes attribute may_come grow finish s b =
     sign (codes "[") ▸ with (λ x. where_is (may_come s x ≡ true) (attribute x))
@@ -54,6 +56,7 @@ help = sign (codes "helpstring") ▸ sign (codes "(") ▸ this is_text ▸ sign 
 
 -- ---- attrs = "[" att {"," att} "]"    att = "uuid" "(" guid ")" | "version" "(" num ["." num] ")" | help
 
+-- An attribute of a library or an item.
 pub data HeadAttribute : Type 0 where
   Guid : List ℕ → HeadAttribute
   Numbered : Version → HeadAttribute
@@ -66,7 +69,7 @@ head_attribute counts (Numbered v) = sign (codes "version") ▸ sign (codes "(")
     (where_is (v.minor ≡ 0) (sign (codes ")")))
 head_attribute counts HeadHelp = help
 
--- version 0.0 where none is given
+-- No attribute so far. The version is 0.0 if none is given.
 abbrev pub no_head : HeadSeen
 no_head = record {
   uuid = false;
@@ -76,11 +79,13 @@ no_head = record {
       record { guid = zero_bytes; version = record { major = 0; minor = 0 } };
 }
 
+-- The attribute has not come before.
 abbrev pub head_may : HeadSeen → HeadAttribute → Bool
 head_may s (Guid g) = not s.uuid
 head_may s (Numbered v) = not s.version
 head_may s HeadHelp = not s.help
 
+-- The state after one more attribute.
 abbrev pub head_grow : HeadSeen → HeadAttribute → HeadSeen
 head_grow s (Guid g) =
     record { uuid = true; version = s.version; help = s.help; head = record { guid = g; version = s.head.version } }
@@ -88,31 +93,35 @@ head_grow s (Numbered v) =
     record { uuid = s.uuid; version = true; help = s.help; head = record { guid = s.head.guid; version = v } }
 head_grow s HeadHelp = record { uuid = s.uuid; version = s.version; help = true; head = s.head }
 
--- there has to be a uuid
+-- The value of the list, in which a `uuid` is required.
 abbrev pub head_finish : HeadSeen → Option Head
 head_finish s = if s.uuid then Some s.head else None
 
--- the attributes of a library, whose version counts, or of an item, whose version is ignored
+-- The attributes of a library, whose version counts, or of an item, whose version is ignored.
 unfoldable pub head : Bool → Head → Form
 head counts h = attributes (head_attribute counts) head_may head_grow head_finish no_head h
 
 -- ---- type = a type word | "SAFEARRAY" "(" type word of an element ")"
 
+-- The name of a scalar type.
 abbrev pub type_word : Bool → VarType → Form
 type_word in_array t =
     either_of (sign (codes "unsigned") ▸ one (word_type in_array true) t) (one (word_type in_array false) t)
 
+-- A scalar type, or an array type with the type of its elements.
 unfoldable pub value_type : ValueType → Form
 value_type (values.One t) = type_word false t
 value_type (values.Array t) = sign (codes "SAFEARRAY") ▸ sign (codes "(") ▸ type_word true t ▸ sign (codes ")")
 
 -- ---- prop = "[" att {"," att} "]" type name ";"    att = "id" "(" ["-"] num ")" | "readonly" | help
 
+-- An attribute of a property.
 pub data PropertyAttribute : Type 0 where
   Id : ℤ → PropertyAttribute
   Readonly : PropertyAttribute
   PropertyHelp : PropertyAttribute
 
+-- The number of an `id` with its sign.
 abbrev pub id_form : ℤ → Form
 id_form i = either_of (sign (codes "-") ▸ one (id_of true) i) (one (id_of false) i)
 
@@ -121,20 +130,23 @@ property_attribute (Id i) = sign (codes "id") ▸ sign (codes "(") ▸ id_form i
 property_attribute Readonly = sign (codes "readonly")
 property_attribute PropertyHelp = help
 
+-- No attribute so far.
 abbrev pub no_property : PropertySeen
 no_property = record { id = None; readonly = false; help = false }
 
+-- The attribute has not come before.
 abbrev pub property_may : PropertySeen → PropertyAttribute → Bool
 property_may s (Id i) = not (is_some s.id)
 property_may s Readonly = not s.readonly
 property_may s PropertyHelp = not s.help
 
+-- The state after one more attribute.
 abbrev pub property_grow : PropertySeen → PropertyAttribute → PropertySeen
 property_grow s (Id i) = record { id = Some i; readonly = s.readonly; help = s.help }
 property_grow s Readonly = record { id = s.id; readonly = true; help = s.help }
 property_grow s PropertyHelp = record { id = s.id; readonly = s.readonly; help = true }
 
--- there has to be an id
+-- The value of the list, in which an `id` is required.
 abbrev pub property_head_of : Option ℤ → Bool → Option PropertyHead
 property_head_of None readonly = None
 property_head_of (Some i) readonly = Some (record { id = i; readonly = readonly })
@@ -142,6 +154,7 @@ property_head_of (Some i) readonly = Some (record { id = i; readonly = readonly 
 abbrev pub property_finish : PropertySeen → Option PropertyHead
 property_finish s = property_head_of s.id s.readonly
 
+-- The attributes of a property.
 unfoldable pub property_head : PropertyHead → Form
 property_head h = attributes property_attribute property_may property_grow property_finish no_property h
 
@@ -154,10 +167,11 @@ property p = property_head (record {
 
 -- ---- param = ["[" patt {"," patt} "]"] type name    patt = "in" | "optional" | "defaultvalue" "(" literal ")"
 
--- how many came before
+-- The number of items, after one more.
 abbrev pub one_more : {A : Type 0} → ℕ → A → ℕ
 one_more n x = n + 1
 
+-- The closing brace.
 abbrev pub closing : {S : Type 0} → S → Unit {0} → Form
 closing s x = sign (codes "}")
 
@@ -171,6 +185,7 @@ literal (literals.Text cs) = one characters_of cs
 literal (literals.Bool true) = sign (codes "TRUE")
 literal (literals.Bool false) = sign (codes "FALSE")
 
+-- An attribute of a parameter.
 pub data ParameterAttribute : Type 0 where
   IsIn : ParameterAttribute
   IsOptional : ParameterAttribute
@@ -181,32 +196,38 @@ parameter_attribute IsIn = sign (codes "in")
 parameter_attribute IsOptional = sign (codes "optional")
 parameter_attribute (HasDefault v) = sign (codes "defaultvalue") ▸ sign (codes "(") ▸ literal v ▸ sign (codes ")")
 
+-- No attribute so far.
 abbrev pub no_parameter : ParameterSeen
 no_parameter = record { is_in = false; is_optional = false; default = None }
 
+-- The attribute has not come before.
 abbrev pub parameter_may : ParameterSeen → ParameterAttribute → Bool
 parameter_may s IsIn = not s.is_in
 parameter_may s IsOptional = not s.is_optional
 parameter_may s (HasDefault v) = not (is_some s.default)
 
+-- The state after one more attribute.
 abbrev pub parameter_grow : ParameterSeen → ParameterAttribute → ParameterSeen
 parameter_grow s IsIn = record { is_in = true; is_optional = s.is_optional; default = s.default }
 parameter_grow s IsOptional = record { is_in = s.is_in; is_optional = true; default = s.default }
 parameter_grow s (HasDefault v) = record { is_in = s.is_in; is_optional = s.is_optional; default = Some v }
 
--- none is required
+-- The value of the list, in which no attribute is required.
 abbrev pub parameter_finish : ParameterSeen → Option ParameterSeen
 parameter_finish s = Some s
 
+-- The attributes of a parameter.
 unfoldable pub parameter_head : ParameterSeen → Form
 parameter_head h = attributes parameter_attribute parameter_may parameter_grow parameter_finish no_parameter h
 
 abbrev pub head_of_parameter : Parameter → ParameterSeen
 head_of_parameter p = record { is_in = p.is_in; is_optional = p.is_optional; default = p.default }
 
+-- The type and name of a parameter.
 abbrev pub typed : Parameter → Form
 typed p = value_type p.value_type ▸ one name_of p.name ▸ nothing
 
+-- A parameter, with a list of attributes or without any.
 unfoldable pub parameter : Parameter → Form
 parameter p =
     either_of (parameter_head (head_of_parameter p) ▸ typed p) (where_is (head_of_parameter p ≡ no_parameter) (typed p))
@@ -214,12 +235,14 @@ parameter p =
 -- ---- method = "[" att {"," att} "]" (type | "void") name "(" [param {"," param}] ")" ";"
 -- att = "id" "(" ["-"] num ")" | "propget" | "propput" | help
 
+-- An attribute of a method.
 pub data MethodAttribute : Type 0 where
   MethodId : ℤ → MethodAttribute
   Propget : MethodAttribute
   Propput : MethodAttribute
   MethodHelp : MethodAttribute
 
+-- An `id`.
 abbrev pub numbered : ℤ → Form
 numbered i = sign (codes "id") ▸ sign (codes "(") ▸ id_form i ▸ sign (codes ")")
 
@@ -229,29 +252,31 @@ method_attribute Propget = sign (codes "propget")
 method_attribute Propput = sign (codes "propput")
 method_attribute MethodHelp = help
 
+-- No attribute so far.
 abbrev pub no_method : MethodSeen
 no_method = record { id = None; kind = forms.Method; help = false }
 
--- the form of a property
+-- The member is a get or put of a property.
 abbrev pub is_form : MethodKind → Bool
 is_form forms.Method = false
 is_form forms.Get = true
 is_form forms.Put = true
 
--- not both propget and propput
+-- The attribute has not come before. `propget` and `propput` exclude each other.
 abbrev pub method_may : MethodSeen → MethodAttribute → Bool
 method_may s (MethodId i) = not (is_some s.id)
 method_may s Propget = not (is_form s.kind)
 method_may s Propput = not (is_form s.kind)
 method_may s MethodHelp = not s.help
 
+-- The state after one more attribute.
 abbrev pub method_grow : MethodSeen → MethodAttribute → MethodSeen
 method_grow s (MethodId i) = record { id = Some i; kind = s.kind; help = s.help }
 method_grow s Propget = record { id = s.id; kind = forms.Get; help = s.help }
 method_grow s Propput = record { id = s.id; kind = forms.Put; help = s.help }
 method_grow s MethodHelp = record { id = s.id; kind = s.kind; help = true }
 
--- there has to be an id
+-- The value of the list, in which an `id` is required.
 abbrev pub method_head_of : Option ℤ → MethodKind → Option MethodHead
 method_head_of None kind = None
 method_head_of (Some i) kind = Some (record { id = i; kind = kind })
@@ -259,15 +284,17 @@ method_head_of (Some i) kind = Some (record { id = i; kind = kind })
 abbrev pub method_finish : MethodSeen → Option MethodHead
 method_finish s = method_head_of s.id s.kind
 
+-- The attributes of a method.
 unfoldable pub method_head : MethodHead → Form
 method_head h = attributes method_attribute method_may method_grow method_finish no_method h
 
--- a get is not void, and a put is
+-- The result may be void: that of a get never is, that of a put always.
 abbrev pub may_be_void : MethodKind → Bool
 may_be_void forms.Method = true
 may_be_void forms.Get = false
 may_be_void forms.Put = true
 
+-- The result may have a type.
 abbrev pub may_have_type : MethodKind → Bool
 may_have_type forms.Method = true
 may_have_type forms.Get = true
@@ -277,7 +304,7 @@ unfoldable pub result_type : MethodKind → Option ValueType → Form
 result_type k None = where_is (may_be_void k ≡ true) (sign (codes "void"))
 result_type k (Some t) = where_is (may_have_type k ≡ true) (value_type t)
 
--- a parameter that is the first, or not
+-- A parameter, with a comma before it unless it is the first.
 abbrev pub separated : Bool → Parameter → Form
 separated true p = parameter p
 separated false p = sign (codes ",") ▸ parameter p
@@ -285,15 +312,17 @@ separated false p = sign (codes ",") ▸ parameter p
 abbrev pub next_parameter : ℕ → Parameter → Form
 next_parameter n p = separated (n == 0) p
 
--- a put has at least one parameter
+-- The list of parameters may end after `n`: a put has at least one.
 abbrev pub may_end : MethodKind → ℕ → Bool
 may_end forms.Method n = true
 may_end forms.Get n = true
 may_end forms.Put n = not (n == 0)
 
+-- The bracket that closes the parameters.
 abbrev pub last_parameter : MethodKind → ℕ → Unit {0} → Form
 last_parameter k n x = where_is (may_end k n ≡ true) (sign (codes ")"))
 
+-- The rest of a method, after its attributes.
 abbrev pub method_body : MethodKind → MethodValue → Form
 method_body k m =
     result_type k m.value_type ▸ one name_of m.name ▸ sign (codes "(")
@@ -304,17 +333,20 @@ method m = method_head (record { id = m.id; kind = m.kind }) ▸ method_body m.k
 
 -- ---- disp = attrs "dispinterface" name "{" ["properties" ":" {prop}] ["methods" ":" {method}] "}"
 
--- the second section, after n members of the first, and the brace that closes the interface
+-- The second section, after `n` members of the first, and the brace that closes the interface. The section may be
+-- missing.
 abbrev pub methods : ℕ → List MethodValue → Form
 methods n ms =
     either_of (sign (codes "methods") ▸ sign (codes ":") ▸ listed (λ k. method) one_more nowhere closing n ms tt)
     (where_is (ms ≡ []) (sign (codes "}")))
 
+-- Both sections of an interface.
 abbrev pub members : List Property → List MethodValue → Form
 members ps ms =
     either_of (sign (codes "properties") ▸ sign (codes ":") ▸ listed (λ n. property) one_more nowhere methods 0 ps ms)
     (where_is (ps ≡ []) (methods 0 ms))
 
+-- An interface, after its attributes.
 abbrev pub interface : List ℕ → List Property → List MethodValue → Form
 interface name ps ms = sign (codes "dispinterface") ▸ one name_of name ▸ sign (codes "{") ▸ members ps ms ▸ nothing
 
@@ -324,6 +356,7 @@ interface name ps ms = sign (codes "dispinterface") ▸ one name_of name ▸ sig
 abbrev pub entry_word : Word → Bool
 entry_word w = passes (codes "dispinterface") w || passes (codes "interface") w
 
+-- An entry, after its `[default]`.
 abbrev pub named : Entry → Form
 named e = this entry_word ▸ one name_of e.interface ▸ sign (codes ";") ▸ nothing
 
@@ -331,23 +364,26 @@ abbrev pub entry_by : Bool → Entry → Form
 entry_by true e = sign (codes "[") ▸ sign (codes "default") ▸ sign (codes "]") ▸ named e
 entry_by false e = named e
 
+-- No entry so far.
 abbrev pub no_entry : EntriesSeen
 no_entry = record { some = false; default = false }
 
--- at most one default
+-- At most one entry is the default.
 abbrev pub entry_may : EntriesSeen → Entry → Bool
 entry_may s e = not (e.is_default && s.default)
 
+-- The state after one more entry.
 abbrev pub entry_grow : EntriesSeen → Entry → EntriesSeen
 entry_grow s e = record { some = true; default = s.default || e.is_default }
 
 abbrev pub entry : EntriesSeen → Entry → Form
 entry s e = where_is (entry_may s e ≡ true) (entry_by e.is_default e)
 
--- at least one entry
+-- The closing brace, after at least one entry.
 abbrev pub last_entry : EntriesSeen → Unit {0} → Form
 last_entry s x = where_is (s.some ≡ true) (sign (codes "}"))
 
+-- A coclass, after its attributes.
 abbrev pub coclass : List ℕ → List Entry → Form
 coclass name es =
     sign (codes "coclass") ▸ one name_of name ▸ sign (codes "{")
@@ -360,14 +396,16 @@ abbrev pub guid_of_item : Item → List ℕ
 guid_of_item (items.Interface d) = d.guid
 guid_of_item (items.Coclass c) = c.guid
 
+-- An item, after its attributes.
 abbrev pub body : Item → Form
 body (items.Interface d) = interface d.name d.properties d.methods
 body (items.Coclass c) = coclass c.name c.entries
 
+-- An item with its attributes.
 abbrev pub item : Item → Form
 item x = with (head false) (λ h. where_is (h.guid ≡ guid_of_item x) (body x))
 
--- what stands in a library: an import, which is ignored, or an item
+-- An element of a library: an import, which is ignored, or an item.
 pub data LibraryContent : Type 0 where
   Import : LibraryContent
   OfItem : Item → LibraryContent
@@ -379,14 +417,16 @@ unfoldable pub element : LibraryContent → Form
 element Import = importing
 element (OfItem x) = item x
 
+-- A semicolon may follow an item.
 abbrev pub semicolon_after : LibraryContent → Word → Bool
 semicolon_after Import w = false
 semicolon_after (OfItem x) w = passes (codes ";") w
 
--- how many interfaces and coclasses came before
+-- No interfaces and no coclasses so far.
 abbrev pub no_items : ItemsSeen
 no_items = record { interfaces = 0; coclasses = 0 }
 
+-- The numbers of interfaces and coclasses, after one more item.
 abbrev pub items_grow : ItemsSeen → Item → ItemsSeen
 items_grow s (items.Interface d) = record { interfaces = s.interfaces + 1; coclasses = s.coclasses }
 items_grow s (items.Coclass c) = record { interfaces = s.interfaces; coclasses = s.coclasses + 1 }
@@ -395,17 +435,19 @@ abbrev pub elements_grow : ItemsSeen → LibraryContent → ItemsSeen
 elements_grow s Import = s
 elements_grow s (OfItem x) = items_grow s x
 
--- the items alone
+-- The items among the elements.
 abbrev pub items_in : List LibraryContent → List Item
 items_in [] = []
 items_in (Import ∷ es) = items_in es
 items_in (OfItem x ∷ es) = x ∷ items_in es
 
+-- The elements of a library whose items are these, and the closing brace.
 unfoldable pub elements : List Item → Form
 elements xs =
     with (λ es. listed (λ s. element) elements_grow semicolon_after closing no_items es tt)
     (λ es. given (xs ≡ items_in es))
 
+-- A whole text.
 abbrev pub library : TreeValue → Form
 library t = head true (record { guid = t.guid; version = t.version }) ▸ sign (codes "library") ▸ one name_of t.name
     ▸ sign (codes "{") ▸

@@ -1,4 +1,4 @@
--- The grammar as functions that read.
+-- The grammar as parsing functions.
 use Rattle.std.specs.Prelude.{ℕ, ◌&&◌, ◌||◌, ◌==◌, Bool, true, false, not, List, [], length, Option, Some, None, ℤ}
 use Rattle.std.specs.Prelude.{is_some, codes}
 use Rattle.oa_model.specs.Limits.{max_interfaces, max_coclasses, max_members, max_parameters}
@@ -46,20 +46,23 @@ sign_at s = this_at (passes s)
 
 -- ---- lists of attributes
 
--- one attribute, and what there is with it
+-- Reads an attribute and adds it to the state.
 abbrev pub grown_at : {S A : Type 0} → (S → Reading A) → (S → A → S) → S → Reading S
 grown_at attribute grow s = attribute s >>= λ x. give (grow s x)
 
--- a comma cannot stand after all attributes that there are
+-- Reads a comma and an attribute; fails if all attributes have come before.
 abbrev pub next_at : {S A : Type 0} → (S → Reading A) → (S → A → S) → (S → Bool) → S → Reading A
 next_at attribute grow full s = require (not (full s)) (sign_at (codes ",") >>= λ _. attribute s)
 
+-- Reads a comma and an attribute, and adds it to the state.
 abbrev pub next_grown_at : {S A : Type 0} → (S → Reading A) → (S → A → S) → (S → Bool) → S → Reading S
 next_grown_at attribute grow full s = next_at attribute grow full s >>= λ x. give (grow s x)
 
+-- Reads the end of a list of attributes.
 abbrev pub last_at : {S B : Type 0} → (S → Option B) → S → Reading B
 last_at finish s = demand (finish s) (λ b. sign_at (codes "]") >>= λ _. give b)
 
+-- Reads a list of attributes.
 abbrev pub attributes_at : {S A B : Type 0} → (S → Reading A) → (S → A → S) → (S → Bool) → (S → Option B) → S
     → Reading B
 attributes_at attribute grow full finish s =
@@ -72,7 +75,7 @@ help_at =
 
 -- ---- attributes of libraries and items
 
--- the second part of a version, and the bracket that closes it
+-- Reads the second part of a version, and the closing bracket.
 unfoldable pub minor_at : Bool → Reading ℕ
 minor_at counts = choose (passes (codes "."))
     (sign_at (codes ".") >>= λ _. one_at (part_of counts) never_over >>= λ n. sign_at (codes ")") >>= λ _. give n)
@@ -95,6 +98,7 @@ head_attribute_at counts s = choose (passes (codes "uuid"))
     (require (not s.version) (version_at counts))
     (require (not s.help) (help_at >>= λ _. give HeadHelp)))
 
+-- All attributes have come before.
 abbrev pub head_full : HeadSeen → Bool
 head_full s = s.uuid && (s.version && s.help)
 
@@ -142,7 +146,7 @@ property_full s = is_some s.id && (s.readonly && s.help)
 unfoldable pub property_head_at : Reading PropertyHead
 property_head_at = attributes_at property_attribute_at property_grow property_full property_finish no_property
 
--- a property after n members of its interface
+-- Reads a property, after `n` members of its interface.
 unfoldable pub property_at : ℕ → Reading Property
 property_at n =
     property_head_at >>= λ h. value_type_at >>= λ t. one_at name_of (over limits.Members max_members n) >>= λ name.
@@ -182,7 +186,7 @@ parameter_full s = s.is_in && (s.is_optional && is_some s.default)
 unfoldable pub parameter_head_at : Reading ParameterSeen
 parameter_head_at = attributes_at parameter_attribute_at parameter_grow parameter_full parameter_finish no_parameter
 
--- the type and name of a parameter after n others
+-- Reads the type and name of a parameter, after `n` others.
 unfoldable pub typed_at : ℕ → ParameterSeen → Reading Parameter
 typed_at n h = value_type_at >>= λ t. one_at name_of (over limits.Params max_parameters n) >>= λ name.
     give (record { is_in = h.is_in; is_optional = h.is_optional; default = h.default; value_type = t; name = name })
@@ -190,7 +194,7 @@ typed_at n h = value_type_at >>= λ t. one_at name_of (over limits.Params max_pa
 unfoldable pub parameter_at : ℕ → Reading Parameter
 parameter_at n = choose (passes (codes "[")) (parameter_head_at >>= λ h. typed_at n h) (typed_at n no_parameter)
 
--- the first, or another behind its comma
+-- Reads the first parameter, or a comma and another one.
 unfoldable pub separated_at : ℕ → Bool → Reading Parameter
 separated_at n true = parameter_at n
 separated_at n false = sign_at (codes ",") >>= λ _. parameter_at n
@@ -225,7 +229,7 @@ unfoldable pub result_type_at : MethodKind → Reading (Option ValueType)
 result_type_at k = choose (passes (codes "void")) (require (may_be_void k) (sign_at (codes "void")) >>= λ _. give None)
     (require (may_have_type k) value_type_at >>= λ t. give (Some t))
 
--- what follows the attributes of a method after n members of its interface
+-- Reads the rest of a method after its attributes, after `n` members of its interface.
 unfoldable pub method_body_at : ℕ → MethodHead → Reading MethodValue
 method_body_at n h = result_type_at h.kind >>= λ t. one_at name_of (over limits.Members max_members n) >>= λ name.
     sign_at (codes "(") >>= λ _. parameters_at h.kind >>= λ ps. sign_at (codes ";") >>= λ _.
@@ -242,7 +246,7 @@ methods_at n = choose (passes (codes "methods"))
     list_at (passes (codes "}")) nowhere method_at one_more closing_at n >>= λ ms. give ms.0)
     (sign_at (codes "}") >>= λ _. give [])
 
--- the first section ends before the second, or before the brace
+-- The section of properties ends before this word: the section of methods begins, or the interface ends.
 abbrev pub ends_properties : Word → Bool
 ends_properties w = passes (codes "methods") w || passes (codes "}") w
 
@@ -295,7 +299,7 @@ import_at = sign_at (codes "importlib") >>= λ _. sign_at (codes "(") >>= λ _. 
 unfoldable pub element_at : ItemsSeen → Reading LibraryContent
 element_at s = choose (passes (codes "importlib")) (import_at >>= λ _. give Import) (item_at s >>= λ x. give (OfItem x))
 
--- the items of at most so many imports and items
+-- Reads fewer than `n` imports and items, and returns the items.
 unfoldable pub elements_within : ℕ → Reading (List Item)
 elements_within n = until (passes (codes "}")) semicolon_after element_at elements_grow closing_at n no_items >>= λ es.
     give (items_in es.0)

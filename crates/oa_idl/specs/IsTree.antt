@@ -1,4 +1,4 @@
--- What parsing answers.
+-- The result of parsing a text.
 use Rattle.std.specs.Prelude.{◌≡◌, ℕ, ◌<◌, ◌≤◌, slice_get, Option, Some, None, List, ◌∷◌, ◌++◌, length, Result, Ok, Err}
 use Rattle.oa_model.specs.Limits.{max_library_bytes}
 use Rattle.oa_tokens.specs.declared.lexer.Token.{Token}
@@ -14,11 +14,11 @@ use Rattle.oa_idl.specs.Words.{words_of, NamedAt}
 use Rattle.oa_idl.specs.Grammar.{library}
 use Rattle.oa_idl.specs.Limits.{KeepsLimit}
 
--- a text is not too long
+-- The text is at most `max_library_bytes` long.
 abbrev pub MayBeText : List ℕ → Type 0
 MayBeText text = length text ≤ max_library_bytes
 
--- the tree that a text stands for: its tokens are in the grammar with that tree, and all limits are kept
+-- The text encodes this tree: its tokens are in the grammar with the tree, and the text and the tree keep all limits.
 pub record IsTree (text : List ℕ) (t : TreeValue) : Type 0 where
   pub short : MayBeText text
   pub tokens : List Token
@@ -26,15 +26,17 @@ pub record IsTree (text : List ℕ) (t : TreeValue) : Type 0 where
   pub form : library t (words_of text tokens)
   pub kept : (l : TreeLimit) → KeepsLimit l t
 
+-- The offset of a token; that of the end if there is none.
 abbrev pub token_place : ℕ → Option Token → ℕ
 token_place end None = end
 token_place end (Some t) = t.start
 
--- the place of the token after n others, or of the end
+-- The offset of the token after `n` others, or of the end.
 abbrev pub place_after : ℕ → List Token → ℕ → ℕ
 place_after end tokens n = token_place end (slice_get tokens n)
 
--- no text of the grammar whose tree is in P begins with the tokens up to and with the one at this place
+-- The token at this offset is refused: no text of the grammar whose tree is in `P` begins with the tokens up to and
+-- including this one.
 pub record Refused (P : TreeValue → Type 0) (text : List ℕ) (place : ℕ) : Type 0 where
   pub tokens : List Token
   pub are : AreTokens 0 text tokens
@@ -47,8 +49,8 @@ pub record Refused (P : TreeValue → Type 0) (text : List ℕ) (place : ℕ) : 
 abbrev pub AnyTree : TreeValue → Type 0
 AnyTree t = Unit {0}
 
--- A limit is broken at a name: no text of the grammar whose tree keeps the limit begins with the tokens up to and with
--- that name.
+-- A limit is exceeded at a name: no text of the grammar whose tree keeps the limit begins with the tokens up to and
+-- including that name.
 pub record BrokenAt (l : TreeLimit) (text : List ℕ) : Type 0 where
   pub tokens : List Token
   pub are : AreTokens 0 text tokens
@@ -60,9 +62,12 @@ pub record BrokenAt (l : TreeLimit) (text : List ℕ) : Type 0 where
   pub never : (t : TreeValue) (other more : List Word) → KeepsLimit l t → library t other → other ≡ front ++ word ∷ more
       → ⊥
 
+-- The text is not too long, and exceeds another limit.
 abbrev pub BreaksLimit : TreeLimit → List ℕ → Type 0
 BreaksLimit l text = MayBeText text × BrokenAt l text
 
+-- The result of `parse` is right: the tree of the text, a token that is refused, a limit that is exceeded, or no memory
+-- for a text that is not too long.
 abbrev pub AnswersText : List ℕ → Result TreeValue ParseError → Type 0
 AnswersText text (Ok t) = IsTree text t
 AnswersText text (Err (errors.Syntax place)) = MayBeText text × Refused AnyTree text place
@@ -74,7 +79,7 @@ AnswersText text (Err (errors.Limit texts.Members)) = BreaksLimit limits.Members
 AnswersText text (Err (errors.Limit texts.Params)) = BreaksLimit limits.Params text
 AnswersText text (Err errors.Memory) = MayBeText text
 
--- a text that has a tree is answered by it, or by want of memory
+-- The result of `parse` for a text with this tree is the tree, or `Memory`.
 abbrev pub AnswersTree : TreeValue → Result TreeValue ParseError → Type 0
 AnswersTree t (Ok u) = u ≡ t
 AnswersTree t (Err (errors.Syntax place)) = ⊥

@@ -1,4 +1,4 @@
--- Which trees keep the limits. The limits are this project's choice.
+-- The trees that keep the limits. The limits are this project's choice.
 use Rattle.std.specs.Prelude.{ℕ, ◌+◌, ◌≤◌, List, [], ◌∷◌, length}
 use Rattle.std.specs.List.{AllByRecursion}
 use Rattle.oa_model.specs.Limits.{max_name_characters, max_interfaces, max_coclasses, max_members, max_parameters}
@@ -12,13 +12,15 @@ use Rattle.oa_idl.specs.declared.items.Item.{Item}
 use Rattle.oa_idl.specs.declared.items.Item.TheVariants as items
 use Rattle.oa_idl.specs.Trees.{TreeValue}
 
+-- The name is not too long.
 abbrev pub IsShort : List ℕ → Type 0
 IsShort name = length name ≤ max_name_characters
 
+-- The name of the method and those of its parameters are not too long.
 abbrev pub HasShortParameters : MethodValue → Type 0
 HasShortParameters m = IsShort m.name × AllByRecursion (λ (p : Parameter). IsShort p.name) m.parameters
 
--- each name of an item is short
+-- All names in the item are not too long.
 abbrev pub HasShortNames : Item → Type 0
 HasShortNames (items.Interface d) = IsShort d.name × AllByRecursion (λ (p : Property). IsShort p.name) d.properties
     × AllByRecursion HasShortParameters d.methods
@@ -32,23 +34,23 @@ abbrev pub one_coclass : Item → ℕ
 one_coclass (items.Interface d) = 0
 one_coclass (items.Coclass c) = 1
 
--- how many items count
+-- The sum of the weights of the items.
 abbrev pub how_many : (Item → ℕ) → List Item → ℕ
 how_many weight [] = 0
 how_many weight (x ∷ xs) = weight x + how_many weight xs
 
--- an interface has not too many members, a get and a put counting as two
+-- The interface has at most `max_members` members; a get and a put count as two.
 abbrev pub HasFewMembers : Item → Type 0
 HasFewMembers (items.Interface d) = length d.properties + length d.methods ≤ max_members
 HasFewMembers (items.Coclass c) = Unit {0}
 
--- a member has not too many parameters, the new value of a put being one
+-- Each member has at most `max_parameters` parameters; the new value of a put counts as one.
 abbrev pub HasFewParameters : Item → Type 0
 HasFewParameters (items.Interface d) =
     AllByRecursion (λ (m : MethodValue). length m.parameters ≤ max_parameters) d.methods
 HasFewParameters (items.Coclass c) = Unit {0}
 
--- a tree keeps one of the limits
+-- The tree keeps this limit.
 abbrev pub KeepsLimit : TreeLimit → TreeValue → Type 0
 KeepsLimit limits.Name t = IsShort t.name × AllByRecursion HasShortNames t.items
 KeepsLimit limits.Interfaces t = how_many one_interface t.items ≤ max_interfaces

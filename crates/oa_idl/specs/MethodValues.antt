@@ -1,10 +1,10 @@
--- What contracts see of a member of the section `methods:`.
+-- Members of the section `methods:`, as contracts see them.
 use Rattle.std.specs.Prelude.{ℕ, ℤ, List, Option}
 use Rattle.oa_model.specs.declared.var_type.ValueType.{ValueType}
 use Rattle.oa_idl.specs.declared.parts.MethodKind.{MethodKind}
 use Rattle.oa_idl.specs.declared.parts.Parameter.{Parameter}
 
--- None is the type void
+-- A method, a get or a put. The type None is void.
 pub record MethodValue : Type 0 where
   pub id : ℤ
   pub kind : MethodKind

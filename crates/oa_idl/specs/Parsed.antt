@@ -1,4 +1,4 @@
--- What reading the words of a text answers, in terms of the reading.
+-- The result of parsing the words of a text, in terms of the parsing functions.
 use Rattle.std.specs.Prelude.{◌≡◌, ℕ, ◌-◌, List, length, Result, Ok, Err}
 use Rattle.oa_tokens.specs.declared.lexer.Token.{Token}
 use Rattle.oa_idl.specs.declared.stop.Stop.TheVariants.{Syntax}
@@ -13,7 +13,7 @@ use Rattle.oa_idl.specs.GrammarReading.{library_at}
 use Rattle.oa_idl.specs.TextLimits.{limit_of}
 use Rattle.oa_idl.specs.IsTree.{place_after}
 
--- tokens are those of the words, in a text that ends at `end`
+-- The result of `parse_words` is right. `tokens` are those of the words, in a text that ends at the offset `end`.
 abbrev pub IsParsed : ℕ → List Token → List Word → Result TreeValue ParseError → Type 0
 IsParsed end tokens words (Ok t) = (left : List Word) × (library_at words ≡ Got t left)
 IsParsed end tokens words (Err (errors.Syntax place)) =

@@ -9,6 +9,7 @@ use Rattle.oa_idl.specs.declared.stop.Stop.TheVariants as stops
 use Rattle.oa_idl.specs.declared.stop.ParseError.{ParseError}
 use Rattle.oa_idl.specs.declared.stop.ParseError.TheVariants as errors
 
+-- The limit of a text that is this limit of a tree.
 abbrev pub limit_of : TreeLimit → Limit
 limit_of limits.Name = texts.Name
 limit_of limits.Interfaces = texts.Interfaces
@@ -16,7 +17,7 @@ limit_of limits.Coclasses = texts.Coclasses
 limit_of limits.Members = texts.Members
 limit_of limits.Params = texts.Params
 
--- what is told of a text where reading stopped at the word that begins at a place
+-- The error of a text whose parsing stopped at the word that begins at `place`.
 abbrev pub error_of : ℕ → Stop → ParseError
 error_of place stops.Syntax = errors.Syntax place
 error_of place (stops.Limit l) = errors.Limit (limit_of l)

@@ -1,4 +1,4 @@
-//! Lists of attributes.
+//! Parses lists of attributes.
 ghost use Rattle.std.specs.Prelude.{codes};
 ghost use Rattle.oa_idl.specs.declared.seen.HeadSeen.{HeadSeen};
 ghost use Rattle.oa_idl.specs.declared.seen.PropertySeen.{PropertySeen};
@@ -15,6 +15,7 @@ use crate::seen::{Head, HeadSeen, PropertyHead, PropertySeen};
 use crate::stop::Stop;
 use uuid::Uuid;
 
+/// Reads a `helpstring` attribute and drops its text.
 #[tactic(auto, unfolding(crate::proofs::OnReadings::combinators, crate::specs::GrammarReading::help_at))]
 pub(crate) fn help(r: &mut Reader<'_>) -> Result<(), Stop>
     ensures { ReadsWords (λ _. done) result r.new (help_at r.old) }
@@ -27,7 +28,7 @@ pub(crate) fn help(r: &mut Reader<'_>) -> Result<(), Stop>
 
 // ---- of a library or an item
 
-/// The second part of a version, 0 where there is none, and the bracket that closes it.
+/// Reads the second part of a version, which is 0 if it is missing, and the closing bracket.
 #[tactic(auto, unfolding(crate::proofs::OnReadings::combinators, crate::specs::GrammarReading::minor_at))]
 fn minor(r: &mut Reader<'_>, counts: bool) -> Result<u16, Stop>
     ensures { ReadsWords (λ n. n) result r.new (minor_at counts r.old) }
@@ -42,6 +43,7 @@ fn minor(r: &mut Reader<'_>, counts: bool) -> Result<u16, Stop>
     Ok(0)
 }
 
+/// Reads a `uuid` attribute.
 #[tactic(auto, unfolding(crate::proofs::OnReadings::combinators, crate::specs::GrammarReading::uuid_at))]
 fn uuid(r: &mut Reader<'_>) -> Result<Uuid, Stop>
     ensures { ReadsWords (λ g. Guid g) result r.new (uuid_at r.old) }
@@ -53,6 +55,7 @@ fn uuid(r: &mut Reader<'_>) -> Result<Uuid, Stop>
     Ok(guid)
 }
 
+/// Reads a `version` attribute. If `counts` is false, any numbers are allowed and read as 0.
 #[tactic(auto, unfolding(crate::proofs::OnReadings::combinators, crate::specs::GrammarReading::version_at))]
 fn version(r: &mut Reader<'_>, counts: bool) -> Result<Version, Stop>
     ensures { ReadsWords (λ v. Numbered v) result r.new (version_at counts r.old) }
@@ -64,6 +67,7 @@ fn version(r: &mut Reader<'_>, counts: bool) -> Result<Version, Stop>
     Ok(Version { major, minor })
 }
 
+/// Reads an attribute that has not been read before, and adds it to `seen`.
 #[tactic(auto, unfolding(crate::proofs::OnReadings::combinators, crate::specs::GrammarReading::head_attribute_at))]
 fn head_attribute(r: &mut Reader<'_>, counts: bool, seen: HeadSeen) -> Result<HeadSeen, Stop>
     ensures { ReadsWords (λ s. s) result r.new (grown_at (head_attribute_at counts) head_grow seen r.old) }
@@ -100,6 +104,7 @@ fn head_attribute(r: &mut Reader<'_>, counts: bool, seen: HeadSeen) -> Result<He
     Ok(HeadSeen { help: true, ..seen })
 }
 
+/// Reads a comma and the next attribute.
 #[tactic(auto, unfolding(crate::proofs::OnReadings::combinators))]
 fn next_head_attribute(r: &mut Reader<'_>, counts: bool, seen: HeadSeen) -> Result<HeadSeen, Stop>
     ensures { ReadsWords (λ s. s) result r.new (next_grown_at (head_attribute_at counts) head_grow head_full seen r.old) }
@@ -111,6 +116,7 @@ fn next_head_attribute(r: &mut Reader<'_>, counts: bool, seen: HeadSeen) -> Resu
     head_attribute(r, counts, seen)
 }
 
+/// Reads the bracket that closes the list. There must be a `uuid`.
 #[tactic(auto, unfolding(crate::proofs::OnReadings::combinators))]
 fn last_head_attribute(r: &mut Reader<'_>, seen: HeadSeen) -> Result<Head, Stop>
     ensures { ReadsWords (λ h. h) result r.new (last_at head_finish seen r.old) }
@@ -122,6 +128,7 @@ fn last_head_attribute(r: &mut Reader<'_>, seen: HeadSeen) -> Result<Head, Stop>
     Ok(seen.head)
 }
 
+/// Reads at most `room - 1` further attributes, and the bracket that closes the list.
 #[tactic(auto, unfolding(crate::proofs::OnReadings::round), using(crate::proofs::Loop::gathering))]
 fn more_head_attributes(
     r: &mut Reader<'_>,
@@ -142,7 +149,7 @@ fn more_head_attributes(
     more_head_attributes(r, counts, next, room - 1)
 }
 
-/// The attributes of a library, whose version counts, or of an item.
+/// Reads the attributes of a library, whose version counts, or of an item, whose version is ignored.
 #[tactic(auto, unfolding(crate::proofs::OnReadings::combinators, crate::specs::GrammarReading::head_at))]
 pub(crate) fn head(r: &mut Reader<'_>, counts: bool) -> Result<Head, Stop>
     ensures { ReadsWords (λ h. h) result r.new (head_at counts r.old) }
@@ -167,7 +174,7 @@ pub(crate) fn head(r: &mut Reader<'_>, counts: bool) -> Result<Head, Stop>
 
 // ---- of a property
 
-/// A number of an id with its sign.
+/// Reads the number of an `id` with its sign.
 #[tactic(auto, unfolding(crate::proofs::OnReadings::combinators, crate::specs::GrammarReading::signed_at))]
 fn signed(r: &mut Reader<'_>) -> Result<i32, Stop>
     ensures { ReadsWords (λ i. i) result r.new (signed_at r.old) }
@@ -179,7 +186,7 @@ fn signed(r: &mut Reader<'_>) -> Result<i32, Stop>
     r.id(false)
 }
 
-/// An id.
+/// Reads an `id` attribute.
 #[tactic(auto, unfolding(crate::proofs::OnReadings::combinators, crate::specs::GrammarReading::numbered_at))]
 pub(crate) fn numbered(r: &mut Reader<'_>) -> Result<i32, Stop>
     ensures { ReadsWords (λ i. i) result r.new (numbered_at r.old) }
@@ -191,6 +198,7 @@ pub(crate) fn numbered(r: &mut Reader<'_>) -> Result<i32, Stop>
     Ok(id)
 }
 
+/// Reads an attribute that has not been read before, and adds it to `seen`.
 #[tactic(auto, unfolding(crate::proofs::OnReadings::combinators, crate::specs::GrammarReading::id_at, crate::specs::GrammarReading::property_attribute_at))]
 fn property_attribute(r: &mut Reader<'_>, seen: PropertySeen) -> Result<PropertySeen, Stop>
     ensures { ReadsWords (λ s. s) result r.new (grown_at property_attribute_at property_grow seen r.old) }
@@ -222,6 +230,7 @@ fn property_attribute(r: &mut Reader<'_>, seen: PropertySeen) -> Result<Property
     Ok(PropertySeen { help: true, ..seen })
 }
 
+/// Reads a comma and the next attribute.
 #[tactic(auto, unfolding(crate::proofs::OnReadings::combinators))]
 fn next_property_attribute(r: &mut Reader<'_>, seen: PropertySeen) -> Result<PropertySeen, Stop>
     ensures { ReadsWords (λ s. s) result r.new (next_grown_at property_attribute_at property_grow property_full seen r.old) }
@@ -233,6 +242,7 @@ fn next_property_attribute(r: &mut Reader<'_>, seen: PropertySeen) -> Result<Pro
     property_attribute(r, seen)
 }
 
+/// Reads the bracket that closes the list. There must be an `id`.
 #[tactic(auto, unfolding(crate::proofs::OnReadings::combinators))]
 fn last_property_attribute(r: &mut Reader<'_>, seen: PropertySeen) -> Result<PropertyHead, Stop>
     ensures { ReadsWords (λ h. h) result r.new (last_at property_finish seen r.old) }
@@ -247,6 +257,7 @@ fn last_property_attribute(r: &mut Reader<'_>, seen: PropertySeen) -> Result<Pro
     })
 }
 
+/// Reads at most `room - 1` further attributes, and the bracket that closes the list.
 #[tactic(auto, unfolding(crate::proofs::OnReadings::round), using(crate::proofs::Loop::gathering))]
 fn more_property_attributes(
     r: &mut Reader<'_>,
@@ -266,7 +277,7 @@ fn more_property_attributes(
     more_property_attributes(r, next, room - 1)
 }
 
-/// The attributes of a property.
+/// Reads the attributes of a property.
 #[tactic(auto, unfolding(crate::proofs::OnReadings::combinators, crate::specs::GrammarReading::property_head_at))]
 pub(crate) fn property_head(r: &mut Reader<'_>) -> Result<PropertyHead, Stop>
     ensures { ReadsWords (λ h. h) result r.new (property_head_at r.old) }

@@ -3,7 +3,8 @@ ghost use Rattle.std.specs.Prelude.{◌≡◌};
 
 use std::marker::Model;
 
-/// The characters of a default string, without its quotes and escapes: ASCII from the blank to the tilde, in a tree that was parsed.
+/// The characters of a default string, without its quotes and escapes. In a tree that was parsed, these are the ASCII characters from the
+/// space to the tilde.
 #[derive(Drop)]
 pub struct Characters {
     bytes: Vec<u8>,
@@ -18,14 +19,14 @@ impl Model for Characters {
 }
 
 impl Characters {
-    /// These characters.
+    /// Makes a string of these characters. They are not checked.
     pub fn from_bytes(bytes: Vec<u8>) -> Characters
         ensures { result ≡ bytes.items }
     {
         Characters { bytes }
     }
 
-    /// Its bytes, one for each character.
+    /// Returns the bytes, one for each character.
     pub fn as_bytes(&self) -> &[u8]
         ensures { result.now ≡ self.now }
     {

@@ -8,13 +8,13 @@ use uuid::Uuid;
 /// A dispinterface.
 #[derive(Drop)]
 pub struct Interface {
-    /// Its GUID.
+    /// The GUID.
     pub guid: Uuid,
-    /// Its name.
+    /// The name.
     pub name: Name,
-    /// The section `properties:`, in the text's order.
+    /// The members of the section `properties:`, in the text's order.
     pub properties: Vec<Property>,
-    /// The section `methods:`, in the text's order.
+    /// The members of the section `methods:`, in the text's order.
     pub methods: Vec<Method>,
 }
 
@@ -29,11 +29,11 @@ impl Model for Interface {
 /// A coclass.
 #[derive(Drop)]
 pub struct Coclass {
-    /// Its GUID.
+    /// The GUID.
     pub guid: Uuid,
-    /// Its name.
+    /// The name.
     pub name: Name,
-    /// Its interfaces in the text's order, of which at most one is marked as the default.
+    /// The interfaces in the text's order. At most one is marked as the default.
     pub entries: Vec<Entry>,
 }
 

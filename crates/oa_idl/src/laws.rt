@@ -1,9 +1,9 @@
-//! Laws over the definitions alone.
+//! Theorems about the definitions alone.
 ghost use Rattle.std.specs.Prelude.{◌≡◌, ℕ, List};
 ghost use Rattle.oa_idl.specs.Trees.{TreeValue};
 ghost use Rattle.oa_idl.specs.IsTree.{IsTree};
 
-/// A text stands for one tree.
+/// A text has at most one tree.
 pub fn one_tree()
     ensures { (text : List ℕ) (s t : TreeValue) → IsTree text s → IsTree text t → s ≡ t }
 {}

@@ -7,15 +7,15 @@ use std::marker::Model;
 /// A member of the section `methods:`.
 #[derive(Drop)]
 pub struct Method {
-    /// The DISPID: any number of 32 bits but -1 and -3.
+    /// The DISPID: any number of 32 bits except -1 and -3.
     pub id: i32,
-    /// A method, or a form of a property.
+    /// Whether it is a method, or a get or put of a property.
     pub kind: MethodKind,
-    /// The type of the result, None for `void`. A get is not void, a put is.
+    /// The type of the result; None for `void`. A get always has a type, a put never.
     pub value_type: Option<ValueType>,
-    /// Its name.
+    /// The name.
     pub name: Name,
-    /// In the text's order; a put has at least one, the last being the new value.
+    /// The parameters in the text's order. A put has at least one; its last one is the new value.
     pub parameters: Vec<Parameter>,
 }
 

@@ -1,4 +1,4 @@
-//! The section `methods:`.
+//! Parses the section `methods:`.
 ghost use Rattle.std.specs.Prelude.{◌≡◌, ◌<◌, IfOk, codes};
 ghost use Rattle.oa_model.specs.Limits.{max_members};
 ghost use Rattle.oa_idl.specs.Forms.{nowhere};
@@ -19,7 +19,7 @@ use crate::stop::{Stop, TreeLimit};
 use oa_model::{MAX_MEMBERS, ValueType};
 use std::alloc::Global;
 
-/// Whether it is a form of a property.
+/// Returns whether the member is a get or put of a property.
 fn is_form(kind: MethodKind) -> bool
     ensures { result ≡ is_form kind }
 {
@@ -29,6 +29,7 @@ fn is_form(kind: MethodKind) -> bool
     }
 }
 
+/// Reads an attribute that has not been read before, and adds it to `seen`. `propget` and `propput` exclude each other.
 #[tactic(auto, unfolding(crate::proofs::OnReadings::combinators, crate::specs::GrammarReading::method_attribute_at))]
 fn method_attribute(r: &mut Reader<'_>, seen: MethodSeen) -> Result<MethodSeen, Stop>
     ensures { ReadsWords (λ s. s) result r.new (grown_at method_attribute_at method_grow seen r.old) }
@@ -70,6 +71,7 @@ fn method_attribute(r: &mut Reader<'_>, seen: MethodSeen) -> Result<MethodSeen, 
     Ok(MethodSeen { help: true, ..seen })
 }
 
+/// Reads a comma and the next attribute.
 #[tactic(auto, unfolding(crate::proofs::OnReadings::combinators))]
 fn next_method_attribute(r: &mut Reader<'_>, seen: MethodSeen) -> Result<MethodSeen, Stop>
     ensures { ReadsWords (λ s. s) result r.new (next_grown_at method_attribute_at method_grow method_full seen r.old) }
@@ -81,6 +83,7 @@ fn next_method_attribute(r: &mut Reader<'_>, seen: MethodSeen) -> Result<MethodS
     method_attribute(r, seen)
 }
 
+/// Reads the bracket that closes the list. There must be an `id`.
 #[tactic(auto, unfolding(crate::proofs::OnReadings::combinators))]
 fn last_method_attribute(r: &mut Reader<'_>, seen: MethodSeen) -> Result<MethodHead, Stop>
     ensures { ReadsWords (λ h. h) result r.new (last_at method_finish seen r.old) }
@@ -95,6 +98,7 @@ fn last_method_attribute(r: &mut Reader<'_>, seen: MethodSeen) -> Result<MethodH
     })
 }
 
+/// Reads at most `room - 1` further attributes, and the bracket that closes the list.
 #[tactic(auto, unfolding(crate::proofs::OnReadings::round), using(crate::proofs::Loop::gathering))]
 fn more_method_attributes(
     r: &mut Reader<'_>,
@@ -114,7 +118,7 @@ fn more_method_attributes(
     more_method_attributes(r, next, room - 1)
 }
 
-/// The attributes of a method.
+/// Reads the attributes of a method.
 #[tactic(auto, unfolding(crate::proofs::OnReadings::combinators, crate::specs::GrammarReading::method_head_at))]
 fn method_head(r: &mut Reader<'_>) -> Result<MethodHead, Stop>
     ensures { ReadsWords (λ h. h) result r.new (method_head_at r.old) }
@@ -132,6 +136,7 @@ fn method_head(r: &mut Reader<'_>) -> Result<MethodHead, Stop>
     more_method_attributes(r, first, room)
 }
 
+/// Returns whether the result may be `void`.
 fn may_be_void(kind: MethodKind) -> bool
     ensures { result ≡ may_be_void kind }
 {
@@ -141,6 +146,7 @@ fn may_be_void(kind: MethodKind) -> bool
     }
 }
 
+/// Returns whether the result may have a type.
 fn may_have_type(kind: MethodKind) -> bool
     ensures { result ≡ may_have_type kind }
 {
@@ -150,7 +156,7 @@ fn may_have_type(kind: MethodKind) -> bool
     }
 }
 
-/// The type of a result, None for `void`.
+/// Reads the type of a result, None for `void`.
 #[tactic(auto, unfolding(crate::proofs::OnReadings::combinators, crate::specs::GrammarReading::result_type_at))]
 fn result_type(r: &mut Reader<'_>, kind: MethodKind) -> Result<Option<ValueType>, Stop>
     ensures { ReadsWords (λ t. t) result r.new (result_type_at kind r.old) }
@@ -169,7 +175,7 @@ fn result_type(r: &mut Reader<'_>, kind: MethodKind) -> Result<Option<ValueType>
     Ok(Some(found))
 }
 
-/// What follows the attributes of a method, after `count` members of its interface.
+/// Reads what follows the attributes of a method, after `count` members of its interface.
 #[tactic(auto, unfolding(crate::proofs::OnReadings::combinators, crate::specs::GrammarReading::parameters_at, crate::specs::GrammarReading::method_body_at))]
 fn method_body(
     alloc: Global,
@@ -195,6 +201,7 @@ fn method_body(
     })
 }
 
+/// Reads a method, after `count` members of its interface.
 #[tactic(auto, unfolding(crate::proofs::OnReadings::combinators, crate::specs::GrammarReading::method_at))]
 fn method(alloc: Global, r: &mut Reader<'_>, count: usize) -> Result<Method, Stop>
     ensures value { ReadsWords (λ m. m) result r.new (method_at count r.old) }
@@ -204,7 +211,7 @@ fn method(alloc: Global, r: &mut Reader<'_>, count: usize) -> Result<Method, Sto
     method_body(alloc, r, count, head)
 }
 
-/// At most so many methods after `before` members, and the brace that closes them.
+/// Reads fewer than `room` methods, after `before` members, and the brace that closes them.
 #[tactic(auto, using(crate::proofs::Loop::until_err, crate::proofs::Loop::until_out))]
 fn method_list(
     alloc: Global,
@@ -229,7 +236,7 @@ fn method_list(
     Err(Stop::Syntax)
 }
 
-/// The section, after `before` members, and the brace that closes the interface.
+/// Reads the section, after `before` members, and the brace that closes the interface. The section may be missing.
 #[tactic(auto, unfolding(crate::proofs::OnReadings::combinators, crate::specs::GrammarReading::methods_at))]
 pub(crate) fn methods(alloc: Global, r: &mut Reader<'_>, before: usize) -> Result<Vec<Method>, Stop>
     ensures { ReadsWords (λ v. v.items) result r.new (methods_at before r.old) }

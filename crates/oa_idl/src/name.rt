@@ -3,7 +3,8 @@ ghost use Rattle.std.specs.Prelude.{◌≡◌};
 
 use std::marker::Model;
 
-/// A name as it is written: 1 to 64 bytes, an ASCII letter or `_` and then letters, digits and `_`, in a tree that was parsed.
+/// A name, spelled as in the text. In a tree that was parsed it has 1 to 64 bytes: an ASCII letter or `_`, followed by letters, digits and
+/// `_`.
 #[derive(Drop)]
 pub struct Name {
     bytes: Vec<u8>,
@@ -18,21 +19,21 @@ impl Model for Name {
 }
 
 impl Name {
-    /// A name of these bytes.
+    /// Makes a name of these bytes. They are not checked.
     pub fn from_bytes(bytes: Vec<u8>) -> Name
         ensures { result ≡ bytes.items }
     {
         Name { bytes }
     }
 
-    /// Its bytes.
+    /// Returns the bytes.
     pub fn as_bytes(&self) -> &[u8]
         ensures { result.now ≡ self.now }
     {
         self.bytes.as_slice()
     }
 
-    /// Its bytes, given back.
+    /// Returns the bytes as an owned `Vec`.
     pub fn into_bytes(self) -> Vec<u8>
         ensures { result.items ≡ self }
     {

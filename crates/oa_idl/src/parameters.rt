@@ -1,4 +1,4 @@
-//! Parameters of a member.
+//! Parses the parameters of a member.
 ghost use Rattle.std.specs.Prelude.{◌≡◌, ◌<◌, IfOk, codes};
 ghost use Rattle.oa_model.specs.Limits.{max_parameters};
 ghost use Rattle.oa_idl.specs.Forms.{nowhere};
@@ -17,7 +17,7 @@ use crate::stop::{Stop, TreeLimit};
 use oa_model::MAX_PARAMETERS;
 use std::alloc::Global;
 
-/// A number of a default with its sign.
+/// Reads the number of a default with its sign.
 #[tactic(auto, unfolding(crate::proofs::OnReadings::combinators, crate::specs::GrammarReading::amount_at))]
 fn amount(r: &mut Reader<'_>) -> Result<i128, Stop>
     ensures { ReadsWords (λ n. n) result r.new (amount_at r.old) }
@@ -29,6 +29,7 @@ fn amount(r: &mut Reader<'_>) -> Result<i128, Stop>
     r.amount(false)
 }
 
+/// Reads the value of a default: `TRUE`, `FALSE`, a string or a number.
 #[tactic(auto, unfolding(crate::proofs::OnReadings::combinators, crate::specs::GrammarReading::literal_at))]
 fn literal(alloc: Global, r: &mut Reader<'_>) -> Result<Literal, Stop>
     ensures { ReadsWords (λ v. v) result r.new (literal_at r.old) }
@@ -49,7 +50,7 @@ fn literal(alloc: Global, r: &mut Reader<'_>) -> Result<Literal, Stop>
     Ok(Literal::Number(number))
 }
 
-/// What `defaultvalue` says.
+/// Reads a `defaultvalue` attribute and returns its value.
 #[tactic(auto, unfolding(crate::proofs::OnReadings::combinators, crate::specs::GrammarReading::default_at))]
 fn default(alloc: Global, r: &mut Reader<'_>) -> Result<Literal, Stop>
     ensures { ReadsWords (λ v. v) result r.new (default_at r.old) }
@@ -61,6 +62,7 @@ fn default(alloc: Global, r: &mut Reader<'_>) -> Result<Literal, Stop>
     Ok(value)
 }
 
+/// Reads an attribute that has not been read before, and adds it to `seen`.
 #[tactic(auto, unfolding(crate::proofs::OnReadings::combinators, crate::specs::GrammarReading::parameter_attribute_at))]
 fn parameter_attribute(
     alloc: Global,
@@ -100,6 +102,7 @@ fn parameter_attribute(
     })
 }
 
+/// Reads a comma and the next attribute.
 #[tactic(auto, unfolding(crate::proofs::OnReadings::combinators))]
 fn next_parameter_attribute(
     alloc: Global,
@@ -115,6 +118,7 @@ fn next_parameter_attribute(
     parameter_attribute(alloc, r, seen)
 }
 
+/// Reads the bracket that closes the list. No attribute is required.
 #[tactic(auto, unfolding(crate::proofs::OnReadings::combinators))]
 fn last_parameter_attribute(r: &mut Reader<'_>, seen: ParameterSeen) -> Result<ParameterSeen, Stop>
     ensures { ReadsWords (λ h. h) result r.new (last_at parameter_finish seen r.old) }
@@ -123,6 +127,7 @@ fn last_parameter_attribute(r: &mut Reader<'_>, seen: ParameterSeen) -> Result<P
     Ok(seen)
 }
 
+/// Reads at most `room - 1` further attributes, and the bracket that closes the list.
 #[tactic(auto, unfolding(crate::proofs::OnReadings::round), using(crate::proofs::Loop::gathering))]
 fn more_parameter_attributes(
     alloc: Global,
@@ -143,6 +148,7 @@ fn more_parameter_attributes(
     more_parameter_attributes(alloc, r, next, room - 1)
 }
 
+/// Returns the attributes of a parameter without any.
 fn no_parameter() -> ParameterSeen
     ensures { result ≡ no_parameter }
 {
@@ -153,7 +159,7 @@ fn no_parameter() -> ParameterSeen
     }
 }
 
-/// The attributes of a parameter.
+/// Reads the attributes of a parameter.
 #[tactic(auto, unfolding(crate::proofs::OnReadings::combinators, crate::specs::GrammarReading::parameter_head_at))]
 fn parameter_head(alloc: Global, r: &mut Reader<'_>) -> Result<ParameterSeen, Stop>
     ensures { ReadsWords (λ h. h) result r.new (parameter_head_at r.old) }
@@ -164,7 +170,7 @@ fn parameter_head(alloc: Global, r: &mut Reader<'_>) -> Result<ParameterSeen, St
     more_parameter_attributes(alloc, r, first, room)
 }
 
-/// The type and name of a parameter after `count` others.
+/// Reads the type and name of a parameter, after `count` others.
 #[tactic(auto, unfolding(crate::proofs::OnReadings::combinators, crate::specs::GrammarReading::typed_at))]
 fn typed(
     alloc: Global,
@@ -186,6 +192,7 @@ fn typed(
     })
 }
 
+/// Reads a parameter, after `count` others.
 #[tactic(auto, unfolding(crate::proofs::OnReadings::combinators, crate::specs::GrammarReading::parameter_at))]
 fn parameter(alloc: Global, r: &mut Reader<'_>, count: usize) -> Result<Parameter, Stop>
     ensures value { ReadsWords (λ p. p) result r.new (parameter_at count r.old) }
@@ -198,7 +205,7 @@ fn parameter(alloc: Global, r: &mut Reader<'_>, count: usize) -> Result<Paramete
     typed(alloc, r, count, no_parameter())
 }
 
-/// A parameter after `count` others, with the comma before it.
+/// Reads a parameter after `count` others, with the comma before it unless it is the first.
 #[tactic(auto, unfolding(crate::proofs::OnReadings::combinators, crate::specs::GrammarReading::separated_at))]
 fn next_parameter(alloc: Global, r: &mut Reader<'_>, count: usize) -> Result<Parameter, Stop>
     ensures value { ReadsWords (λ p. p) result r.new (next_parameter_at count r.old) }
@@ -211,7 +218,7 @@ fn next_parameter(alloc: Global, r: &mut Reader<'_>, count: usize) -> Result<Par
     parameter(alloc, r, count)
 }
 
-/// Whether the list of parameters may end after so many.
+/// Returns whether the list of parameters may end after `count` parameters.
 fn may_end(kind: MethodKind, count: usize) -> bool
     ensures { result ≡ may_end kind count }
 {
@@ -221,7 +228,7 @@ fn may_end(kind: MethodKind, count: usize) -> bool
     }
 }
 
-/// At most so many parameters, and the bracket that closes them.
+/// Reads fewer than `room` parameters, and the bracket that closes them.
 #[tactic(auto, using(crate::proofs::Loop::until_err, crate::proofs::Loop::until_out))]
 pub(crate) fn parameters(
     alloc: Global,

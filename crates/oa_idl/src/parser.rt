@@ -1,4 +1,4 @@
-//! The grammar of a library text.
+//! Parses a library text.
 ghost use Rattle.std.specs.Prelude.{◌≡◌, ◌-◌, ◌+◌, ◌<◌, ◌^◌, length, map, IfOk, codes};
 ghost use Rattle.oa_model.specs.Limits.{max_members};
 ghost use Rattle.oa_idl.specs.Forms.{nowhere};
@@ -26,6 +26,7 @@ use oa_tokens::{Token, TokenKind, tokens};
 use std::alloc::Global;
 use uuid::Uuid;
 
+/// Reads the name of a scalar type.
 #[tactic(auto, unfolding(crate::proofs::OnReadings::combinators, crate::specs::GrammarReading::type_word_at))]
 fn type_word(r: &mut Reader<'_>, in_array: bool) -> Result<VarType, Stop>
     ensures { ReadsWords (λ t. t) result r.new (type_word_at in_array r.old) }
@@ -37,6 +38,7 @@ fn type_word(r: &mut Reader<'_>, in_array: bool) -> Result<VarType, Stop>
     r.type_word(in_array, false)
 }
 
+/// Reads a type: a scalar type, or `SAFEARRAY` with the type of its elements.
 #[tactic(auto, unfolding(crate::proofs::OnReadings::combinators, crate::specs::GrammarReading::value_type_at))]
 pub(crate) fn value_type(r: &mut Reader<'_>) -> Result<ValueType, Stop>
     ensures { ReadsWords (λ t. t) result r.new (value_type_at r.old) }
@@ -52,7 +54,7 @@ pub(crate) fn value_type(r: &mut Reader<'_>) -> Result<ValueType, Stop>
     Ok(ValueType::One(one))
 }
 
-/// A property after `count` members of its interface.
+/// Reads a property, after `count` members of its interface.
 #[tactic(auto, unfolding(crate::proofs::OnReadings::combinators, crate::specs::GrammarReading::property_at))]
 fn property(alloc: Global, r: &mut Reader<'_>, count: usize) -> Result<Property, Stop>
     ensures value { ReadsWords (λ p. p) result r.new (property_at count r.old) }
@@ -70,7 +72,7 @@ fn property(alloc: Global, r: &mut Reader<'_>, count: usize) -> Result<Property,
     })
 }
 
-/// Whether the section of properties ends.
+/// Returns whether the section of properties ends before the next word.
 #[tactic(auto, using(crate::proofs::Loop::either_heads))]
 fn ends_section(r: &Reader<'_>) -> bool
     ensures { result ≡ heads ends_properties r.now }
@@ -78,7 +80,7 @@ fn ends_section(r: &Reader<'_>) -> bool
     r.is(b"methods") || r.is(b"}")
 }
 
-/// At most so many properties, and what ends them: the section of methods, or the brace.
+/// Reads fewer than `room` properties, and what follows them: the section of methods, or the closing brace.
 #[tactic(auto, using(crate::proofs::Loop::properties_err, crate::proofs::Loop::properties_end_err))]
 fn properties(
     alloc: Global,
@@ -102,6 +104,7 @@ fn properties(
     Err(Stop::Syntax)
 }
 
+/// Reads both sections of members, and the closing brace.
 #[tactic(auto, unfolding(crate::proofs::OnReadings::combinators, crate::specs::GrammarReading::members_at))]
 fn members(alloc: Global, r: &mut Reader<'_>) -> Result<(Vec<Property>, Vec<Method>), Stop>
     ensures { ReadsWords (λ v. (v.0.items, v.1.items)) result r.new (members_at r.old) }
@@ -116,6 +119,7 @@ fn members(alloc: Global, r: &mut Reader<'_>) -> Result<(Vec<Property>, Vec<Meth
     Ok((Vec::new(alloc), methods))
 }
 
+/// Reads an interface, after its attributes.
 #[tactic(auto, unfolding(crate::proofs::OnReadings::combinators, crate::specs::GrammarReading::interface_at))]
 fn interface(alloc: Global, r: &mut Reader<'_>, seen: ItemsSeen, guid: Uuid) -> Result<Item, Stop>
     ensures { ReadsWords (λ x. x) result r.new (interface_at seen guid r.old) }
@@ -137,6 +141,7 @@ fn interface(alloc: Global, r: &mut Reader<'_>, seen: ItemsSeen, guid: Uuid) -> 
     }))
 }
 
+/// Reads an entry, after its `[default]`.
 #[tactic(auto, unfolding(crate::proofs::OnReadings::combinators, crate::specs::GrammarReading::named_at))]
 fn named(alloc: Global, r: &mut Reader<'_>, is_default: bool) -> Result<Entry, Stop>
     ensures { ReadsWords (λ e. e) result r.new (named_at is_default r.old) }
@@ -150,6 +155,7 @@ fn named(alloc: Global, r: &mut Reader<'_>, is_default: bool) -> Result<Entry, S
     })
 }
 
+/// Reads an entry of a coclass. At most one entry is marked as the default.
 #[tactic(auto, unfolding(crate::proofs::OnReadings::combinators, crate::specs::GrammarReading::entry_at))]
 fn entry(alloc: Global, r: &mut Reader<'_>, seen: EntriesSeen) -> Result<Entry, Stop>
     ensures { ReadsWords (λ e. e) result r.new (entry_at seen r.old) }
@@ -166,7 +172,7 @@ fn entry(alloc: Global, r: &mut Reader<'_>, seen: EntriesSeen) -> Result<Entry, 
     named(alloc, r, false)
 }
 
-/// The entries that were seen with one more.
+/// Returns the state of the list after one more entry.
 fn with_entry(seen: EntriesSeen, entry: &Entry) -> EntriesSeen
     ensures { result ≡ entry_grow seen entry.now }
 {
@@ -176,7 +182,7 @@ fn with_entry(seen: EntriesSeen, entry: &Entry) -> EntriesSeen
     }
 }
 
-/// At most so many entries, and the brace that closes them.
+/// Reads fewer than `room` entries, at least one, and the brace that closes them.
 #[tactic(auto, using(crate::proofs::Loop::until_err, crate::proofs::Loop::until_out))]
 fn entries(alloc: Global, r: &mut Reader<'_>, room: usize) -> Result<Vec<Entry>, Stop>
     ensures { ReadsWords (λ v. (v.items, done)) result r.new
@@ -202,6 +208,7 @@ fn entries(alloc: Global, r: &mut Reader<'_>, room: usize) -> Result<Vec<Entry>,
     Err(Stop::Syntax)
 }
 
+/// Reads a coclass, after its attributes.
 #[tactic(auto, unfolding(crate::proofs::OnReadings::combinators, crate::specs::GrammarReading::entries_at, crate::specs::GrammarReading::coclass_at))]
 fn coclass(alloc: Global, r: &mut Reader<'_>, seen: ItemsSeen, guid: Uuid) -> Result<Item, Stop>
     ensures { ReadsWords (λ x. x) result r.new (coclass_at seen guid r.old) }
@@ -218,6 +225,7 @@ fn coclass(alloc: Global, r: &mut Reader<'_>, seen: ItemsSeen, guid: Uuid) -> Re
     }))
 }
 
+/// Reads an interface or a coclass.
 #[tactic(auto, unfolding(crate::proofs::OnReadings::combinators, crate::specs::GrammarReading::item_at))]
 fn item(alloc: Global, r: &mut Reader<'_>, seen: ItemsSeen) -> Result<Item, Stop>
     ensures { ReadsWords (λ x. x) result r.new (item_at seen r.old) }
@@ -229,7 +237,7 @@ fn item(alloc: Global, r: &mut Reader<'_>, seen: ItemsSeen) -> Result<Item, Stop
     coclass(alloc, r, seen, head.guid)
 }
 
-/// How many items there are with one more.
+/// Returns the numbers of items after one more item.
 fn counted(seen: ItemsSeen, item: &Item) -> ItemsSeen
     requires { (seen.interfaces + 1 < 2 ^ 64) × (seen.coclasses + 1 < 2 ^ 64) }
     ensures { result ≡ items_grow seen item.now }
@@ -246,7 +254,7 @@ fn counted(seen: ItemsSeen, item: &Item) -> ItemsSeen
     }
 }
 
-/// An import, which is ignored.
+/// Reads an `importlib`, which is ignored.
 #[tactic(auto, unfolding(crate::proofs::OnReadings::combinators, crate::specs::GrammarReading::import_at))]
 fn import(r: &mut Reader<'_>) -> Result<(), Stop>
     ensures { ReadsWords (λ _. done) result r.new (import_at r.old) }
@@ -258,7 +266,7 @@ fn import(r: &mut Reader<'_>) -> Result<(), Stop>
     r.take(b";")
 }
 
-/// The items of at most so many imports and items, and the brace that closes them.
+/// Reads fewer than `room` imports and items, and the brace that closes them; returns the items.
 fn items(alloc: Global, r: &mut Reader<'_>, room: usize) -> Result<Vec<Item>, Stop>
     ensures { ReadsWords (λ v. v.items) result r.new (elements_within room r.old) }
 {
@@ -284,6 +292,7 @@ fn items(alloc: Global, r: &mut Reader<'_>, room: usize) -> Result<Vec<Item>, St
     Err(Stop::Syntax)
 }
 
+/// Reads a whole text.
 #[tactic(auto, unfolding(crate::proofs::OnReadings::combinators, crate::specs::GrammarReading::elements_at, crate::specs::GrammarReading::library_at))]
 fn library(alloc: Global, r: &mut Reader<'_>) -> Result<Tree, Stop>
     ensures { ReadsWords (λ t. t) result r.new (library_at r.old) }
@@ -304,7 +313,7 @@ fn library(alloc: Global, r: &mut Reader<'_>) -> Result<Tree, Stop>
     })
 }
 
-/// Where the first of the last `left` tokens begins, or the text ends.
+/// Returns the offset of the first of the last `left` tokens, or `end` if there are none.
 fn place_of_rest(end: usize, tokens: &[Token], left: usize) -> usize
     ensures { result ≡ place_after end tokens.now (length tokens.now - left) }
 {
@@ -315,7 +324,7 @@ fn place_of_rest(end: usize, tokens: &[Token], left: usize) -> usize
     }
 }
 
-/// Reads the words of the tokens, of which the last is the end.
+/// Parses the words of the tokens, of which the last is the end of the text.
 fn parse_words(alloc: Global, text: &[u8], words: &[Token]) -> Result<Tree, ParseError>
     ensures { IsParsed (length text.now) words.now (map (word_of text.now) words.now) result }
 {
@@ -325,13 +334,17 @@ fn parse_words(alloc: Global, text: &[u8], words: &[Token]) -> Result<Tree, Pars
     read.map_err(|stop| stop.error(place))
 }
 
-/// The tree that a library text stands for.
+/// Parses a library text (docs/reference/idl.md).
 ///
-/// `Ok` exactly where the text is in the grammar (docs/idl.md), with its one tree. `Limit(Text)` exactly where the text has more than
-/// 262,144 bytes. `Syntax(place)` where the token that begins at this byte, or the end, cannot stand there: no text of the grammar
-/// begins with the tokens up to and with that one. Another `Limit` where a name is too long, or is that of an item, member or parameter
-/// that is one too many: no text of the grammar that keeps this limit begins with the tokens up to and with that name. `Memory` where none
-/// was found.
+/// `Ok` with the one tree of the text, if and only if the text is in the grammar and memory suffices.
+///
+/// Errors:
+/// - `Limit(Text)`: the text has more than 262,144 bytes.
+/// - `Syntax(place)`: the token that begins at this byte is not allowed there, or the text must not end there. No text of the grammar
+///   begins with the tokens up to and including this one.
+/// - Another `Limit`: a name is too long, or it is that of an interface, coclass, member or parameter above the limit. No text of the
+///   grammar that keeps the limit begins with the tokens up to and including this name.
+/// - `Memory`: an allocation fails.
 pub fn parse(alloc: Global, text: &str) -> Result<Tree, ParseError>
     ensures exact { AnswersText text.now result }
     ensures found { (t : TreeValue) → IsTree text.now t → AnswersTree t result }

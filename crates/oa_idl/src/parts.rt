@@ -3,25 +3,25 @@ use crate::characters::Characters;
 use crate::name::Name;
 use oa_model::ValueType;
 
-/// A library's version.
+/// The version of a library.
 #[derive(Clone, Copy, Debug, PartialEq, Eq)]
 pub struct Version {
     /// The part before the dot.
     pub major: u16,
-    /// The part behind it.
+    /// The part after the dot.
     pub minor: u16,
 }
 
 /// A member of the section `properties:`.
 #[derive(Drop)]
 pub struct Property {
-    /// The DISPID: any number of 32 bits but -1 and -3.
+    /// The DISPID: any number of 32 bits except -1 and -3.
     pub id: i32,
-    /// Whether `readonly` is among its attributes.
+    /// Whether it is declared `readonly`.
     pub readonly: bool,
-    /// Its declared type.
+    /// The declared type.
     pub value_type: ValueType,
-    /// Its name.
+    /// The name.
     pub name: Name,
 }
 
@@ -30,25 +30,25 @@ pub struct Property {
 pub struct Entry {
     /// Whether it is marked as the default interface.
     pub is_default: bool,
-    /// The interface's name.
+    /// The name of the interface.
     pub interface: Name,
 }
 
-/// What a member of the section `methods:` is.
+/// The kind of a member of the section `methods:`.
 #[derive(Clone, Copy, Debug, PartialEq, Eq)]
 pub enum MethodKind {
     /// A method.
     Method,
-    /// With `propget`: the get form of a property.
+    /// With `propget`: the get of a property.
     Get,
-    /// With `propput`: the put form of a property. Its last parameter is the new value.
+    /// With `propput`: the put of a property. Its last parameter is the new value.
     Put,
 }
 
 /// The default value of a parameter.
 #[derive(Drop)]
 pub enum Literal {
-    /// A number with its sign; its magnitude is below 2^96.
+    /// A number with its sign. Its magnitude is below 2^96.
     Number(i128),
     /// A string.
     Text(Characters),
@@ -59,14 +59,14 @@ pub enum Literal {
 /// A parameter of a member.
 #[derive(Drop)]
 pub struct Parameter {
-    /// Whether `in` is among its attributes.
+    /// Whether it is declared `in`.
     pub is_in: bool,
-    /// Whether `optional` is among its attributes.
+    /// Whether it is declared `optional`.
     pub is_optional: bool,
-    /// What `defaultvalue` says.
+    /// The value of `defaultvalue`, if there is one.
     pub default: Option<Literal>,
-    /// Its declared type.
+    /// The declared type.
     pub value_type: ValueType,
-    /// Its name.
+    /// The name.
     pub name: Name,
 }

@@ -1,4 +1,4 @@
-//! Reading the words of a text from the front.
+//! Reads the words of a text one after another.
 ghost use Rattle.std.specs.Prelude.{◌≡◌, ◌-◌, ◌+◌, ◌*◌, ◌<◌, ◌^◌, ◌&&◌, if◌then◌else◌, length, take, drop, map, false, IfOk, IfErr, IfSome};
 ghost use Rattle.oa_idl.specs.Words.{word_of, passes, is_text, name_of, over, guid_of, digit_of, number_from, number_of};
 ghost use Rattle.oa_idl.specs.Words.{is_hexadecimal, below, part_from, part_of, id_number, id_from, id_of, word_type, same_kind};
@@ -19,12 +19,12 @@ use std::alloc::{AllocError, Global};
 use std::marker::Model;
 use uuid::Uuid;
 
-/// A number is below this, 2^96.
+/// All numbers are below this bound, 2^96.
 const NUMBER_BOUND: u128 = 1 << 96;
-/// The characters of a GUID of the form 8-4-4-4-12.
+/// The number of characters of a GUID of the form 8-4-4-4-12.
 const GUID_CHARACTERS: usize = 36;
 
-/// The words of a text that were not read yet.
+/// The words of a text that have not been read yet.
 #[derive(Drop)]
 pub(crate) struct Reader<'a> {
     text: &'a [u8],
@@ -41,6 +41,7 @@ impl<'a> Model for Reader<'a> {
     ghost view = { λ r. map (word_of r.text.now) r.rest.now };
 }
 
+/// Returns whether both kinds are equal.
 fn same_kind(a: TokenKind, b: TokenKind) -> bool
     ensures { result ≡ same_kind a b }
 {
@@ -56,6 +57,7 @@ fn same_kind(a: TokenKind, b: TokenKind) -> bool
     }
 }
 
+/// Returns the value of a decimal or hexadecimal digit.
 fn digit_of(byte: u8) -> u8
     ensures { result ≡ digit_of byte }
 {
@@ -69,7 +71,7 @@ fn digit_of(byte: u8) -> u8
     }
 }
 
-/// The number that digits stand for, if it is below 2^96.
+/// Returns the number with these digits, if it is below 2^96.
 #[tactic(auto, unfolding(crate::specs::Words::number_from), using(crate::proofs::Digits::digit_steps))]
 fn digits(hexadecimal: bool, text: &[u8]) -> Option<u128>
     ensures small { IfSome result (λ n. n < 2 ^ 96) }
@@ -89,12 +91,14 @@ fn digits(hexadecimal: bool, text: &[u8]) -> Option<u128>
     Some(value)
 }
 
+/// Returns whether a number begins with `0x`.
 fn is_hexadecimal(text: &[u8]) -> bool
     ensures { result ≡ is_hexadecimal text.now }
 {
     1 < text.len() && text[0] == b'0' && text[1] == b'x'
 }
 
+/// Returns the value of a number, if it is below 2^96.
 #[tactic(auto, unfolding(crate::specs::Words::number_of))]
 fn number_of(text: &[u8]) -> Option<u128>
     ensures value { result ≡ number_of text.now }
@@ -106,6 +110,7 @@ fn number_of(text: &[u8]) -> Option<u128>
     digits(false, text)
 }
 
+/// Returns a part of a version: at most 65,535 if it counts, otherwise 0 for any number.
 fn part_from(counts: bool, number: Option<u128>) -> Option<u16>
     ensures { result ≡ part_from counts number }
 {
@@ -115,6 +120,7 @@ fn part_from(counts: bool, number: Option<u128>) -> Option<u16>
     u16::try_from(number?).ok()
 }
 
+/// Returns the number as an i32 with the sign `negative`. A hexadecimal number without a sign is read as two's complement.
 fn id_number(negative: bool, hexadecimal: bool, value: u128) -> Option<i32>
     ensures { result ≡ id_number negative hexadecimal value }
 {
@@ -128,6 +134,7 @@ fn id_number(negative: bool, hexadecimal: bool, value: u128) -> Option<i32>
     i32::try_from(value).ok()
 }
 
+/// Returns the DISPID with this number. -1 and -3 are not allowed.
 fn id_from(negative: bool, hexadecimal: bool, number: Option<u128>) -> Option<i32>
     ensures { result ≡ id_from negative hexadecimal number }
 {
@@ -139,6 +146,7 @@ fn id_from(negative: bool, hexadecimal: bool, number: Option<u128>) -> Option<i3
     }
 }
 
+/// Returns the number of a default with its sign.
 fn amount_from(negative: bool, number: Option<u128>) -> Option<i128>
     requires { IfSome number (λ n. n < 2 ^ 96) }
     ensures { result ≡ amount_from negative number }
@@ -149,19 +157,21 @@ fn amount_from(negative: bool, number: Option<u128>) -> Option<i128>
     0i128.checked_add_unsigned(number?)
 }
 
+/// Returns whether the byte is an ASCII character from the space to the tilde.
 fn is_printable(byte: u8) -> bool
     ensures { result ≡ is_printable byte }
 {
     b' ' <= byte && byte <= b'~'
 }
 
+/// Returns whether the byte may follow a backslash: a quote or a backslash.
 fn is_escaped(byte: u8) -> bool
     ensures { result ≡ is_escaped byte }
 {
     byte == b'"' || byte == b'\\'
 }
 
-/// The characters up to the quote that closes a string, None where one cannot stand.
+/// Returns the characters up to the quote that closes a string; None if one of them is not allowed, or if there is no such quote.
 #[tactic(auto, using(crate::proofs::Strings::character_steps))]
 fn characters(alloc: Global, text: &[u8]) -> Result<Option<Characters>, AllocError>
     ensures { IfOk result (λ found. found ≡ characters_from false text.now) }
@@ -195,7 +205,7 @@ fn characters(alloc: Global, text: &[u8]) -> Result<Option<Characters>, AllocErr
     Ok(None)
 }
 
-/// What stands behind the quote with which a string begins.
+/// Returns the bytes after the quote with which a string begins.
 fn behind_quote(text: &[u8]) -> &[u8]
     ensures { result.now ≡ drop 1 text.now }
 {
@@ -205,7 +215,7 @@ fn behind_quote(text: &[u8]) -> &[u8]
     }
 }
 
-/// The GUID of a text of the form 8-4-4-4-12.
+/// Parses a GUID of the form 8-4-4-4-12.
 fn guid_of(text: &[u8]) -> Option<Uuid>
     ensures { result ≡ parsed_hyphenated text.now }
 {
@@ -216,20 +226,21 @@ fn guid_of(text: &[u8]) -> Option<Uuid>
 }
 
 impl<'a> Reader<'a> {
+    /// Makes a reader of all words of the tokens.
     pub(crate) fn new(text: &'a [u8], tokens: &'a [Token]) -> Reader<'a>
         ensures { result ≡ map (word_of text.entry.now) tokens.entry.now }
     {
         Reader { text, rest: tokens }
     }
 
-    /// How many words are left.
+    /// Returns the number of words that are left.
     pub(crate) fn left(&self) -> usize
         ensures { result ≡ length self.now }
     {
         self.rest.len()
     }
 
-    /// What the next word is, and its bytes.
+    /// Returns the kind of the next word and its bytes.
     fn first(&self) -> Option<(TokenKind, &'a [u8])>
         ensures { seen_first result ≡ first_of self.now }
     {
@@ -240,7 +251,7 @@ impl<'a> Reader<'a> {
         Some((token.kind, token.bytes_in(self.text)))
     }
 
-    /// The bytes of the next word, where it is of this kind.
+    /// Returns the bytes of the next word, if it has this kind. Err: `Syntax`.
     fn token_text(&self, kind: TokenKind) -> Result<&'a [u8], Stop>
         ensures text { seen_text result ≡ token_text kind self.now }
         ensures syntax { IfErr result (λ e. e ≡ Syntax) }
@@ -251,7 +262,7 @@ impl<'a> Reader<'a> {
         }
     }
 
-    /// Takes the next word, which stands for this, or cannot stand there.
+    /// Skips the next word and returns its meaning; `Syntax` if it has none.
     fn taken<T>(&mut self, meant: Option<T>) -> Result<T, Stop>
         ensures { ReadsWords (λ x. x) result self.new (if_meant meant never_over self.old) }
     {
@@ -262,7 +273,7 @@ impl<'a> Reader<'a> {
         Ok(value)
     }
 
-    /// Goes past the next word.
+    /// Skips the next word.
     #[tactic(auto, using(crate::proofs::Maps::map_rest))]
     pub(crate) fn skip(&mut self)
         ensures { self.new ≡ later_words self.old }
@@ -272,7 +283,7 @@ impl<'a> Reader<'a> {
         }
     }
 
-    /// Whether the next word is this sign.
+    /// Returns whether the next word is this keyword or mark.
     #[tactic(auto, unfolding(crate::specs::Words::passes))]
     pub(crate) fn is(&self, sign: &[u8]) -> bool
         ensures { result ≡ heads (passes sign.now) self.now }
@@ -283,7 +294,7 @@ impl<'a> Reader<'a> {
         }
     }
 
-    /// Takes this sign.
+    /// Reads this keyword or mark.
     #[tactic(auto, unfolding(crate::specs::Reading::this_at))]
     pub(crate) fn take(&mut self, sign: &[u8]) -> Result<(), Stop>
         ensures { ReadsWords (λ _. done) result self.new (this_at (passes sign.now) self.old) }
@@ -295,7 +306,7 @@ impl<'a> Reader<'a> {
         Ok(())
     }
 
-    /// Takes `dispinterface` or `interface`.
+    /// Reads `dispinterface` or `interface`.
     #[tactic(auto, unfolding(crate::specs::Reading::this_at, crate::specs::Words::passes))]
     pub(crate) fn entry_word(&mut self) -> Result<(), Stop>
         ensures { ReadsWords (λ _. done) result self.new (this_at entry_word self.old) }
@@ -308,7 +319,7 @@ impl<'a> Reader<'a> {
         Ok(())
     }
 
-    /// Takes a string.
+    /// Reads a string and drops it.
     #[tactic(auto, unfolding(crate::specs::Reading::this_at, crate::specs::Words::is_text))]
     pub(crate) fn text(&mut self) -> Result<(), Stop>
         ensures { ReadsWords (λ _. done) result self.new (this_at is_text self.old) }
@@ -318,7 +329,7 @@ impl<'a> Reader<'a> {
         Ok(())
     }
 
-    /// Takes this sign where it stands.
+    /// Skips the next word if it is this keyword or mark.
     #[tactic(auto, unfolding(crate::proofs::OnReadings::combinators))]
     pub(crate) fn perhaps(&mut self, sign: &[u8])
         ensures { self.new ≡ (if heads (passes sign.now) self.old then later_words self.old else self.old) }
@@ -328,7 +339,8 @@ impl<'a> Reader<'a> {
         }
     }
 
-    /// Takes a name, which is that of an item after `count` others where `bound` are allowed.
+    /// Reads a name, that of an item after `count` others. Err: `Limit(Name)` if the name is too long, `Limit(limit)` if `count` is `bound`
+    /// or more.
     #[tactic(auto, unfolding(crate::specs::Reading::one_at, crate::specs::Words::name_of))]
     pub(crate) fn name(
         &mut self,
@@ -355,7 +367,7 @@ impl<'a> Reader<'a> {
         Ok(Name::from_bytes(bytes))
     }
 
-    /// Takes a GUID.
+    /// Reads a GUID.
     #[tactic(auto, unfolding(crate::specs::Reading::one_at, crate::specs::Words::guid_of))]
     pub(crate) fn guid(&mut self) -> Result<Uuid, Stop>
         ensures { ReadsWords (λ g. g) result self.new (one_at guid_of never_over self.old) }
@@ -364,7 +376,7 @@ impl<'a> Reader<'a> {
         self.taken(guid_of(text))
     }
 
-    /// Takes a part of a version, which counts or is taken as 0.
+    /// Reads a part of a version. If `counts` is false, any number is read as 0.
     #[tactic(auto, unfolding(crate::specs::Reading::one_at, crate::specs::Words::part_of))]
     pub(crate) fn part(&mut self, counts: bool) -> Result<u16, Stop>
         ensures { ReadsWords (λ n. n) result self.new (one_at (part_of counts) never_over self.old) }
@@ -373,7 +385,7 @@ impl<'a> Reader<'a> {
         self.taken(part_from(counts, number_of(text)))
     }
 
-    /// Takes the number of an id, after a minus or not.
+    /// Reads the number of an `id`; `negative` is whether a minus precedes it.
     #[tactic(auto, unfolding(crate::specs::Reading::one_at, crate::specs::Words::id_of))]
     pub(crate) fn id(&mut self, negative: bool) -> Result<i32, Stop>
         ensures { ReadsWords (λ n. n) result self.new (one_at (id_of negative) never_over self.old) }
@@ -382,7 +394,7 @@ impl<'a> Reader<'a> {
         self.taken(id_from(negative, is_hexadecimal(text), number_of(text)))
     }
 
-    /// Takes a word that stands for a type, after `unsigned` or not, in an array or not.
+    /// Reads a word of a type; `unsigned` is whether `unsigned` precedes it, `in_array` whether it is the type of an array's elements.
     #[tactic(auto, unfolding(crate::specs::Reading::one_at, crate::specs::Words::word_type))]
     pub(crate) fn type_word(&mut self, in_array: bool, unsigned: bool) -> Result<VarType, Stop>
         ensures { ReadsWords (λ t. t) result self.new (one_at (word_type in_array unsigned) never_over self.old) }
@@ -391,7 +403,7 @@ impl<'a> Reader<'a> {
         self.taken(type_named(in_array, unsigned, text))
     }
 
-    /// Whether the next word is a string.
+    /// Returns whether the next word is a string.
     #[tactic(auto, unfolding(crate::specs::Words::is_text))]
     pub(crate) fn is_string(&self) -> bool
         ensures { result ≡ heads is_text self.now }
@@ -399,7 +411,7 @@ impl<'a> Reader<'a> {
         self.token_text(TokenKind::Text).is_ok()
     }
 
-    /// Takes a number of a default, after a minus or not.
+    /// Reads the number of a default; `negative` is whether a minus precedes it.
     #[tactic(auto, unfolding(crate::specs::Reading::one_at, crate::specs::Words::amount_of))]
     pub(crate) fn amount(&mut self, negative: bool) -> Result<i128, Stop>
         ensures { ReadsWords (λ n. n) result self.new (one_at (amount_of negative) never_over self.old) }
@@ -408,7 +420,7 @@ impl<'a> Reader<'a> {
         self.taken(amount_from(negative, number_of(text)))
     }
 
-    /// Takes a default string.
+    /// Reads a default string.
     #[tactic(auto, unfolding(crate::specs::Reading::one_at, crate::specs::Words::characters_of))]
     pub(crate) fn characters(&mut self, alloc: Global) -> Result<Characters, Stop>
         ensures { ReadsWords (λ n. n) result self.new (one_at characters_of never_over self.old) }

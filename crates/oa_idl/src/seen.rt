@@ -1,50 +1,50 @@
-//! What was seen so far of a list that is being read. The grammar's definitions go by it, so whoever reads them can name it.
+//! The states of lists that are being parsed. They are public because the definitions of the grammar use them.
 use crate::parts::{Literal, MethodKind, Version};
 use uuid::Uuid;
 
-/// What the attributes of a library or an item say.
+/// The values of the attributes of a library or an item.
 #[derive(Clone, Copy)]
 pub struct Head {
-    /// Its GUID, zero as long as none was seen.
+    /// The GUID; zero until `uuid` is read.
     pub guid: Uuid,
-    /// Its version, 0.0 as long as none was seen, and for an item always.
+    /// The version; 0.0 until `version` is read, and always for an item.
     pub version: Version,
 }
 
-/// The attributes of a library or an item that were seen, and what they say so far.
+/// The attributes of a library or an item that have been read, and their values.
 #[derive(Clone, Copy)]
 pub struct HeadSeen {
-    /// Whether `uuid` was seen.
+    /// Whether `uuid` has been read.
     pub uuid: bool,
-    /// Whether `version` was seen.
+    /// Whether `version` has been read.
     pub version: bool,
-    /// Whether `helpstring` was seen.
+    /// Whether `helpstring` has been read.
     pub help: bool,
-    /// What they say.
+    /// The values.
     pub head: Head,
 }
 
-/// The attributes of a property that were seen.
+/// The attributes of a property that have been read.
 #[derive(Clone, Copy)]
 pub struct PropertySeen {
-    /// The number of `id`, where it was seen.
+    /// The number of `id`, if it has been read.
     pub id: Option<i32>,
-    /// Whether `readonly` was seen.
+    /// Whether `readonly` has been read.
     pub readonly: bool,
-    /// Whether `helpstring` was seen.
+    /// Whether `helpstring` has been read.
     pub help: bool,
 }
 
-/// What the attributes of a property say.
+/// The values of the attributes of a property.
 #[derive(Clone, Copy)]
 pub struct PropertyHead {
-    /// Its DISPID.
+    /// The DISPID.
     pub id: i32,
-    /// Whether `readonly` is among them.
+    /// Whether it is declared `readonly`.
     pub readonly: bool,
 }
 
-/// The entries of a coclass that were seen.
+/// The entries of a coclass that have been read.
 #[derive(Clone, Copy)]
 pub struct EntriesSeen {
     /// Whether there is one.
@@ -53,42 +53,42 @@ pub struct EntriesSeen {
     pub default: bool,
 }
 
-/// How many items of a library were seen.
+/// The numbers of a library's items that have been read.
 #[derive(Clone, Copy)]
 pub struct ItemsSeen {
-    /// How many of them are interfaces.
+    /// The number of interfaces.
     pub interfaces: usize,
-    /// How many are coclasses.
+    /// The number of coclasses.
     pub coclasses: usize,
 }
 
-/// The attributes of a method that were seen.
+/// The attributes of a method that have been read.
 #[derive(Clone, Copy)]
 pub struct MethodSeen {
-    /// The number of `id`, where it was seen.
+    /// The number of `id`, if it has been read.
     pub id: Option<i32>,
-    /// What `propget` or `propput` makes of it; it is a method as long as neither was seen.
+    /// A get after `propget`, a put after `propput`, otherwise a method.
     pub kind: MethodKind,
-    /// Whether `helpstring` was seen.
+    /// Whether `helpstring` has been read.
     pub help: bool,
 }
 
-/// What the attributes of a method say.
+/// The values of the attributes of a method.
 #[derive(Clone, Copy)]
 pub struct MethodHead {
-    /// Its DISPID.
+    /// The DISPID.
     pub id: i32,
-    /// A method, or a form of a property.
+    /// Whether it is a method, or a get or put of a property.
     pub kind: MethodKind,
 }
 
-/// The attributes of a parameter that were seen, and what they say.
+/// The attributes of a parameter that have been read, and their values.
 #[derive(Drop)]
 pub struct ParameterSeen {
-    /// Whether `in` was seen.
+    /// Whether `in` has been read.
     pub is_in: bool,
-    /// Whether `optional` was seen.
+    /// Whether `optional` has been read.
     pub is_optional: bool,
-    /// The value of `defaultvalue`, where it was seen.
+    /// The value of `defaultvalue`, if it has been read.
     pub default: Option<Literal>,
 }

@@ -1,4 +1,4 @@
-//! Words that stand for themselves.
+//! Keywords, marks and the names of types.
 ghost use Rattle.std.specs.Prelude.{◌≡◌};
 ghost use Rattle.std.specs.Str.{bytes_eq};
 ghost use Rattle.oa_idl.specs.Words.{kind_of, is_structure, is_type_mark, is_reserved, plain_type, unsigned_type, type_named, if_cell};
@@ -6,7 +6,7 @@ ghost use Rattle.oa_idl.specs.Words.{kind_of, is_structure, is_type_mark, is_res
 use oa_model::VarType;
 use oa_tokens::TokenKind;
 
-/// What a word is that stands for itself: a name, a mark, or the end of the text, which has no bytes.
+/// Returns the kind of a keyword or mark: a name, a mark, or the end of the text, which has no bytes.
 pub(crate) fn kind_of(sign: &[u8]) -> TokenKind
     ensures { result ≡ kind_of sign.now }
 {
@@ -22,13 +22,14 @@ pub(crate) fn kind_of(sign: &[u8]) -> TokenKind
     }
 }
 
-/// Whether a text is these bytes.
+/// Returns whether a text consists of these bytes.
 pub(crate) fn same_bytes(text: &[u8], bytes: &[u8]) -> bool
     ensures { result ≡ bytes_eq text.now bytes.now }
 {
     text == bytes
 }
 
+/// Returns whether a name is a keyword of the structure of a text.
 fn is_structure(text: &[u8]) -> bool
     ensures { result ≡ is_structure text.now }
 {
@@ -40,6 +41,7 @@ fn is_structure(text: &[u8]) -> bool
         || same_bytes(text, b"properties")
 }
 
+/// Returns whether a name is another keyword that is not the name of a type.
 fn is_type_mark(text: &[u8]) -> bool
     ensures { result ≡ is_type_mark text.now }
 {
@@ -49,7 +51,7 @@ fn is_type_mark(text: &[u8]) -> bool
         || same_bytes(text, b"SAFEARRAY")
 }
 
-/// Whether a name is a word of the language.
+/// Returns whether a name is a keyword or the name of a type.
 #[tactic(auto, unfolding(crate::specs::Words::is_reserved))]
 pub(crate) fn is_reserved(text: &[u8]) -> bool
     ensures { result ≡ is_reserved text.now }
@@ -57,6 +59,7 @@ pub(crate) fn is_reserved(text: &[u8]) -> bool
     is_structure(text) || is_type_mark(text) || plain_type(text).is_some()
 }
 
+/// Returns the type with this name.
 #[tactic(auto, unfolding(crate::specs::Words::plain_type))]
 fn plain_type(text: &[u8]) -> Option<VarType>
     ensures { result ≡ plain_type text.now }
@@ -97,6 +100,7 @@ fn plain_type(text: &[u8]) -> Option<VarType>
     None
 }
 
+/// Returns the type with this name after `unsigned`.
 #[tactic(auto, unfolding(crate::specs::Words::unsigned_type))]
 fn unsigned_type(text: &[u8]) -> Option<VarType>
     ensures { result ≡ unsigned_type text.now }
@@ -119,7 +123,7 @@ fn unsigned_type(text: &[u8]) -> Option<VarType>
     None
 }
 
-/// The type that a word stands for, after `unsigned` or not; as the type of an array's cells only one that has an sfType.
+/// Returns the type with this name, after `unsigned` or not. The elements of an array must have a type with an sfType.
 pub(crate) fn type_named(in_array: bool, unsigned: bool, text: &[u8]) -> Option<VarType>
     ensures { result ≡ if_cell in_array (type_named unsigned text.now) }
 {

@@ -9,7 +9,7 @@ use std::fmt;
 use std::fmt::{Display, Formatter, Write};
 use thiserror::Error;
 
-/// A bound that a library text can break.
+/// A limit that a library text can exceed.
 #[derive(Clone, Copy, Debug, PartialEq, Eq)]
 pub enum Limit {
     /// A text has at most 262,144 bytes.
@@ -39,16 +39,16 @@ impl Display for Limit {
     }
 }
 
-/// Why `parse` gives no tree.
+/// Why `parse` returns no tree.
 #[derive(Clone, Copy, Debug, PartialEq, Eq, Error)]
 pub enum ParseError {
-    /// The token that begins at this byte cannot stand there; or the text cannot end at this byte, which is its length.
+    /// The token that begins at this byte is not allowed there; or the text must not end at this byte, which is its length.
     #[error("syntax at byte {0}")]
     Syntax(usize),
-    /// The text, or a name or item of it, breaks this bound.
+    /// The text, or a name or item in it, exceeds this limit.
     #[error("limit {0}")]
     Limit(Limit),
-    /// No memory was found.
+    /// An allocation fails.
     #[error("out of memory")]
     Memory,
 }
@@ -69,7 +69,7 @@ impl<T: Drop> From<AllocFailed<T>> for ParseError {
     }
 }
 
-/// A bound that a tree can break, and the text with it.
+/// A limit that a tree can exceed, and its text with it.
 #[derive(Clone, Copy)]
 pub enum TreeLimit {
     /// A name has at most 64 bytes.
@@ -85,6 +85,7 @@ pub enum TreeLimit {
 }
 
 impl TreeLimit {
+    /// Returns the limit of texts that this is.
     pub(crate) fn limit(self) -> Limit
         ensures { result ≡ limit_of self }
     {
@@ -98,7 +99,7 @@ impl TreeLimit {
     }
 }
 
-/// Why reading stopped; the word at which it did is the next one.
+/// Why parsing stopped. The word at which it stopped is the next one.
 #[derive(Clone, Copy)]
 pub(crate) enum Stop {
     Syntax,
@@ -107,7 +108,7 @@ pub(crate) enum Stop {
 }
 
 impl Stop {
-    /// Why the text has no tree, where the next word begins at `place`.
+    /// Returns the error of `parse` if the next word begins at the byte `place`.
     pub(crate) fn error(self, place: usize) -> ParseError
         ensures { result ≡ error_of place self }
     {

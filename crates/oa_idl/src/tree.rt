@@ -5,16 +5,16 @@ use crate::parts::Version;
 use std::marker::Model;
 use uuid::Uuid;
 
-/// What a library text says, in its order and without places.
+/// The content of a library text in its order, without positions.
 #[derive(Drop)]
 pub struct Tree {
-    /// The library's GUID.
+    /// The GUID of the library.
     pub guid: Uuid,
-    /// 0.0 where the text gives none.
+    /// The version; 0.0 if the text has none.
     pub version: Version,
-    /// The library's name.
+    /// The name of the library.
     pub name: Name,
-    /// Interfaces and coclasses in the text's order.
+    /// The interfaces and coclasses in the text's order.
     pub items: Vec<Item>,
 }
 

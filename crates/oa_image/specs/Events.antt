@@ -1,4 +1,4 @@
--- The images of events: a byte that says which kind, and what the event has (this project's choice).
+-- The images of events: a byte for the kind, and the event's fields (this project's choice).
 use Rattle.std.proofs.Common.{◌≡◌, ℕ, ℤ, eqb, List, [], refl, sym, ◌∙◌, arith}
 use Rattle.std.specs.Prelude.{⊤}
 use Rattle.std.specs.Prelude.{◌==◌, pos}
@@ -26,7 +26,7 @@ event_kind (Put n v) = 3
 event_kind (PutElement n i v) = 4
 event_kind (Redim n b) = 5
 
--- what an event has; of one of another kind nothing is meant
+-- a field of an event; for an event of another kind any
 abbrev pub event_number : Event → ℕ
 event_number (Create number class) = number
 event_number (Release number) = number

@@ -1,5 +1,5 @@
 -- The images of tables: the next number, and the objects by rising number, each with its cells in the order of their
--- places (this project's choice). Other orders, and a place or a number that stands twice, are no image.
+-- places (this project's choice). With another order, or with a place or a number twice, bytes are no image.
 use Rattle.std.proofs.Common.{ℕ, Bool, List, refl}
 use Rattle.std.specs.Prelude.{nat_lt, ◌&&◌, ◌+◌, ◌≤◌, length}
 use Rattle.std.specs.List.{list_all}
@@ -48,15 +48,15 @@ table =
     (made (λ p. record { next = p.0; objects = p.1 }) (λ t. (t.next, t.objects)) (u32 ▸ objects) (λ p. refl)
     (λ t. refl))
 
--- the bytes of a table; they hold no locks
+-- the bytes of a table; they contain no locks
 abbrev pub table_image : TableValue → List ℕ
 table_image = table.image
 
--- How many bytes of a bank's body the image of a table leaves free: behind the longest text of a library so many are
--- left as are ample.
+-- How many bytes of a bank's body the image of a table must leave free: enough for the longest text of a library and
+-- the largest group.
 abbrev pub reserved_bytes : ℕ
 reserved_bytes = 5242880
 
--- the image of the table leaves what has to be free of a bank's body of this size
+-- the image of the table leaves this many bytes of a bank's body of this size free
 abbrev pub FitsBank : ℕ → TableValue → Type 0
 FitsBank bank table = length (table_image table) + reserved_bytes ≤ bank

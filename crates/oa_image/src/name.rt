@@ -34,7 +34,8 @@ fn put_key(key: &[Scalar], w: &mut Window, out: &mut [u8])
     put_each::<ScalarFormat>(key, w, out)
 }
 
-/// The format of places: the interface in wire order, the DISPID as i32, how many scalars the key has as u16, the scalars.
+/// The format of places: the interface in wire order, the DISPID as i32, the number of scalars in the key as u16, the
+/// scalars.
 pub(crate) struct PlaceFormat;
 
 impl ReadImage for PlaceFormat {
@@ -85,7 +86,7 @@ impl PutImage for NameFormat {
     }
 }
 
-/// How many bytes the image of a name has: 4 for the object, and the place.
+/// Returns the length in bytes of a name's image: 4 for the object, and the place.
 pub(crate) fn name_len(name: &CellName) -> usize
     ensures value { result ≡ 4 + place_size name.now.place }
     ensures small { result ≤ 4 + max_value_image }

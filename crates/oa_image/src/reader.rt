@@ -1,4 +1,4 @@
-//! The image of a table, in stretches.
+//! Reading the image of a table in stretches.
 ghost use Rattle.std.specs.Prelude.{◌≡◌, ◌<◌, ◌≤◌, ◌++◌, [], length, take, true, ⊤, IfOk, OnOk, MatchOption, None};
 ghost use Rattle.oa_table.specs.Tables.{TableValue};
 ghost use Rattle.oa_image.specs.Reader.{BeginsTable, BeginsWith, IsBetweenParts, IsOpenTable, Takes, TakesEnd, TakesPart, is_behind};
@@ -17,7 +17,7 @@ use std::cmp::Ordering;
 use std::marker::Model;
 use uuid::Uuid;
 
-/// What stands before the objects: the next number as u32, how many objects there are as u32.
+/// The bytes before the objects: the next number as u32, the number of objects as u32.
 struct TableHead;
 
 impl ReadImage for TableHead {
@@ -33,7 +33,8 @@ impl ReadImage for TableHead {
     }
 }
 
-/// What stands before the cells of an object: its number as u32, its coclass in wire order, how many cells there are as u32.
+/// The bytes before the cells of an object: its number as u32, its coclass in wire order, the number of its cells as
+/// u32.
 struct ObjectHead;
 
 impl ReadImage for ObjectHead {
@@ -66,7 +67,7 @@ impl ReadImage for CellFormat {
     }
 }
 
-/// The part at the front of bytes, and how many bytes it has. None where they begin with the image of none.
+/// Reads the part at the front of bytes. Returns it and its length; None if they begin with the image of none.
 fn read_front<F: ReadImage>(
     alloc: Global,
     bytes: &[u8],
@@ -81,7 +82,7 @@ fn read_front<F: ReadImage>(
     }
 }
 
-/// An object of which so many cells are left.
+/// An object with cells that are still to be read, and their number.
 #[derive(Drop)]
 struct OpenObject {
     number: u32,
@@ -90,8 +91,8 @@ struct OpenObject {
     left: u32,
 }
 
-/// The table of the objects that were read whole, the number of the last one (0 where there is none), the object at hand, and how many
-/// objects stand behind it.
+/// The table of the objects that were read whole, the number of the last one (0 if there is none), the object that is
+/// being read, and the number of objects after it.
 #[derive(Drop)]
 struct OpenTable {
     table: Table,
@@ -100,7 +101,7 @@ struct OpenTable {
     left: u32,
 }
 
-/// Up to so many cells have exactly the room that they take. Of more the count is not believed before they are read.
+/// Memory for up to this many cells is allocated at once. A greater count is not trusted before the cells are read.
 const FEW: u32 = 8;
 
 fn room_for(count: u32) -> usize {
@@ -113,7 +114,7 @@ fn is_before(a: &(Place, Variant), b: &(Place, Variant)) -> bool
     a.0.cmp(&b.0) == Ordering::Less
 }
 
-/// Whether a cell stands behind those that are there.
+/// Returns whether a cell comes after the cells that were read.
 fn stands_behind(cells: &[(Place, Variant)], next: &(Place, Variant)) -> bool
     ensures { result ≡ is_behind tables.before cells.now next.now }
 {
@@ -123,7 +124,8 @@ fn stands_behind(cells: &[(Place, Variant)], next: &(Place, Variant)) -> bool
     }
 }
 
-/// The cell at the front of bytes, and how many bytes it has. None where it cannot come behind those that are there.
+/// Reads the cell at the front of bytes. Returns it and its length; None if there is none that may come after those
+/// that were read.
 fn next_cell(
     alloc: Global,
     cells: &[(Place, Variant)],
@@ -140,7 +142,8 @@ fn next_cell(
     Ok(None)
 }
 
-/// The head of an object at the front of bytes, and how many bytes it has. None where its number is not between these.
+/// Reads the head of an object at the front of bytes. Returns it and its length; None if its number is not between
+/// these.
 fn next_object(
     alloc: Global,
     last: u32,
@@ -158,7 +161,7 @@ fn next_object(
     Ok(None)
 }
 
-/// Keeps an object at hand as long as cells of it are left, and then puts it behind the others.
+/// Keeps an object while cells of it are left to be read, and then appends it to the table.
 fn keep(alloc: Global, table: &mut OpenTable, object: OpenObject) -> Result<(), AllocError>
     requires none { table.old.object ≡ None }
     requires valid { IsOpenTable (with_at_hand object table.old) }
@@ -175,7 +178,7 @@ fn keep(alloc: Global, table: &mut OpenTable, object: OpenObject) -> Result<(), 
     Ok(())
 }
 
-/// Takes the next cell of an object. Answers how many bytes that are: 0 where none can come, or it is not whole.
+/// Reads the next cell of an object. Returns its length: 0 if none may come, or it is incomplete.
 fn take_cell(
     alloc: Global,
     table: &mut OpenTable,
@@ -198,7 +201,7 @@ fn take_cell(
     Ok(len)
 }
 
-/// Takes the head of the next object. Answers how many bytes that are: 0 where none can come, or it is not whole.
+/// Reads the head of the next object. Returns its length: 0 if none may come, or it is incomplete.
 fn take_object(alloc: Global, table: &mut OpenTable, bytes: &[u8]) -> Result<usize, AllocError>
     requires none { table.old.object ≡ None }
     requires between { IsBetweenParts table.old }
@@ -224,7 +227,7 @@ fn take_object(alloc: Global, table: &mut OpenTable, bytes: &[u8]) -> Result<usi
     Ok(len)
 }
 
-/// Takes the next part of a table. Answers how many bytes it has: 0 where none can come, or it is not whole.
+/// Reads the next part of a table. Returns its length: 0 if none may come, or it is incomplete.
 fn take_part(alloc: Global, table: &mut OpenTable, bytes: &[u8]) -> Result<usize, AllocError>
     requires between { IsBetweenParts table.old }
     ensures takes { IfOk result (λ n. TakesPart table.old table.new bytes.now n) }
@@ -236,7 +239,7 @@ fn take_part(alloc: Global, table: &mut OpenTable, bytes: &[u8]) -> Result<usize
     }
 }
 
-/// Takes the parts of a table that come next. Answers how many bytes they have.
+/// Reads the next parts of a table. Returns their length.
 fn take_parts(alloc: Global, table: &mut OpenTable, bytes: &[u8]) -> Result<usize, AllocError>
     requires between { IsBetweenParts table.old }
     ensures takes { IfOk result (λ n. Takes (table_taken table.old) (table_taken table.new) bytes.now n) }
@@ -254,7 +257,8 @@ fn take_parts(alloc: Global, table: &mut OpenTable, bytes: &[u8]) -> Result<usiz
     Ok(taken)
 }
 
-/// The table whose head stands at the front of bytes, and how many bytes that has. None where no table has it, or it is not whole.
+/// Reads the head of a table at the front of bytes. Returns the table without objects, and the length; None if no
+/// table has this head, or it is incomplete.
 fn begin(alloc: Global, bytes: &[u8]) -> Result<Option<(OpenTable, usize)>, AllocError>
     ensures { IfOk result (λ begun. BeginsTable bytes.now begun) }
 {
@@ -273,7 +277,7 @@ fn begin(alloc: Global, bytes: &[u8]) -> Result<Option<(OpenTable, usize)>, Allo
     Ok(Some((table, len)))
 }
 
-/// A table whose image is given in stretches. Contracts see it as the bytes that were taken.
+/// A reader of a table's image in stretches. Contracts see it as the bytes that were consumed.
 #[derive(Drop)]
 pub struct TableReader {
     alloc: Global,
@@ -292,17 +296,17 @@ impl Model for TableReader {
 }
 
 impl TableReader {
-    /// A reader of which nothing was taken. Takes no memory.
+    /// Makes a reader that has consumed nothing. Allocates nothing.
     pub fn new(alloc: Global) -> TableReader
         ensures { result ≡ [] }
     {
         TableReader { alloc, table: None }
     }
 
-    /// Takes bytes that stand behind those that were taken, and answers how many: whole parts (the head of the table or of an object, a
-    /// cell), up to the first that is not whole, or that no image has there. The others have to be given again, with what stands behind
-    /// them; of the image of a table none is left over at its end. After an Err, which tells that no memory was found, the reader is of no
-    /// more use.
+    /// Consumes bytes that follow those consumed before, and returns how many: whole parts (the head of the table or
+    /// of an object, a cell), up to the first that is incomplete or that no image has there. Pass the others again,
+    /// with the bytes that follow; at the end of an image none is left. Err: an allocation failed, and the reader is
+    /// of no more use.
     pub fn take(&mut self, bytes: &[u8]) -> Result<usize, AllocError>
         ensures taken { IfOk result (λ n. (n ≤ length bytes.now) × (self.new ≡ self.old ++ take n bytes.now)) }
         ensures whole { IfOk result (λ n. (t : TableValue) → a_table.Is t → self.old ++ bytes.now ≡ table_image t → n ≡ length bytes.now) }
@@ -318,7 +322,7 @@ impl TableReader {
         Ok(head + parts)
     }
 
-    /// The table whose image the bytes are that were taken; it has no locks. None where they are the image of none.
+    /// Returns the table whose image the consumed bytes are, without locks; None if they are the image of none.
     pub fn finish(self) -> Option<Table>
         ensures { MatchOption result ((t : TableValue) → a_table.Is t → self ≡ table_image t → ⊥)
             (λ t. a_table.Is t × (self ≡ table_image t)) }

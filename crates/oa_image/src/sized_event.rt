@@ -1,4 +1,4 @@
-//! An event that was measured.
+//! Events with their length.
 ghost use Rattle.std.specs.Prelude.{◌≡◌, length};
 ghost use Rattle.oa_image.specs.Events.{event_image};
 ghost use Rattle.oa_image.specs.Sizes.{event_size};
@@ -7,7 +7,7 @@ use crate::event::event_len;
 use oa_table::Event;
 use std::marker::Model;
 
-/// An event, and how many bytes its image has: it is measured once, as it is made.
+/// An event with the length of its image, which is computed once.
 #[derive(Drop)]
 pub struct SizedEvent {
     event: Event,
@@ -27,7 +27,7 @@ impl Model for SizedEvent {
 }
 
 impl SizedEvent {
-    /// The event, measured. Takes no memory.
+    /// Computes the length of an event's image. Allocates nothing.
     #[inline(always)]
     pub fn new(event: Event) -> SizedEvent
         ensures { result ≡ event }
@@ -36,7 +36,7 @@ impl SizedEvent {
         SizedEvent { event, len }
     }
 
-    /// The event.
+    /// Returns the event.
     #[inline(always)]
     pub fn as_event(&self) -> &Event
         ensures { result.now ≡ self.now }
@@ -44,7 +44,7 @@ impl SizedEvent {
         &self.event
     }
 
-    /// How many bytes its image has.
+    /// Returns the length of its image in bytes.
     #[tactic(auto, using(crate::proofs::Sized::event_sized))]
     #[inline(always)]
     pub fn len(&self) -> usize
@@ -54,7 +54,7 @@ impl SizedEvent {
         self.len
     }
 
-    /// The event alone.
+    /// Returns the event without its length.
     #[inline(always)]
     pub fn into_event(self) -> Event
         ensures { result ≡ self }

@@ -1,4 +1,4 @@
--- What the calls of a bank that stands on a disk answer. (This project's choice.)
+-- What the calls of a bank on a disk return. (This project's choice.)
 use Rattle.std.specs.Prelude.{◌≡◌, ◌↔◌, ℕ, ◌+◌, ◌^◌, ◌≤◌, ◌<◌, IsTrue, true, false, List, length, Result, OnOk, OnErr}
 use Rattle.std.specs.Prelude.{IfErr, IsErrOf}
 use Rattle.oa_disk.specs.Disk.{HasBytesAt, LeavesStep}
@@ -25,12 +25,12 @@ pub record LiesWithin (size : ℕ) (bank : Bank) : Type 0 where
   pub head : bank.head + 32 ≤ size
   pub body : bank.body + body_bytes bank.shape ≤ size
 
--- a body of so many bytes lies at that place of a disk of this size
+-- a body of this many bytes lies at that place of a disk of this size
 pub record BodyWithin (size place bytes : ℕ) : Type 0 where
   pub inside : place + bytes ≤ size
   pub on_a_disk : place + bytes < 2 ^ 63
 
--- a head lies there too
+-- and the head lies within the disk, too
 pub record PartsWithin (size head place bytes : ℕ) : Type 0 where
   pub head_inside : head + 32 ≤ size
   pub body : BodyWithin size place bytes
@@ -41,14 +41,14 @@ pub record WritesBank {D T E : Type 0} (g : Ghosts D) (bank : Bank) (library : L
     (result : Result T E) : Type 0 where
   pub any_moment : IsTrue (g.is_honest old)
       → LeavesStep g.moment g.image_since g.image old new (TornBank bank.head bank.body (body_bytes bank.shape))
-  -- At `Ok` it is what a read gives.
+  -- at `Ok` a read returns the new bank
   pub written : OnOk result (IsTrue (g.is_honest old)
       → IsBank bank.shape (from_place bank.head (g.contents new)) (from_place bank.body (g.contents new))
       library (unlocked_table table) (first_gate library table))
   pub others : IsTrue (g.is_honest old)
       → TornBank bank.head bank.body (body_bytes bank.shape) (g.contents old) (g.contents new)
 
--- A head, and behind the place of a body these bytes, are written.
+-- A head is written, and these bytes from the place of a body on.
 pub record LaysOut {D T E : Type 0} (g : Ghosts D) (head body size : ℕ) (header bytes : List ℕ) (old new : D)
     (result : Result T E) : Type 0 where
   pub any_moment : IsTrue (g.is_honest old)
@@ -57,13 +57,13 @@ pub record LaysOut {D T E : Type 0} (g : Ghosts D) (head body size : ℕ) (heade
       → HasBytesAt (g.contents new) head header × HasBytesAt (g.contents new) body bytes)
   pub others : IsTrue (g.is_honest old) → TornBank head body size (g.contents old) (g.contents new)
 
--- The bank knows its closed gate there, or has stopped.
+-- The bank knows that its closed gate is at this place, or has stopped.
 pub record MovesGate {T E : Type 0} (gate : ℕ) (old new : Bank) (result : Result T E) : Type 0 where
   pub moved : OnOk result (IsAt old.shape old.head old.body gate old.stopped new)
   pub stopped : OnErr result (IsAt old.shape old.head old.body old.gate true new)
 
--- Why a bank was not read: it is damaged in this way at a place, or memory or the device is wanting. After a fault of
--- the device the bank has stopped.
+-- Why a bank could not be read: it is damaged in this way at a place, or an allocation or the device failed. After a
+-- fault of the device the bank has stopped.
 pub record RefusesBank {D T : Type 0} (g : Ghosts D) (damage : ℕ → Type 0) (before after : Bank) (old new : D)
     (result : Result T BankFault) : Type 0 where
   pub damaged : (at : ℕ) → IsErrOf result (Damaged at) → (after ≡ before) × (IsTrue (g.is_honest new) → damage at)
@@ -72,7 +72,8 @@ pub record RefusesBank {D T : Type 0} (g : Ghosts D) (damage : ℕ → Type 0) (
       → IsAt before.shape before.head before.body before.gate true after × (fault ≡ Read)
   pub cause : IfErr result (IsCaused (g.failures_of old) (g.failures_of new))
 
--- The bank was read: this library, and this table after its groups. It knows its closed gate, and else is as it was.
+-- The bank was read: this library, and this table after its groups. It knows its closed gate, and is otherwise
+-- unchanged.
 pub record ReadsBank {D : Type 0} (g : Ghosts D) (before after : Bank) (old new : D) (library : List ℕ)
     (table : TableValue) : Type 0 where
   pub found : IsTrue (g.is_honest new) → IsBank before.shape (from_place before.head (g.contents old))
@@ -80,11 +81,11 @@ pub record ReadsBank {D : Type 0} (g : Ghosts D) (before after : Bank) (old new 
   pub numbered : is_numbered table ≡ true
   pub unlocked : unlocked_table table ≡ table
   pub bank : IsAt before.shape before.head before.body after.gate before.stopped after
-  -- at most four calls, and one for two bytes of snapshot and groups
+  -- at most four calls, and one for every two bytes of snapshot and groups
   pub calls : IsTrue (g.is_honest new) → g.moment new + length library ≤ g.moment old + (8 + after.gate)
 
--- The bank's table was read, after its groups: it is that of the library that the bank begins with. The bank knows its
--- closed gate, and else is as it was.
+-- The bank's table was read, after its groups, for the library with which the bank begins. The bank knows its closed
+-- gate, and is otherwise unchanged.
 pub record ReadsTable {D : Type 0} (g : Ghosts D) (before after : Bank) (old new : D)
     (table : TableValue) : Type 0 where
   pub found : IsTrue (g.is_honest new) → (library : List ℕ) → HasLibrary before.shape
@@ -94,18 +95,18 @@ pub record ReadsTable {D : Type 0} (g : Ghosts D) (before after : Bank) (old new
   pub numbered : is_numbered table ≡ true
   pub unlocked : unlocked_table table ≡ table
   pub bank : IsAt before.shape before.head before.body after.gate before.stopped after
-  -- at most two calls, and one for two bytes of snapshot and groups
+  -- at most two calls, and one for every two bytes of snapshot and groups
   pub calls : IsTrue (g.is_honest new) → (library : List ℕ) → HasLibrary before.shape
       (from_place before.head (g.contents old)) (from_place before.body (g.contents old)) library
       → g.moment new + length library ≤ g.moment old + (4 + after.gate)
 
--- The head of a bank stands at this place, and the disk has room for two such banks.
+-- The head of a bank is at this place, and the disk is large enough for two such banks.
 pub record FindsHead {D : Type 0} (g : Ghosts D) (place : ℕ) (old new : D) (head : Head) : Type 0 where
   pub found : IsTrue (g.is_honest new) → HasHead head.shape place (g.contents old) head.library head.snapshot
   pub known : IsShape head.shape × (head.library + head.snapshot < body_bytes head.shape)
   pub room : disk_bytes head.shape ≤ g.size_of old
 
--- There is none at this place. No memory is wanted.
+-- There is no head at this place. Nothing was allocated.
 pub record RefusesHead {D T : Type 0} (g : Ghosts D) (place : ℕ) (old new : D)
     (result : Result T BankFault) : Type 0 where
   pub damaged : (at : ℕ) → IsErrOf result (Damaged at)
@@ -114,7 +115,7 @@ pub record RefusesHead {D T : Type 0} (g : Ghosts D) (place : ℕ) (old new : D)
   pub device : (fault : DeviceFault) → IsErrOf result (Device fault) → fault ≡ Read
   pub cause : IfErr result (IsCaused (g.failures_of old) (g.failures_of new))
 
--- The group of a batch has no room, or the bank has stopped: nothing has changed.
+-- The group of a batch does not fit, or the bank has stopped: nothing has changed.
 pub record RefusesGroup {D T : Type 0} (batch : List ℕ) (before after : Bank) (old new : D)
     (result : Result T AppendFault) : Type 0 where
   pub full : IsErrOf result appends.Full

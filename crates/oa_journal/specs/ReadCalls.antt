@@ -1,4 +1,4 @@
--- What the reads of a bank's parts require, find and leave. (This project's choice.)
+-- What reads of a bank's parts require, find and leave. (This project's choice.)
 use Rattle.std.specs.Prelude.{◌≡◌, ℕ, ◌+◌, ◌<◌, ◌≤◌, true, IsTrue, List, length, take, slice_index}
 use Rattle.oa_disk.specs.Disk.{HasBytesAt}
 use Rattle.oa_disk.specs.declared.disk.Disk.{Ghosts}
@@ -12,39 +12,39 @@ use Rattle.oa_journal.specs.Shapes.{body_bytes}
 
 -- ---- what is required
 
--- what was read ahead stands on the disk
+-- the bytes that were read ahead are those of the disk
 abbrev pub IsAhead : {D : Type 0} → Ghosts D → D → DiskAhead → Type 0
 IsAhead g disk ahead =
     IsTrue (g.is_honest disk) → HasBytesAt (g.contents disk) ahead.from (take ahead.len ahead.buffer.items)
 
 -- ---- what stays
 
--- What is read ahead now stood on the disk at the start, in a buffer as long as before.
+-- The bytes that are read ahead were on the disk at the start; the buffer is as long as before.
 pub record StaysAhead {D : Type 0} (g : Ghosts D) (old new : D) (before after : DiskAhead) : Type 0 where
   pub shown : IsTrue (g.is_honest new)
       → HasBytesAt (g.contents old) after.from (take after.len after.buffer.items)
   pub kept : length after.buffer.items ≡ length before.buffer.items
 
--- A table stays in order, and without locks.
+-- If a table is in order and without locks, it stays so.
 pub record StaysStored (before after : TableValue) : Type 0 where
   pub numbered : is_numbered before ≡ true → is_numbered after ≡ true
   pub unlocked : unlocked_table before ≡ before → unlocked_table after ≡ after
 
 -- ---- what is found
 
--- a table as a bank holds it: the numbers of its objects are in order, and none of them has locks
+-- a table as a bank has it: the numbers of its objects rise, and no cell is locked
 pub record IsStored (table : TableValue) : Type 0 where
   pub numbered : is_numbered table ≡ true
   pub unlocked : unlocked_table table ≡ table
 
--- The group behind a gate of a body of that size, if the gate is open.
+-- The group after a gate of a body of that size, if the gate is open.
 pub record FindsGroup {D : Type 0} (g : Ghosts D) (body size at : ℕ) (old new : D) (group : List ℕ) : Type 0 where
   pub found : IsTrue (g.is_honest new) → slice_index (g.contents old) (body + at) ≡ 1
       → IsGroupAt (from_place body (g.contents old)) at group
   pub inside : at + (5 + length group) < size
   pub some : 0 < length group
 
--- The group there makes the new table of the old one, and the next gate stands behind it.
+-- The group turns the old table into the new one, and the next gate comes after it.
 pub record PassesGroup {D : Type 0} (g : Ghosts D) (body size at : ℕ) (before after : TableValue) (old new : D)
     (next : ℕ) : Type 0 where
   pub found : IsTrue (g.is_honest new) → slice_index (g.contents old) (body + at) ≡ 1
@@ -53,8 +53,8 @@ pub record PassesGroup {D : Type 0} (g : Ghosts D) (body size at : ℕ) (before 
   pub inside : next < size
   pub nearer : at + 6 ≤ next
 
--- The groups from there on make the table of the first one, up to the closed gate: two calls a group, and one more for
--- each gate. No group has fewer than six bytes with its gate.
+-- The groups from there on turn the first table into this one, up to the closed gate: two calls a group, and one more
+-- for each gate. A group has at least six bytes with its gate.
 pub record FindsGroups {D : Type 0} (g : Ghosts D) (body size from : ℕ) (first : TableValue) (old new : D)
     (table : TableValue) (gate : ℕ) : Type 0 where
   pub found : IsTrue (g.is_honest new) → (groups : List (List ℕ))
@@ -63,8 +63,8 @@ pub record FindsGroups {D : Type 0} (g : Ghosts D) (body size from : ℕ) (first
   pub inside : gate < size
   pub calls : IsTrue (g.is_honest new) → g.moment new + from ≤ g.moment old + (2 + gate)
 
--- The table of the bank of that head and that body, whichever library it begins with, and its closed gate: at most two
--- calls, and one for two bytes of snapshot and groups.
+-- The table of the bank with that head and that body, whichever library it begins with, and its closed gate: at most
+-- two calls, and one for every two bytes of snapshot and groups.
 pub record FindsTable {D : Type 0} (g : Ghosts D) (shape : Shape) (head body : ℕ) (old new : D) (table : TableValue)
     (gate : ℕ) : Type 0 where
   pub found : IsTrue (g.is_honest new) → (library : List ℕ)

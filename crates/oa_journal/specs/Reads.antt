@@ -11,20 +11,20 @@ use Rattle.oa_journal.specs.declared.bank.BankFault.{BankFault}
 use Rattle.oa_journal.specs.declared.bank.BankFault.TheVariants.{Device}
 use Rattle.oa_journal.specs.Replies.{IsCaused}
 
--- At every moment of the calls each image is one of those at their start.
+-- At each point in time of the calls, each image is one of those at their start.
 pub record WritesNothing {D : Type 0} (image : D → List ℕ → Type 0) (moment : D → ℕ)
     (image_since : D → ℕ → List ℕ → Type 0)
     (old new : D) : Type 0 where
   pub images : (c : List ℕ) → image new c → image old c
   pub moments : LeavesOnly moment image_since old new (image old)
 
--- So it is, and the contents stay, which behind a sync that has failed are not known.
+-- Besides, the contents do not change; after a failed sync they are not known.
 pub record OnlyReads {D : Type 0} (contents : D → List ℕ) (image : D → List ℕ → Type 0) (moment : D → ℕ)
     (image_since : D → ℕ → List ℕ → Type 0) (old new : D) : Type 0 where
   pub contents_stay : contents new ≡ contents old
   pub writes_nothing : WritesNothing image moment image_since old new
 
--- Reads, which take so many moments at most and end with the first that fails.
+-- Reads that advance the clock by at most `moments` and end with the first failure.
 pub record AfterReads {D T : Type 0} (g : Ghosts D) (moments : ℕ) (old new : D)
     (result : Result T BankFault) : Type 0 where
   pub reads : IsTrue (g.is_honest new) → OnlyReads g.contents g.image g.moment g.image_since old new
@@ -34,7 +34,7 @@ pub record AfterReads {D T : Type 0} (g : Ghosts D) (moments : ℕ) (old new : D
   pub most : IsTrue (g.is_honest new) → g.moment new ≤ g.moment old + moments
 
 module _ {D : Type 0} (image : D → List ℕ → Type 0) (moment : D → ℕ) (image_since : D → ℕ → List ℕ → Type 0) where
-  -- one run behind the other
+  -- one run after the other
   pub called_on : (old mid new : D) → WritesNothing image moment image_since old mid
       → WritesNothing image moment image_since mid new → WritesNothing image moment image_since old new
   called_on old mid new first second = record {
@@ -45,7 +45,7 @@ module _ {D : Type 0} (image : D → List ℕ → Type 0) (moment : D → ℕ) (
 
 module _ {D : Type 0} (contents : D → List ℕ) (image : D → List ℕ → Type 0) (moment : D → ℕ)
     (image_since : D → ℕ → List ℕ → Type 0) where
-  -- one run behind the other
+  -- one run after the other
   pub reads_on : (old mid new : D) → OnlyReads contents image moment image_since old mid
       → OnlyReads contents image moment image_since mid new → OnlyReads contents image moment image_since old new
   reads_on old mid new first second = record {

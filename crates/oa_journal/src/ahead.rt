@@ -1,4 +1,4 @@
-//! Bytes of a disk that were read ahead: a reader in pieces.
+//! A disk reader with a read-ahead buffer.
 ghost use Rattle.std.specs.Prelude.{◌≡◌, ◌↔◌, ◌+◌, ◌≤◌, ℕ, List, IsTrue, length, take, OnOk, IsErrOf};
 ghost use Rattle.oa_disk.specs.Disk.{HasBytesAt};
 ghost use Rattle.oa_journal.specs.declared.bank.BankFault.{BankFault};
@@ -7,7 +7,7 @@ ghost use Rattle.oa_journal.specs.Reads.{AfterReads};
 use crate::BankFault;
 use oa_disk::Disk;
 
-/// Reads so many bytes of a disk from that place on into the front of a buffer.
+/// Reads `count` bytes of a disk from `at` on into the front of a buffer.
 fn read_front<D: Disk>(
     disk: &mut D,
     at: u64,
@@ -27,7 +27,7 @@ fn read_front<D: Disk>(
     Ok(())
 }
 
-/// The bytes of a disk from a place on, as they were read into the front of a buffer.
+/// Bytes of a disk from a place on, read ahead into the front of a buffer.
 #[derive(Drop)]
 pub(crate) struct DiskAhead {
     from: u64,
@@ -40,7 +40,7 @@ pub(crate) struct DiskAhead {
 impl DiskAhead {
     ghost use Rattle.oa_journal.specs.ReadCalls.{IsAhead, StaysAhead};
 
-    /// No bytes.
+    /// Makes a reader over this buffer that has read nothing.
     pub(crate) fn over(buffer: Vec<u8>) -> DiskAhead
         requires { 5 ≤ length buffer.items }
         ensures shown { (disk : List ℕ) → HasBytesAt disk result.from (take result.len result.buffer.items) }
@@ -53,7 +53,7 @@ impl DiskAhead {
         }
     }
 
-    /// The buffer.
+    /// Returns the buffer.
     pub(crate) fn into_buffer(self) -> Vec<u8>
         ensures { length result.items ≡ length self.buffer.items }
     {
@@ -61,14 +61,15 @@ impl DiskAhead {
         buffer
     }
 
-    /// Whether the buffer takes so many bytes.
+    /// Returns whether `count` bytes fit into the buffer.
     pub(crate) fn takes(&self, count: usize) -> bool
         ensures { IsTrue result ↔ (count ≤ length self.now.buffer.items) }
     {
         count <= self.buffer.len()
     }
 
-    /// Reads on where the bytes of that range are not all there: as many as the buffer takes, as far as the end. Takes no memory.
+    /// Reads ahead unless all bytes of that range are in the buffer: as many bytes as fit, up to the end. Allocates
+    /// nothing.
     pub(crate) fn cover<D: Disk>(
         &mut self,
         disk: &mut D,
@@ -108,7 +109,7 @@ impl DiskAhead {
         Ok(())
     }
 
-    /// Those of a range that is there.
+    /// Returns the bytes of a range that is in the buffer.
     pub(crate) fn seen(&self, at: u64, count: usize) -> &[u8]
         requires low { self.now.from ≤ at }
         requires high { at + count ≤ self.now.from + self.now.len }

@@ -1,4 +1,4 @@
-//! One bank, where it stands on a disk.
+//! One bank at its place on a disk.
 ghost use Rattle.std.specs.Prelude.{◌≡◌, ◌+◌, ◌-◌, ◌^◌, ◌<◌, ◌≤◌, ℕ, true, false, IsTrue, length, OnOk, IfOk, IsErrOf};
 ghost use Rattle.std.specs.Int.{div_ceil};
 ghost use Rattle.oa_disk.specs.After.{AfterAttempt, AfterCalls, AfterWrites, Leaves};
@@ -20,30 +20,31 @@ use oa_table::Table;
 use std::alloc::{AllocError, Global};
 use thiserror::Error;
 
-/// Why an append did not end well.
+/// Why an append failed.
 #[derive(Clone, Copy, Debug, PartialEq, Eq, Error)]
 pub enum AppendFault {
-    /// There is no room for the group. Nothing was written.
+    /// The group does not fit. Nothing was written.
     #[error("the bank is full")]
     Full,
-    /// The device has failed a call before. Nothing was written.
+    /// The device failed an earlier call. Nothing was written.
     #[error("the bank has stopped")]
     Stopped,
-    /// The device has failed a call. The group is there whole or not at all.
+    /// The device failed a call. The group is in the bank whole or not at all.
     #[error("device: {0}")]
     Device(DeviceFault),
 }
 
-/// Why a bank was not read.
+/// Why a bank could not be read.
 #[derive(Clone, Copy, Debug, PartialEq, Eq, Error)]
 pub enum BankFault {
-    /// It is no bank: the place on the disk of its head, of its snapshot or of the gate of a group, which is the first that fails.
+    /// It is not a bank. The number is the place on the disk of the first invalid part: the head, the snapshot, or
+    /// the gate of a group.
     #[error("damaged at {0}")]
     Damaged(u64),
-    /// The device has failed a call.
+    /// The device failed a call.
     #[error("device: {0}")]
     Device(DeviceFault),
-    /// There is no memory for it.
+    /// An allocation failed.
     #[error("out of memory")]
     Memory,
 }
@@ -68,8 +69,8 @@ impl From<DeviceFault> for BankFault {
     }
 }
 
-/// A bank on a disk, which its calls are given: its format, where its head and its body stand, and where in the body the closed gate
-/// stands.
+/// A bank on a disk, which is passed to each call: its format, the places of its head and its body, and the place of
+/// the closed gate in the body.
 #[derive(Drop, Debug, PartialEq, Eq)]
 pub struct Bank {
     shape: Shape,
@@ -90,8 +91,9 @@ impl Bank {
     ghost use Rattle.oa_journal.specs.Append.{group_of, IsAt, IsWithOrWithout, IsWith};
     ghost use Rattle.oa_journal.specs.BankCalls.{LiesWithin, MovesGate, ReadsBank, ReadsTable, RefusesBank, RefusesGroup, WritesBank};
 
-    /// The bank of that format whose head and whose body stand at these places of a disk; one of format 1 is only read (inspected or
-    /// upgraded, never opened). Until it is written or read, its room is 1: no group fits.
+    /// Makes the bank of that format with its head and its body at these places of a disk. A bank of format 1 can
+    /// only be read, for a dump or an upgrade. Until the bank is written or read, its free space is 1 byte: no group
+    /// fits.
     pub fn at(head: u64, body: u64, shape: Shape) -> Bank
         requires known { IsShape shape }
         requires on_a_disk { head + 32 < 2 ^ 63 }
@@ -108,23 +110,24 @@ impl Bank {
         }
     }
 
-    /// How many bytes the body has from the closed gate on. A group of n bytes takes n + 5 of them, and leaves one at least.
+    /// Returns how many bytes the body has from the closed gate on. A group of n bytes uses n + 5 of them, and at
+    /// least one is left.
     pub fn room(&self) -> u32
         ensures { result ≡ body_bytes self.now.shape - self.now.gate }
     {
         self.shape.body_bytes() - self.gate
     }
 
-    /// How many bytes the body has.
+    /// Returns the size of the body in bytes.
     pub fn size(&self) -> u32
         ensures { result ≡ body_bytes self.now.shape }
     {
         self.shape.body_bytes()
     }
 
-    /// Writes the bank of a library and a table, without groups and without locks: its head in one write, and its body in as many bytes a
-    /// write as the buffer takes. Until it is synced, a crash may leave any bytes there. Takes no memory. After an `Err` the bank has
-    /// stopped; `Ok` does not change whether it has.
+    /// Writes a bank with this library and table, without groups and without locks: the head in one write, the body
+    /// in writes as long as the buffer. Until the next sync, a crash may leave any bytes there. Allocates nothing.
+    /// After an `Err` the bank has stopped; `Ok` does not change whether it has.
     pub fn start<D: Disk>(
         &mut self,
         disk: &mut D,
@@ -137,11 +140,11 @@ impl Bank {
         requires numbered { is_numbered table.now ≡ true }
         requires lies { LiesWithin (D.size_of disk.old) self.old }
 
-        // Until it is synced, a crash may leave any bytes of it; what stands outside stays.
+        // (until the next sync, a crash may leave any bytes of the bank; the bytes outside stay)
         ensures writes { WritesBank D.Disk self.old library.now table.now disk.old disk.new result }
         ensures gate { MovesGate (first_gate library.now table.now) self.old self.new result }
         ensures buffer { length buffer.new ≡ length buffer.old }
-        // At most a call for the head, and one for each piece of the body that the buffer takes.
+        // (at most one write for the head, and one for each piece of the body)
         ensures after { AfterWrites D.Disk (1 + div_ceil (1 + first_gate library.now table.now) (length buffer.old)) disk.old disk.new
             result }
     {
@@ -163,7 +166,8 @@ impl Bank {
         }
     }
 
-    /// Reads the bank's library. Snapshot and groups are not looked at. After `Device` the bank has stopped.
+    /// Reads the bank's library, but neither snapshot nor groups. Errors: `Damaged` for the head; `Memory`; `Device`,
+    /// after which the bank has stopped.
     pub fn read_library<D: Disk>(
         &mut self,
         alloc: Global,
@@ -175,7 +179,7 @@ impl Bank {
             → HasLibrary self.old.shape (from_place self.old.head (D.contents disk.old)) (from_place self.old.body (D.contents disk.old))
             library.items) }
         ensures bank { OnOk result (self.new ≡ self.old) }
-        // `Damaged` for the head alone.
+        // (`Damaged` only for the head)
         ensures head { (at : ℕ) → IsErrOf result (BankFault.Damaged at) → at ≡ self.old.head }
         ensures refused { RefusesBank D.Disk (λ at. HasNoHeader self.old.shape (from_place self.old.head (D.contents disk.old)))
             self.old self.new disk.old disk.new result }
@@ -191,8 +195,9 @@ impl Bank {
         read
     }
 
-    /// Reads the bank's table after its groups, through this buffer, which is given back with all its bytes. The library is not looked at.
-    /// From then on the bank knows where its closed gate stands. After `Device` it has stopped.
+    /// Reads the bank's table after its groups, through `buffer`, which is returned with its full length; the library
+    /// is skipped. The bank then knows the place of its closed gate. Errors: `Damaged` with the place on the disk of
+    /// the first invalid part; `Memory`; `Device`, after which the bank has stopped.
     pub fn read_table<D: Disk>(
         &mut self,
         alloc: Global,
@@ -204,12 +209,12 @@ impl Bank {
 
         ensures found { IfOk result (λ r. ReadsTable D.Disk self.old self.new disk.old disk.new r.0) }
         ensures buffer { IfOk result (λ r. length r.1.items ≡ length buffer.items) }
-        // `Damaged` with the place on the disk of the first part that fails.
+        // (`Damaged` with the place on the disk of the first invalid part)
         ensures refused { RefusesBank D.Disk (IsDamagedBank self.old.shape self.old.head self.old.body (D.contents disk.old)) self.old
             self.new disk.old disk.new result }
         ensures reads { IsTrue (D.is_honest disk.new) → OnlyReads D.contents D.image D.moment D.image_since disk.old disk.new }
         ensures after { AfterCalls D.Disk disk.old disk.new result }
-        // at most four calls, and one for two bytes of the body, whatever is answered
+        // (at most four calls, and one for every two bytes of the body, whatever the result)
         ensures most { IsTrue (D.is_honest disk.new) → D.moment disk.new ≤ D.moment disk.old + (8 + body_bytes self.old.shape) }
     {
         match table_at(alloc, disk, self.shape, self.head, self.body, buffer) {
@@ -224,7 +229,7 @@ impl Bank {
         }
     }
 
-    /// Reads the bank: its library, and then its table.
+    /// Reads the bank: its library, and its table as `read_table` does, with the same errors.
     pub fn read_all<D: Disk>(
         &mut self,
         alloc: Global,
@@ -236,12 +241,12 @@ impl Bank {
 
         ensures found { IfOk result (λ r. ReadsBank D.Disk self.old self.new disk.old disk.new r.0.items r.1) }
         ensures buffer { IfOk result (λ r. length r.2.items ≡ length buffer.items) }
-        // `Damaged` with the place on the disk of the first part that fails.
+        // (`Damaged` with the place on the disk of the first invalid part)
         ensures refused { RefusesBank D.Disk (IsDamagedBank self.old.shape self.old.head self.old.body (D.contents disk.old)) self.old
             self.new disk.old disk.new result }
         ensures reads { IsTrue (D.is_honest disk.new) → OnlyReads D.contents D.image D.moment D.image_since disk.old disk.new }
         ensures after { AfterCalls D.Disk disk.old disk.new result }
-        // at most six calls, and one for two bytes of the body, whatever is answered
+        // (at most six calls, and one for every two bytes of the body, whatever the result)
         ensures most { IsTrue (D.is_honest disk.new) → D.moment disk.new ≤ D.moment disk.old + (12 + body_bytes self.old.shape) }
     {
         let library = self.read_library(alloc, disk)?;
@@ -249,7 +254,7 @@ impl Bank {
         Ok((library, table, buffer))
     }
 
-    /// After a call that the device has failed, the bank has stopped.
+    /// Stops the bank if the fault is the device's.
     fn stop_after(&mut self, fault: BankFault)
         ensures same { (at : ℕ) → fault ≡ BankFault.Damaged at → self.new ≡ self.old }
         ensures memory { fault ≡ BankFault.Memory → self.new ≡ self.old }
@@ -260,14 +265,14 @@ impl Bank {
         }
     }
 
-    /// Adds a group, which stands in a batch with four free bytes before it and one behind, in four calls of the disk: it is there
-    /// whole or not at all. It takes no memory. Of the batch, the free bytes alone may change. After `Device`, and only then,
-    /// the bank has stopped.
+    /// Appends a group in four calls of the disk: after a crash it is in the bank whole or not at all. The group is
+    /// in `batch` between four free bytes and one, and only these may change. Allocates nothing. Errors: `Full`,
+    /// `Stopped`; `Device`, after which, and only then, the bank has stopped.
     pub fn append<D: Disk>(&mut self, disk: &mut D, batch: &mut [u8]) -> Result<(), AppendFault>
         requires some { 5 < length batch.old }
         requires inside { self.old.body + body_bytes self.old.shape ≤ D.size_of disk.old }
 
-        // A crash at any moment leaves what it might have left, with the group or without it; and at `Ok` with it.
+        // (a crash at any point in time leaves an earlier image with the group or without it, and at `Ok` with it)
         ensures leaves { Leaves D.Disk (IsWithOrWithout self.old.shape self.old.head self.old.body self.old.gate (group_of batch.old))
             (IsWith self.old.shape self.old.head self.old.body self.old.gate (group_of batch.old)) disk.old disk.new result }
         ensures gate { OnOk result (IsAt self.old.shape self.old.head self.old.body (self.old.gate + length batch.old) false self.new) }
@@ -275,7 +280,7 @@ impl Bank {
             → IsAt self.old.shape self.old.head self.old.body self.old.gate true self.new }
         ensures kept { group_of batch.new ≡ group_of batch.old }
         ensures refused { RefusesGroup batch.old self.old self.new disk.old disk.new result }
-        // At most four calls.
+        // (at most four calls)
         ensures after { AfterAttempt D.Disk AppendFault.Device 4 disk.old disk.new result }
     {
         if self.stopped {

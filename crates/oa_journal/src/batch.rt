@@ -1,4 +1,4 @@
-//! A group behind a closed gate, which is opened once the group is on the device.
+//! Writing a group after a closed gate, which is opened once the group is on the device.
 ghost use Rattle.std.specs.Prelude.{◌≡◌, ◌+◌, ◌^◌, ◌<◌, ◌≤◌, IsTrue, length, OnOk, IfOk};
 ghost use Rattle.std.specs.Int.{div_ceil};
 ghost use Rattle.oa_disk.specs.After.{AfterWrites};
@@ -11,7 +11,7 @@ ghost use Rattle.oa_journal.specs.BankCalls.{LaysOut, PartsWithin};
 use crate::layout::BodyBytes;
 use oa_disk::{DeviceFault, Disk, write_then_flip};
 
-/// Fills the free bytes of a batch: four before the group, for its length, and one behind it, for the next gate.
+/// Fills the free bytes of a batch: the four before the group with its length, the one after it with a closed gate.
 fn seal(batch: &mut [u8])
     requires some { 5 < length batch.old }
     requires few { length batch.old < 2 ^ 32 }
@@ -23,7 +23,7 @@ fn seal(batch: &mut [u8])
     batch[count + 4] = 0;
 }
 
-/// Writes the group of a batch behind the closed gate at that place of a disk, and then opens the gate.
+/// Writes the group of a batch after the closed gate at that place of a disk, and then opens the gate.
 pub(crate) fn append_group<D: Disk>(
     disk: &mut D,
     gate: u64,
@@ -47,8 +47,8 @@ pub(crate) fn append_group<D: Disk>(
     write_then_flip(disk, gate + 1, batch, gate, 1)
 }
 
-/// Writes a head in one write, and then these bytes from the place of the body on, as many in one write as the buffer takes. Answers how
-/// many bytes the latter are.
+/// Writes a head in one write, and the bytes of a body in writes as long as the buffer. Returns the number of the
+/// body's bytes.
 pub(crate) fn lay_out<D: Disk>(
     disk: &mut D,
     head: u64,
@@ -66,7 +66,7 @@ pub(crate) fn lay_out<D: Disk>(
     ensures lays { LaysOut D.Disk head body size header.now bytes.old disk.old disk.new result }
     ensures long { IfOk result (λ count. count ≡ length bytes.old) }
     ensures buffer { length buffer.new ≡ length buffer.old }
-    // a call for the head, and one for each piece
+    // (one write for the head, and one for each piece)
     ensures after { AfterWrites D.Disk (1 + div_ceil (length bytes.old) (length buffer.old)) disk.old disk.new result }
 {
     disk.write_at(head, header)?;

@@ -1,4 +1,4 @@
-//! Groups of events, applied to a table.
+//! Groups of log records, applied to a table.
 ghost use Rattle.std.specs.Prelude.{◌≡◌};
 ghost use Rattle.std.specs.List.{AllByRecursion};
 ghost use Rattle.oa_table.specs.Events.{BringsNoLocks};
@@ -8,8 +8,8 @@ use oa_image::{ImageFault, read_events};
 use oa_table::{Event, Table, TableFault};
 use std::alloc::Global;
 
-/// Makes these changes, one after the other. At the first that does not apply, or for which no memory is found, it ends: those before
-/// it were made.
+/// Applies the events in order. It ends at the first that does not apply or for which an allocation fails; those
+/// before it have been applied.
 fn apply_all(table: &mut Table, events: Vec<Event>) -> Result<(), TableFault>
     requires { AllByRecursion BringsNoLocks events.items }
     ensures { AreApplied events.items table.old table.new result }
@@ -22,7 +22,7 @@ fn apply_all(table: &mut Table, events: Vec<Event>) -> Result<(), TableFault>
     Ok(())
 }
 
-/// A change that is refused, as damage of its group.
+/// Converts the refusal of an event into damage of its group.
 fn of_change(fault: TableFault, place: usize) -> ImageFault
     ensures { result ≡ of_change fault place }
 {
@@ -32,9 +32,9 @@ fn of_change(fault: TableFault, place: usize) -> ImageFault
     }
 }
 
-/// Makes the changes of a group, whose bytes are the images of events, one behind the other. `Damaged` where they are not, or where
-/// one of the events does not apply, with a place among the bytes; `Memory` where no memory was found. After an Err some of the
-/// changes may have been made.
+/// Applies a group, the encodings of events one after the other. Errors: `Damaged` with a place among the bytes if
+/// they are no such encodings or an event does not apply; `Memory` if an allocation fails. After an Err some of the
+/// events may have been applied.
 pub(crate) fn replay(alloc: Global, table: &mut Table, group: &[u8]) -> Result<(), ImageFault>
     ensures { IsReplay group.now table.old table.new result }
 {

@@ -13,14 +13,14 @@ use crate::layout::head_bytes;
 use crate::{BankFault, LEAST_BANK_BYTES, MOST_BANK_BYTES, Shape};
 use oa_disk::Disk;
 
-/// What the head of a bank tells: its format with the body's size, and how long the library and the snapshot in the body are.
+/// The contents of a bank's head: the format with the body's size, and the lengths of library and snapshot.
 #[derive(Clone, Copy, Debug, PartialEq, Eq)]
 pub struct Head {
     /// The format, with the body's size in bytes.
     pub shape: Shape,
-    /// How many bytes the library has.
+    /// The length of the library in bytes.
     pub library: u32,
-    /// How many bytes the snapshot has.
+    /// The length of the snapshot in bytes.
     pub snapshot: u32,
 }
 
@@ -30,7 +30,7 @@ fn same(one: &[u8], other: &[u8]) -> bool
     one == other
 }
 
-/// The format of that number whose head tells that size.
+/// Returns the format with this number and this size in its head, if there is one.
 fn told_shape(format: u8, size: u32) -> Option<Shape>
     ensures found { IfSome result (λ shape. IsShape shape × (format_of shape ≡ format) × (told_size shape ≡ size)) }
     ensures none { result ≡ None → (shape : AShape) → IsShape shape → format_of shape ≡ format → told_size shape ≡ size → ⊥ }
@@ -44,7 +44,7 @@ fn told_shape(format: u8, size: u32) -> Option<Shape>
     None
 }
 
-/// What a head tells.
+/// Decodes a head; None if the bytes are not one.
 pub(crate) fn head_in(bytes: &[u8; 32]) -> Option<Head>
     ensures found { IfSome result (λ h. HasHeader h.shape (slice_index bytes.now) h.library h.snapshot) }
     ensures none { result ≡ None → (shape : AShape) → HasNoHeader shape (slice_index bytes.now) }
@@ -70,7 +70,7 @@ pub(crate) fn head_in(bytes: &[u8; 32]) -> Option<Head>
     })
 }
 
-/// The head at that place of a disk.
+/// Reads the head at that place of a disk.
 pub(crate) fn head_at<D: Disk>(disk: &mut D, place: u64) -> Result<Head, BankFault>
     requires { place + 32 ≤ D.size_of disk.old }
 
@@ -91,8 +91,8 @@ pub(crate) fn head_at<D: Disk>(disk: &mut D, place: u64) -> Result<Head, BankFau
     Ok(head)
 }
 
-/// The head of a bank at that place of a disk, in either format. `Damaged` exactly where there is none whose two banks the disk has room
-/// for. It takes no memory.
+/// Reads the head of a bank of either format at `place`. `Damaged` exactly if there is no head, or the disk is too
+/// small for two banks of its format. Allocates nothing.
 pub fn read_head<D: Disk>(disk: &mut D, place: u64) -> Result<Head, BankFault>
     requires { place + 32 ≤ D.size_of disk.old }
 
@@ -100,7 +100,7 @@ pub fn read_head<D: Disk>(disk: &mut D, place: u64) -> Result<Head, BankFault>
     ensures refused { RefusesHead D.Disk place disk.old disk.new result }
     ensures reads { IsTrue (D.is_honest disk.new) → OnlyReads D.contents D.image D.moment D.image_since disk.old disk.new }
     ensures after { AfterCalls D.Disk disk.old disk.new result }
-    // one call
+    // (one call)
     ensures calls { IsTrue (D.is_honest disk.new) → D.moment disk.new ≤ D.moment disk.old + 2 }
 {
     let head = head_at(disk, place)?;

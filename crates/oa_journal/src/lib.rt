@@ -1,10 +1,10 @@
-//! One bank of a store: a library, a snapshot of a table, and groups of events behind gates, each there whole
-//! or not at all.
+//! One bank of a store: a library, a snapshot of a table, and groups of log records after gates (commit flags), each
+//! in the bank whole or not at all.
 //!
-//! Its contract: `append` leaves at each moment a bank with its table or with the one that the group makes of
-//! it, and at `Ok` that one.
+//! Contract: during `append`, a crash leaves a bank with the old table or with the table that the group makes of it,
+//! and after `Ok` the latter.
 //!
-//! What stands on it: oa_store; the crates above it, for the size of a bank and what one holds.
+//! Used by oa_store; the crates above it use the size and the contents of a bank.
 #![tactic(auto)]
 
 mod ahead;

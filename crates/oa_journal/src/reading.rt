@@ -1,4 +1,4 @@
-//! Reading a bank from a disk: its head, and of its body what is used. A part of the body is read when it is looked at.
+//! Reading a bank from a disk: its head, and the parts of its body that are needed, each when it is needed.
 ghost use Rattle.std.specs.Prelude.{◌≡◌, ◌↔◌, ◌+◌, ◌-◌, ◌<◌, ◌≤◌, ℕ, List, IsTrue, length, slice_index, OnOk, IfOk, IsErrOf};
 ghost use Rattle.std.specs.Int.{to_le_bytes, w32};
 ghost use Rattle.oa_disk.specs.Disk.{HasBytesAt};
@@ -21,14 +21,14 @@ use oa_image::ImageFault;
 use oa_table::Table;
 use std::alloc::{AllocError, Global};
 
-/// So many zeros.
+/// Returns this many zeros.
 fn zeros(alloc: Global, count: usize) -> Result<Vec<u8>, AllocError>
     ensures { IfOk result (λ bytes. length bytes.items ≡ count) }
 {
     vec![in alloc; 0; count]
 }
 
-/// So many bytes of a disk from that place on.
+/// Reads `count` bytes of a disk from a place on.
 pub(crate) fn read_part<D: Disk>(
     alloc: Global,
     disk: &mut D,
@@ -49,7 +49,7 @@ pub(crate) fn read_part<D: Disk>(
     Ok(bytes)
 }
 
-/// The same bytes, in a vector.
+/// Copies the bytes into a vector.
 fn copied(alloc: Global, bytes: &[u8]) -> Result<Vec<u8>, AllocError>
     ensures { IfOk result (λ copy. copy.items ≡ bytes.now) }
 {
@@ -58,14 +58,14 @@ fn copied(alloc: Global, bytes: &[u8]) -> Result<Vec<u8>, AllocError>
     Ok(copy)
 }
 
-/// Whether this byte of a gate says that it is open.
+/// Returns whether a gate with this byte is open.
 fn opens(gate: u8) -> bool
     ensures { IsTrue result ↔ (gate ≡ 1) }
 {
     gate == 1
 }
 
-/// Whether the gate at that place of a disk is open.
+/// Reads whether the gate at that place of a disk is open.
 fn is_open<D: Disk>(
     disk: &mut D,
     ahead: &mut DiskAhead,
@@ -86,7 +86,7 @@ fn is_open<D: Disk>(
     Ok(opens(ahead.seen(at, 1)[0]))
 }
 
-/// So many bytes of a disk from that place on, read ahead where the buffer takes them.
+/// Reads `count` bytes of a disk from a place on, through the read-ahead buffer if they fit into it.
 fn group_bytes<D: Disk>(
     alloc: Global,
     disk: &mut D,
@@ -119,7 +119,7 @@ fn is_same(one: Shape, other: Shape) -> bool
     one == other
 }
 
-/// The number that four bytes spell.
+/// Returns the number that four bytes encode.
 fn number(bytes: &[u8]) -> u32
     requires { length bytes.now ≡ 4 }
     ensures { to_le_bytes w32 result ≡ bytes.now }
@@ -127,7 +127,7 @@ fn number(bytes: &[u8]) -> u32
     u32::from_le_bytes([bytes[0], bytes[1], bytes[2], bytes[3]])
 }
 
-/// What the head at that place tells, which has to be one of that format.
+/// Reads the head at that place, which must be one of that format.
 fn head_of<D: Disk>(disk: &mut D, shape: Shape, place: u64) -> Result<Head, BankFault>
     requires { place + 32 ≤ D.size_of disk.old }
 
@@ -146,7 +146,7 @@ fn head_of<D: Disk>(disk: &mut D, shape: Shape, place: u64) -> Result<Head, Bank
     Ok(head)
 }
 
-/// The library of the bank whose head and body stand at these places of a disk. Head and library alone are looked at.
+/// Reads the library of the bank with its head and body at these places of a disk, and nothing else.
 pub(crate) fn library_at<D: Disk>(
     alloc: Global,
     disk: &mut D,
@@ -167,7 +167,7 @@ pub(crate) fn library_at<D: Disk>(
     read_part(alloc, disk, body, told.library as usize)
 }
 
-/// The head of a bank, and the table of its snapshot.
+/// Reads the head of a bank, and the table of its snapshot.
 fn first_at<D: Disk>(
     alloc: Global,
     disk: &mut D,
@@ -193,7 +193,8 @@ fn first_at<D: Disk>(
     Ok((told, first))
 }
 
-/// The bytes of the group behind the open gate at that place of a body. The next gate stands 5 bytes and the group's length further on.
+/// Reads the group after the open gate at that place of a body. The next gate is 5 bytes and the group's length
+/// further on.
 fn group_at<D: Disk>(
     alloc: Global,
     disk: &mut D,
@@ -232,7 +233,7 @@ fn group_at<D: Disk>(
     group_bytes(alloc, disk, ahead, end, gate + 5, count as usize)
 }
 
-/// Applies the group behind the open gate at that place, and answers the place of the next gate.
+/// Applies the group after the open gate at that place, and returns the place of the next gate.
 fn read_group<D: Disk>(
     alloc: Global,
     disk: &mut D,
@@ -263,7 +264,7 @@ fn read_group<D: Disk>(
     }
 }
 
-/// The table after the groups that stand from that place of a body on, and the place of the closed gate behind them.
+/// Applies the groups of a body from a place on. Returns the table, and the place of the closed gate after them.
 fn read_groups<D: Disk>(
     alloc: Global,
     disk: &mut D,
@@ -297,8 +298,8 @@ fn read_groups<D: Disk>(
     Ok((table, at, ahead.into_buffer()))
 }
 
-/// The table of the bank whose head and body stand at these places of a disk, and where in the body its closed gate stands. The library is
-/// not looked at.
+/// Reads the table of the bank with its head and body at these places of a disk, and the place of the closed gate in
+/// its body. The library is skipped.
 pub(crate) fn table_at<D: Disk>(
     alloc: Global,
     disk: &mut D,

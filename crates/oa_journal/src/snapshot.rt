@@ -1,4 +1,4 @@
-//! The snapshot of a bank, read in stretches: what is resident beside the table is a stretch, or twice the largest cell.
+//! Reading the snapshot of a bank in stretches. Memory besides the table is one stretch, or twice the largest cell.
 ghost use Rattle.std.specs.Prelude.{◌≡◌, ◌+◌, ◌*◌, ◌^◌, ◌<◌, ◌≤◌, ◌++◌, ℕ, IsTrue, [], length, OnOk, IfOk, IsErrOf};
 ghost use Rattle.std.specs.Int.{div_ceil};
 ghost use Rattle.oa_journal.specs.declared.bank.BankFault.{BankFault};
@@ -14,10 +14,11 @@ use oa_image::TableReader;
 use oa_table::Table;
 use std::alloc::Global;
 
-/// How many bytes are read at once, where no part of the image is longer. A block of so many goes back to the system when it is freed.
+/// How many bytes are read at once, unless a part of the encoding is longer. A block of this size goes back to the
+/// system when it is freed.
 const STRETCH: usize = 131_072;
 
-/// How many bytes are read behind those of a window, of so many that are left: as many as it has, and a stretch at least.
+/// Returns how many of the `left` bytes to read next: as many as the window has, and at least a stretch.
 fn stretch(held: usize, left: usize) -> usize
     ensures most { result ≤ left }
     ensures least { result < left → stretch_bytes ≤ result }
@@ -26,7 +27,7 @@ fn stretch(held: usize, left: usize) -> usize
     held.max(STRETCH).min(left)
 }
 
-/// Reads so many bytes of a disk from that place on behind those of a window.
+/// Reads `count` bytes of a disk from a place on, and appends them to a window.
 fn read_behind<D: Disk>(
     disk: &mut D,
     at: u64,
@@ -47,7 +48,7 @@ fn read_behind<D: Disk>(
     Ok(())
 }
 
-/// Lets a reader take what it can of a window, which keeps the rest.
+/// Passes the window to a reader, and keeps the bytes that the reader does not consume.
 fn hand_over(reader: &mut TableReader, window: &mut Vec<u8>) -> Result<(), BankFault>
     ensures all { OnOk result (reader.new ++ window.new.items ≡ reader.old ++ window.old.items) }
     ensures whole { OnOk result ((first : TableValue) → table.Is first → reader.old ++ window.old.items ≡ table_image first
@@ -59,8 +60,7 @@ fn hand_over(reader: &mut TableReader, window: &mut Vec<u8>) -> Result<(), BankF
     Ok(())
 }
 
-/// Reads a stretch of what is left in front of an end of a disk behind a window, of which a reader then takes what it can. Answers how
-/// many bytes are left.
+/// Reads the next stretch before `end` and passes it to a reader. Returns how many bytes are left.
 fn read_stretch<D: Disk>(
     disk: &mut D,
     end: u64,
@@ -85,7 +85,7 @@ fn read_stretch<D: Disk>(
     Ok(left - count)
 }
 
-/// The table whose image stands at that place of a disk and has so many bytes.
+/// Reads the table with its encoding of `count` bytes at that place of a disk.
 pub(crate) fn read_snapshot<D: Disk>(
     alloc: Global,
     disk: &mut D,

@@ -1,5 +1,4 @@
--- What a disk holds of a table that a store keeps: a store of its library, and of all of the table but its locks. (This
--- project's choice.)
+-- A disk with a store of a table: of its library, and of the table without its locks. (This project's choice.)
 use Rattle.std.specs.Prelude.{◌⊎◌, ℕ, ◌-◌, ◌<◌, ◌≤◌, IsTrue, List, length}
 use Rattle.oa_disk.specs.declared.disk.Disk.{Ghosts}
 use Rattle.oa_disk.specs.Disk.{LeavesOnly}
@@ -13,23 +12,23 @@ use Rattle.oa_table.specs.Tables.{TableValue}
 abbrev pub EachIs : (List ℕ → Type 0) → Shape → ℕ → ℕ → List ℕ → TableValue → Type 0
 EachIs image shape chosen gate library held = (c : List ℕ) → image c → IsStoreAt shape chosen gate library held c
 
--- its disk is honest, and each image of it holds this table
+-- its disk is honest, and each image of it is a store of this table
 abbrev pub AllHold : {D : Type 0} {g : Ghosts D} → Store D g → TableValue → Type 0
 AllHold {D} {g} store held =
     IsTrue (g.is_honest store.disk)
     × EachIs (g.image store.disk) store.bank.shape store.chosen store.bank.gate store.library.items held
 
--- a crash at any moment of a call leaves a store of this table, of the format and the library of before
+-- a crash at any point in time of a call leaves a store of this table, with the same format and library
 abbrev pub LeavesTable : {D : Type 0} {g : Ghosts D} → Store D g → Store D g → TableValue → Type 0
 LeavesTable {D} {g} old new held =
     LeavesOnly g.moment g.image_since old.disk new.disk (λ c. IsStoreIn old.bank.shape c old.library.items held)
 
--- or of the one table or the other
+-- or of one of two tables
 abbrev pub LeavesEither : {D : Type 0} {g : Ghosts D} → Store D g → Store D g → TableValue → TableValue → Type 0
 LeavesEither {D} {g} old new before after =
     LeavesOnly g.moment g.image_since old.disk new.disk
     (λ c. IsStoreIn old.bank.shape c old.library.items before ⊎ IsStoreIn old.bank.shape c old.library.items after)
 
--- Where the batch has events, the bank in use has room for the greatest group.
+-- If the batch has events, the largest group fits into the bank in use.
 abbrev pub HasRoom : {D : Type 0} {g : Ghosts D} → List ℕ → Store D g → Type 0
 HasRoom batch store = 0 < length batch → ample_bytes ≤ body_bytes store.bank.shape - store.bank.gate

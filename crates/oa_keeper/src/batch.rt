@@ -1,4 +1,4 @@
-//! The events of a group, as they will go out.
+//! The events of a group, as they will be written.
 ghost use Rattle.std.specs.Prelude.{◌≡◌, ◌⊎◌, ◌↔◌, ◌≤◌, ◌++◌, [], IsTrue, OnErr, OnOk, length, take};
 ghost use Rattle.oa_image.specs.Events.{event_image};
 ghost use Rattle.oa_journal.specs.Append.{group_of};
@@ -7,10 +7,10 @@ use oa_image::{SizedEvent, write_event};
 use std::alloc::{AllocError, Global};
 use std::marker::Model;
 
-/// The bytes of the events of a group, one behind the other. A new one has no memory.
+/// The bytes of the events of a group, one after the other. A new batch has no memory.
 #[derive(Drop)]
 pub struct Batch {
-    /// Nothing, or four free bytes, the events, and one free byte.
+    /// Empty, or four free bytes, the events, and one free byte.
     pub(crate) bytes: Vec<u8>,
 }
 
@@ -26,7 +26,7 @@ impl Model for Batch {
 }
 
 impl Batch {
-    /// A batch without events.
+    /// Makes a batch without events.
     pub fn new(alloc: Global) -> Batch
         ensures { result ≡ [] }
     {
@@ -35,21 +35,21 @@ impl Batch {
         }
     }
 
-    /// Whether it has no event.
+    /// Returns whether it has no event.
     pub fn is_empty(&self) -> bool
         ensures { IsTrue result ↔ (length self.now ≡ 0) }
     {
         self.bytes.len() <= 5
     }
 
-    /// How many bytes its events have.
+    /// Returns the length of its events in bytes.
     pub fn len(&self) -> usize
         ensures { result ≡ length self.now }
     {
         self.bytes.len().saturating_sub(5)
     }
 
-    /// Adds an event. Err only where memory is refused; then nothing changes.
+    /// Appends an event. Err: an allocation failed, and nothing changed.
     pub fn add(&mut self, event: &SizedEvent) -> Result<(), AllocError>
         ensures ok { OnOk result (self.new ≡ self.old ++ event_image event.now) }
         ensures err { OnErr result (self.new ≡ self.old) }
@@ -57,7 +57,7 @@ impl Batch {
         add_event(&mut self.bytes, event)
     }
 
-    /// Drops all but the events of so many first bytes. Takes no memory.
+    /// Drops the events after the first `len` bytes. Allocates nothing.
     pub fn cut(&mut self, len: usize)
         requires { len ≤ length self.old }
         ensures { self.new ≡ take len self.old }
@@ -66,8 +66,8 @@ impl Batch {
     }
 }
 
-/// Adds an event over the free byte behind the others, and one behind it, in room that is asked for once: where it is refused, no byte
-/// changes.
+/// Appends an event over the free byte after the others, and a free byte after it, with one allocation. If that
+/// fails, no byte changes.
 fn add_event(bytes: &mut Vec<u8>, event: &SizedEvent) -> Result<(), AllocError>
     requires { (length bytes.old.items ≡ 0) ⊎ (5 ≤ length bytes.old.items) }
     ensures ok { OnOk result (group_of bytes.new.items ≡ group_of bytes.old.items ++ event_image event.now) }

@@ -1,4 +1,4 @@
-//! What a store keeps of a table in memory: the events of its changes go out under one gate.
+//! Committing the events of a batch to a store.
 ghost use Rattle.std.specs.Prelude.{◌≡◌, ◌⊎◌, ◌+◌, ◌*◌, ◌≤◌, IsTrue, [], length, vec_capacity};
 ghost use Rattle.oa_journal.specs.Append.{group_of};
 ghost use Rattle.oa_journal.specs.Shapes.{ample_bytes, body_bytes};
@@ -12,8 +12,8 @@ use oa_disk::Disk;
 use oa_store::Store;
 use oa_table::Table;
 
-/// Makes room for the events of a group before the first of them: a checkpoint of the table, where one is due. Where the batch
-/// has events nothing is done. The images hold the same table at every moment. Takes no memory.
+/// Checkpoints the store if one is due and the batch is empty, so that the next group fits; otherwise does nothing.
+/// Images are stores of the same table at every point in time. Allocates nothing.
 pub fn make_room<D: Disk>(
     store: &mut Store<D>,
     table: &Table,
@@ -22,12 +22,12 @@ pub fn make_room<D: Disk>(
     requires open { IsOpenFor batch.now store.old }
     requires kept { CanBeKept (body_bytes store.old.bank.shape) table.now }
 
-    // Whatever table the images hold, which is the one in memory while the batch has no event.
+    // (whichever table the images are stores of: it is the one in memory while the batch has no event)
     ensures carries { Carries batch.now (unlocked_table table.now) store.old store.new }
     ensures room { MakesRoom batch.now store.old store.new result }
     ensures stops { StopsWhereRefused store.old store.new result }
     ensures goes { Goes store.old store.new }
-    // One checkpoint at most.
+    // (at most one checkpoint)
     ensures calls { IsTrue (D.is_honest store.old.disk)
         → D.moment store.new.disk ≤ D.moment store.old.disk + 2 * checkpoint_calls store.old.library.items table.now }
 {
@@ -40,8 +40,8 @@ pub fn make_room<D: Disk>(
     store.checkpoint(table).map_err(|_| DeviceFailed)
 }
 
-/// Ends a group: its events go out under one gate, with two writes and two syncs. A group without events makes no call of the device.
-/// Afterwards the batch has none, and keeps its memory. Takes none.
+/// Commits the batch as one group, with two writes and two syncs, and empties it; an empty batch makes no call of the
+/// device. The batch keeps its memory. Allocates nothing. Err: a call failed.
 pub fn commit<D: Disk>(store: &mut Store<D>, batch: &mut Batch) -> Result<(), DeviceFailed>
     requires open { IsOpenFor batch.old store.old }
     requires few { length batch.old + 6 ≤ ample_bytes }
@@ -55,7 +55,7 @@ pub fn commit<D: Disk>(store: &mut Store<D>, batch: &mut Batch) -> Result<(), De
     commit_bytes(store, &mut batch.bytes)
 }
 
-/// The same of a batch's bytes.
+/// Commits the events in `bytes` as one group, and empties it; an empty batch makes no call.
 fn commit_bytes<D: Disk>(store: &mut Store<D>, bytes: &mut Vec<u8>) -> Result<(), DeviceFailed>
     requires open { IsOpenFor (group_of bytes.old.items) store.old }
     requires len { (length bytes.old.items ≡ 0) ⊎ (5 ≤ length bytes.old.items) }
@@ -63,7 +63,7 @@ fn commit_bytes<D: Disk>(store: &mut Store<D>, bytes: &mut Vec<u8>) -> Result<()
     ensures commits { Commits (group_of bytes.old.items) store.old store.new }
     ensures calls { CallsForGroup (group_of bytes.old.items) store.old store.new result }
     ensures emptied { bytes.new.items ≡ [] }
-    // The batch keeps its room.
+    // (the batch keeps its capacity)
     ensures places { vec_capacity bytes.new ≡ vec_capacity bytes.old }
     ensures stops { StopsWhereRefused store.old store.new result }
     ensures goes { Goes store.old store.new }

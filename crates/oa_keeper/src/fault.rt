@@ -1,4 +1,4 @@
-//! Why a group was not committed, or no room made for one.
+//! Why a group was not committed, or a checkpoint not made for it.
 use thiserror::Error;
 
 /// A call of the device failed, and the store has stopped.

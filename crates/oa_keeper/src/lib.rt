@@ -1,10 +1,9 @@
-//! A table in memory that a store keeps: the events of its changes are held in a batch, and go out group by group,
-//! each under one gate.
+//! A table in memory over a store: the events of its changes are held in a batch, and committed group by group.
 //!
-//! Its contract: `commit` leaves at each moment images of the table before or of the one that the events of
-//! the batch make, and at `Ok` the latter.
+//! Contract: a crash during `commit` leaves a store of the old table or of the one that the events of the batch make,
+//! and after `Ok` of the latter.
 //!
-//! What stands on it: oa_groups and oa_server.
+//! Used by oa_groups and oa_server.
 #![tactic(auto)]
 
 mod batch;

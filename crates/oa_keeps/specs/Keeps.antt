@@ -1,4 +1,5 @@
--- Which libraries keep another, so that each table of objects of the old one is one of the new (this project's choice).
+-- Backward compatibility: which libraries may replace another, so that each table that fits the old one fits the new
+-- one (this project's choice).
 use Rattle.std.specs.Prelude.{◌≡◌, ℕ, ℤ, Bool, true, false, not, ◌&&◌, ◌||◌, if◌then◌else◌, List, slice_get, Option}
 use Rattle.std.specs.Prelude.{Some, None, is_some}
 use Rattle.std.specs.Cmp.Lexicographic.{pointwise}
@@ -24,8 +25,8 @@ use Rattle.oa_keeps.specs.declared.lost.Lost.TheVariants as losses
 
 -- ---- what it is to keep one, said without a search
 
--- One declaration stands for another: it has the same name, A to Z folded, DISPID, kind (which says whether it is
--- readonly), type and parameters, a put's new value among them, each with the same name, type, flags and default.
+-- One declaration preserves another: it has the same name, A to Z folded, DISPID, kind (which includes whether it is
+-- readonly), type and parameters, including a put's new value, each with the same name, type, flags and default.
 pub record IsKeptBy (was now : DeclarationValue) : Type 0 where
   pub name : same_name was.name now.name ≡ true
   pub id : now.id ≡ was.id
@@ -58,7 +59,7 @@ pub record IsOf (items : List Item) (class : CoclassValue) (i : InterfaceValue) 
 abbrev pub default_guid : List Item → CoclassValue → Option (List ℕ)
 default_guid items class = option_map (λ (i : InterfaceValue). i.guid) (default_interface items class)
 
--- an interface with a GUID
+-- an interface with a GUID and a property
 pub record HasGuid (P : InterfaceValue → Type 0) (guid : List ℕ) : Type 0 where
   pub interface : InterfaceValue
   pub is : P interface
@@ -78,7 +79,7 @@ pub record KeepsLibrary (new old : TreeValue) : Type 0 where
   pub classes : (c : CoclassValue) → Has (classes_of old.items) c → KeepsClass new.items old.items c
 
 -- ---- the first thing that is lost: the old interfaces in the text's order, each with its members as a description has
--- them, so in the order in which their names first stand, a get before its put; then the old coclasses
+-- them, so in the order in which their names first occur, a get before its put; then the old coclasses
 
 abbrev pub same_declaration_kind : DeclarationKind → DeclarationKind → Bool
 same_declaration_kind kinds.Property kinds.Property = true
@@ -94,11 +95,11 @@ is_kept_by was now =
     && same_result was.value_type now.value_type
     && pointwise same_parameter was.parameters now.parameters
 
--- its DISPID, unless it is kept
+-- its DISPID, unless it is preserved
 abbrev pub lost_declaration : InterfaceValue → DeclarationValue → Option ℤ
 lost_declaration now was = if list_any (is_kept_by was) (declarations now) then None else Some was.id
 
--- of the declaration at a place, where it is a put, or where it is not
+-- of the declaration at a place, if it is a put, or if it is not
 abbrev pub lost_form : InterfaceValue → InterfaceValue → Bool → ℕ → Option ℤ
 lost_form now was puts place =
     option_and_then (lost_declaration now)
@@ -115,7 +116,7 @@ lost_of_interface (Some now) was = option_map (losses.Member was.guid) (lost_mem
 abbrev pub lost_interface : TreeValue → InterfaceValue → Option Lost
 lost_interface new was = lost_of_interface (interface_of new was.guid) was
 
--- the interface with a GUID, where the coclass has it
+-- the interface with a GUID, if the coclass has it
 abbrev pub interface_in : TreeValue → CoclassValue → List ℕ → Option InterfaceValue
 interface_in tree class guid = option_and_then (if_entered class) (interface_of tree guid)
 
@@ -147,7 +148,7 @@ guid_lost (losses.Interface guid) = guid
 guid_lost (losses.Member guid id) = guid
 guid_lost (losses.Coclass guid) = guid
 
--- DISPID_UNKNOWN for an interface or a coclass as a whole
+-- DISPID_UNKNOWN for a whole interface or coclass
 abbrev pub dispid_lost : Lost → ℤ
 dispid_lost (losses.Interface guid) = unknown_dispid
 dispid_lost (losses.Member guid id) = id

@@ -1,4 +1,4 @@
--- What reading the text of a library answers.
+-- The result of reading the text of a library.
 use Rattle.std.specs.Prelude.{◌≡◌, ℕ, List, None, Result, Ok, Err}
 use Rattle.std.specs.Str.{IsUtf8}
 use Rattle.oa_idl.specs.IsTree.{MayBeText}
@@ -13,21 +13,21 @@ use Rattle.oa_checks.specs.declared.fault.CheckError.TheVariants as checks
 use Rattle.oa_keeps.specs.declared.library_text.TextError.{TextError}
 use Rattle.oa_keeps.specs.declared.library_text.TextError.TheVariants.{NoLibrary, Memory}
 
--- bytes are a text, and it stands for the library
+-- bytes are the text of the library
 abbrev pub StandsFor : List ℕ → TreeValue → Type 0
 StandsFor bytes library = IsUtf8 bytes × IsLibrary bytes library
 
--- bytes are a text, and not too long for one of a library: only such are read, which takes memory
+-- bytes are a text that is not too long for a library: only such are read, which allocates
 abbrev pub MayBeLibrary : List ℕ → Type 0
 MayBeLibrary bytes = IsUtf8 bytes × MayBeText bytes
 
--- want of memory says no more than that there is a text to be read
+-- out of memory implies only that there is a text to be read
 abbrev pub IsTextOf : List ℕ → Result TreeValue TextError → Type 0
 IsTextOf bytes (Ok library) = StandsFor bytes library
 IsTextOf bytes (Err NoLibrary) = (library : TreeValue) → StandsFor bytes library → ⊥
 IsTextOf bytes (Err Memory) = MayBeLibrary bytes
 
--- the same of the tree of a text
+-- the same for the tree of a text
 abbrev pub IsMade : TreeValue → Result TreeValue TextError → Type 0
 IsMade tree (Ok library) = (first_breach tree ≡ None) × (library ≡ marked tree)
 IsMade tree (Err NoLibrary) = first_breach tree ≡ None → ⊥

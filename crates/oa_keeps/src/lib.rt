@@ -1,9 +1,9 @@
-//! Which libraries can stand in the place of another, and the library of a text.
+//! Backward compatibility of libraries, and the library of a text.
 //!
-//! Its contract: `keeps` answers None exactly where a new library keeps what an old one has (`KeepsLibrary`), and else
-//! the first thing that is lost; `read_library` makes the library of bytes (`LibraryTexts`).
+//! Contract: `keeps` returns None exactly if a new library is compatible with an old one (`KeepsLibrary`), and
+//! otherwise the first incompatibility; `read_library` returns the library of bytes (`LibraryTexts`).
 //!
-//! What stands on it: oa_turn, for REPLACE LIBRARY, and the laws of oa_fits and oa_server.
+//! Used by oa_turn for REPLACE LIBRARY, and by the theorems of oa_fits and oa_server.
 #![tactic(auto)]
 
 pub mod laws;

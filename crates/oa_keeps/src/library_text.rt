@@ -11,13 +11,13 @@ use std::alloc::Global;
 use std::str;
 use thiserror::Error;
 
-/// Why bytes give no library.
+/// Why bytes are no library.
 #[derive(Clone, Copy, Debug, PartialEq, Eq, Error)]
 pub enum TextError {
-    /// They are no UTF-8, or the text is that of no library.
+    /// They are not UTF-8, or the text has no library.
     #[error("no library")]
     NoLibrary,
-    /// Memory was refused.
+    /// An allocation failed.
     #[error("out of memory")]
     Memory,
 }
@@ -51,7 +51,7 @@ impl From<CheckError> for TextError {
     }
 }
 
-/// The library of a tree.
+/// Returns the library of a tree.
 fn made(alloc: Global, tree: Tree) -> Result<Library, TextError>
     requires { IsOfText tree }
     ensures { IsMade tree result }
@@ -59,9 +59,9 @@ fn made(alloc: Global, tree: Tree) -> Result<Library, TextError>
     Ok(check(alloc, tree)?)
 }
 
-/// The library of a text in UTF-8. `NoLibrary` where there is none: the bytes are no UTF-8, the text breaks the grammar or a limit, or `check`
-/// refuses its tree. `Memory` where memory was refused, which may come in place of any answer but of one to bytes that are no UTF-8 or more
-/// than a library text has: these take none.
+/// Returns the library of a text in UTF-8. Errors: `NoLibrary` if the bytes are not UTF-8, the text violates the
+/// grammar or a limit, or `check` refuses its tree; `Memory` if an allocation fails, which cannot happen for bytes
+/// that are not UTF-8 or are more than a library's text may have.
 pub fn read_library(alloc: Global, bytes: &[u8]) -> Result<Library, TextError>
     ensures { IsTextOf bytes.now result }
 {

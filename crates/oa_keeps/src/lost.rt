@@ -1,4 +1,4 @@
-//! What is lost where a library stands in the place of another.
+//! What is lost if a library replaces another.
 ghost use Rattle.std.specs.Prelude.{◌≡◌, ◌↔◌, true, Some, None, slice_get};
 ghost use Rattle.std.specs.List.{filter_map, list_any};
 ghost use Rattle.std.specs.Option.{option_and_then, option_map, option_map_or};
@@ -16,19 +16,19 @@ use oa_idl::Coclass;
 use oa_typelib::{Dispinterface, Library, form_at};
 use uuid::Uuid;
 
-/// The first thing of an old library that a new one does not keep.
+/// An incompatibility: the first thing of an old library that a new one does not have.
 #[derive(Clone, Copy, Debug, PartialEq, Eq)]
 pub enum Lost {
-    /// The interface with the GUID, as a whole.
+    /// The whole interface with the GUID.
     Interface(Uuid),
-    /// Of the interface with the GUID the member with the DISPID.
+    /// The member with the DISPID, of the interface with the GUID.
     Member(Uuid, i32),
-    /// The coclass with the GUID, as a whole.
+    /// The whole coclass with the GUID.
     Coclass(Uuid),
 }
 
 impl Lost {
-    /// The GUID of the interface or of the coclass.
+    /// Returns the GUID of the interface or of the coclass.
     pub fn guid(&self) -> Uuid
         ensures { result ≡ guid_lost self.now }
     {
@@ -37,7 +37,7 @@ impl Lost {
         }
     }
 
-    /// The DISPID of the member, -1 (DISPID_UNKNOWN) for an interface or a coclass as a whole. No member has that one.
+    /// Returns the DISPID of the member; -1 (DISPID_UNKNOWN), which no member has, for a whole interface or coclass.
     pub fn dispid(&self) -> i32
         ensures { result ≡ dispid_lost self.now }
     {
@@ -48,7 +48,7 @@ impl Lost {
     }
 }
 
-/// Whether a declaration stands for another one.
+/// Returns whether a declaration preserves another one.
 #[tactic(auto, unfolding(crate::specs::Keeps::is_kept_by))]
 fn is_kept_by(was: &Declaration<'_>, now: &Declaration<'_>) -> bool
     ensures { result ≡ is_kept_by was.now now.now }
@@ -60,7 +60,7 @@ fn is_kept_by(was: &Declaration<'_>, now: &Declaration<'_>) -> bool
         && same_parameters(was.parameters, now.parameters)
 }
 
-/// Whether one of the declarations at some places stands for a declaration.
+/// Returns whether one of the declarations at some places preserves a declaration.
 fn any_keeps(now: &Dispinterface<'_>, places: &[usize], was: &Declaration<'_>) -> bool
     ensures { result ≡ list_any (is_kept_by was.now) (filter_map (slice_get (declarations now.now)) places.now) }
 {
@@ -73,7 +73,7 @@ fn any_keeps(now: &Dispinterface<'_>, places: &[usize], was: &Declaration<'_>) -
     }
 }
 
-/// The DISPID of a declaration that is not kept.
+/// Returns the DISPID of a declaration that is not preserved.
 fn lost_declaration(now: &Dispinterface<'_>, was: &Declaration<'_>) -> Option<i32>
     ensures { result ≡ lost_declaration now.now was.now }
 {
@@ -84,7 +84,7 @@ fn lost_declaration(now: &Dispinterface<'_>, was: &Declaration<'_>) -> Option<i3
     }
 }
 
-/// The DISPID of the declaration at a place, where it is a put, or where it is not, and is not kept.
+/// Returns the DISPID of the declaration at a place, if it has the form (a put or not) and is not preserved.
 fn lost_form(
     now: &Dispinterface<'_>,
     was: &Dispinterface<'_>,
@@ -97,7 +97,7 @@ fn lost_form(
     lost_declaration(now, &form.declaration)
 }
 
-/// The first that is lost of the declarations at some places that are puts, or that are not.
+/// Returns the first lost declaration of a form (a put or not) among those at some places.
 fn lost_at(
     now: &Dispinterface<'_>,
     was: &Dispinterface<'_>,
@@ -115,7 +115,7 @@ fn lost_at(
     None
 }
 
-/// The first that is lost of the declarations of a member, a get before its put.
+/// Returns the first lost declaration of a member, a get before its put.
 fn lost_of_member(now: &Dispinterface<'_>, was: &Dispinterface<'_>, places: &[usize]) -> Option<i32>
     ensures { result ≡ first_answer (lost_declaration now.now) (put_last (filter_map (slice_get (declarations was.now)) places.now)) }
 {
@@ -152,7 +152,7 @@ fn lost_interface(new: &Library, was: &Dispinterface<'_>) -> Option<Lost>
     }
 }
 
-/// The first that is lost of an interface, where there is one.
+/// Returns the first incompatibility of an interface, if there is one.
 fn lost_of(new: &Library, was: Option<Dispinterface<'_>>) -> Option<Lost>
     ensures { result ≡ option_and_then (lost_interface new.now) was.entry }
 {
@@ -178,7 +178,7 @@ fn guid_of(interface: Option<Dispinterface<'_>>) -> Option<Uuid>
     Some(interface?.interface().guid)
 }
 
-/// Whether a coclass has an interface with the GUID of the one at a place, where the old coclass has that.
+/// Returns whether a coclass has an interface with the GUID of the one at a place, if the old coclass has that.
 fn keeps_entry(
     new: &Library,
     old: &Library,
@@ -199,7 +199,7 @@ fn keeps_entry(
     }
 }
 
-/// Whether a coclass has an interface with the GUID of each that the old coclass at a place has.
+/// Returns whether a coclass has an interface with the GUID of each interface of the old coclass at a place.
 fn keeps_entries(new: &Library, old: &Library, place: usize, was: &Coclass, now: &Coclass) -> bool
     requires there { slice_get old.now.items place ≡ Some (AClass was.now) }
     requires found { class_of new.now was.now.guid ≡ Some now.now }
@@ -214,7 +214,7 @@ fn keeps_entries(new: &Library, old: &Library, place: usize, was: &Coclass, now:
     true
 }
 
-/// The GUID of the default interface of the coclass at a place.
+/// Returns the GUID of the default interface of the coclass at a place.
 fn default_before(old: &Library, place: usize) -> Option<Uuid>
     ensures { result ≡ option_and_then (default_guid old.now.items) (option_and_then as_class (slice_get old.now.items place)) }
 {
@@ -222,7 +222,7 @@ fn default_before(old: &Library, place: usize) -> Option<Uuid>
     guid_of(old.interface_at(default))
 }
 
-/// Whether the default interface of a coclass has the GUID of that of the old coclass at a place.
+/// Returns whether the default interface of a coclass has the GUID of that of the old coclass at a place.
 fn keeps_default(new: &Library, old: &Library, place: usize, was: &Coclass, now: &Coclass) -> bool
     requires there { slice_get old.now.items place ≡ Some (AClass was.now) }
     requires found { class_of new.now was.now.guid ≡ Some now.now }
@@ -242,7 +242,7 @@ fn keeps_class(new: &Library, old: &Library, place: usize, was: &Coclass) -> boo
     keeps_entries(new, old, place, was, now) && keeps_default(new, old, place, was, now)
 }
 
-/// The coclass at a place, where there is one and it is lost.
+/// Returns the coclass at a place, if there is one and it is lost.
 fn lost_class(new: &Library, old: &Library, place: usize) -> Option<Lost>
     ensures { result ≡ option_and_then (lost_class new.now old.now) (option_and_then as_class (slice_get old.now.items place)) }
 {
@@ -267,11 +267,12 @@ fn first_class(new: &Library, old: &Library) -> Option<Lost>
     None
 }
 
-/// What is lost first where a new library stands in the place of an old one; None where it keeps all. It keeps an interface where it has one
-/// with its GUID that declares all that the old one declares, each with its name (A to Z folded), DISPID, kind, type and parameters, and a
-/// coclass where it has one with its GUID, all of its interfaces and its default one; it may have more. The old interfaces come first, in
-/// the text's order, each with its members in the order in which their names first stand, a get before its put, and then the coclasses.
-/// Takes no memory.
+/// Returns the first incompatibility of a new library with an old one; None if it is backward compatible. For each
+/// old interface, the new library must have one with its GUID that declares everything that the old one declares,
+/// each with its name (A to Z folded), DISPID, kind, type and parameters. For each old coclass, it must have one with
+/// its GUID, all of its interfaces, and its default one. It may have more. The old interfaces are checked first, in
+/// the text's order, each with its members in the order in which their names first occur, a get before its put; then
+/// the coclasses. Allocates nothing.
 pub fn keeps(new: &Library, old: &Library) -> Option<Lost>
     ensures exactly { (result ≡ None) ↔ KeepsLibrary new.now old.now }
     ensures first { result ≡ first_lost new.now old.now }

@@ -36,7 +36,7 @@ cell_of t = of_type t
 unfoldable pub bounds_of : VarType → Format (List Bound)
 bounds_of t = only (is_shape t) (counted u16 bound)
 
--- what an array of the type has behind the number of its type: it has no locks, which last for a session
+-- the part of an array's image after the number of its type; it contains no locks, which last only for a session
 unfoldable pub array_of : VarType → Format (ArrayValue Scalar)
 unfolding next_by
 array_of t =

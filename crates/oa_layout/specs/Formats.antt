@@ -1,5 +1,6 @@
--- Formats: which values have an image, the image of each as bytes, and how it is read. A format holds the proof that
--- reading takes exactly the images, so whoever describes a format by the words below has its reader's laws.
+-- Formats: which values have an image, the image of each as bytes, and how it is read. A format contains the proof
+-- that reading accepts exactly the images, so whoever describes a format by the combinators below has the theorems of
+-- its reader, too.
 use Rattle.std.specs.Prelude.{⊤}
 use Rattle.std.proofs.Common.{◌≡◌, ℕ, zero, suc, ◌+◌, ◌<◌, ◌≤◌, Bool, true, false, cond, ltb, List, [], ◌∷◌, ◌++◌}
 use Rattle.std.proofs.Common.{length, take, drop, Option, Some, None, refl, sym, ap, subst, ◌∙◌, append_assoc, arith}
@@ -19,10 +20,10 @@ pub record Format (C : Type 0) : Type 1 where
   pub image : C → List ℕ
   -- reading it
   pub read : Cursor → Option (C × Cursor)
-  -- what is read is such a value, and the bytes that were passed are its image
+  -- a value that was read has an image, which is the bytes that were read
   pub takes : (s : Cursor) (c : C) (t : Cursor) → AllByRecursion (λ b. b < 256) s.rest → read s ≡ Some (c, t)
       → Is c × (s.rest ≡ image c ++ t.rest) × AllByRecursion (λ b. b < 256) t.rest
-  -- an image is read as the value whose it is, at any place and whatever follows
+  -- an image is read as its value, at any place and whatever follows
   pub again : (c : C) (place : ℕ) (rest : List ℕ) → Is c
       → (end : ℕ) × (read (at place (image c ++ rest)) ≡ Some (c, at end rest))
 
@@ -93,7 +94,7 @@ never = record {
   again = λ c place rest h. absurd h;
 }
 
--- ---- one value behind another
+-- ---- one value after another
 
 -- what follows may depend on the first value
 unfoldable pub next_by : {A B : Type 0} → Format A → (A → Format B) → Format (A × B)
@@ -149,14 +150,14 @@ made_where {A} {C} P make back F there here = record {
       (one.0, rw (one.1, whole.1) refl);
 }
 
--- as many values as the other format has
+-- one value for each value of the other format
 abbrev pub made : {A C : Type 0} (make : A → C) (back : C → A) (F : Format A) → ((a : A) → back (make a) ≡ a)
     → ((c : C) → make (back c) ≡ c) → Format C
 made make back F there here =
     made_where (λ c. F.Is (back c)) make back F (λ a is ok. (subst F.Is (sym (there a)) is, there a))
     (λ c is. (is, here c))
 
--- what an option has, where it has something
+-- the content of an option, if it has one
 abbrev pub found : {A : Type 0} → Option A → Reading A
 found None s = None
 found (Some x) s = Some (x, s)
@@ -167,7 +168,7 @@ found_there {A} None s c t e = absurd cc
 found_there {A} (Some x) s c t e = let p = same_content (x, s) (c, t) e in
     (ap (λ (y : A × Cursor). some y.0) p, ap (λ (y : A × Cursor). y.1) p)
 
--- values that stand as codes; a code of no value is refused
+-- values that are written as codes; a code of no value is refused
 unfoldable pub coded : {A C : Type 0} (P : C → Type 0) (of : A → Option C) (to : C → A) (F : Format A)
     → ((a : A) (c : C) → F.Is a → of a ≡ Some c → P c × (to c ≡ a))
     → ((c : C) → P c → F.Is (to c) × (of (to c) ≡ Some c)) → Format C
@@ -236,7 +237,7 @@ times {A} F n = record {
   again = λ xs place rest h. times_again F n xs place rest h.0 h.1;
 }
 
--- a number of values, and then the values
+-- a count, and then that many values
 unfoldable pub counted : {A : Type 0} → Format ℕ → Format A → Format (List A)
 unfolding next_by times
 counted {A} N F =
@@ -263,9 +264,9 @@ only {C} test F = coded (λ c. F.Is c × (test c ≡ true)) (passing test) (λ c
     (λ a c is e. let p = passed (test a) a c e in (subst (λ (x : C). F.Is x × (test x ≡ true)) p.1 (is, p.0), sym p.1))
     (λ c h. (h.0, rw h.1 refl))
 
--- ---- values of several kinds: a tag, and what stands behind it
+-- ---- values of several kinds: a tag, and the content after it
 
--- the values with the tag t, which are those that make gives of a content
+-- the values with the tag t, which `make` makes of a content
 unfoldable pub case : {A C T : Type 0} (tag : C → T) (t : T) (make : A → C) (content : C → A) (F : Format A)
     → ((a : A) → F.Is a → tag (make a) ≡ t) → ((a : A) → content (make a) ≡ a)
     → ((c : C) → tag c ≡ t → make (content c) ≡ c) → Format C

@@ -1,5 +1,6 @@
--- How long the images of values are, counted: who reads what a limit says reads this, and no format. What counts the
--- bytes of a value in memory tells both this and the length of its image. (This project's choice.)
+-- The lengths of the images of values, by counting: a reader of a limit needs these definitions, and no format.
+-- Whatever counts the bytes of a value in memory returns these numbers and the length of its image. (This project's
+-- choice.)
 use Rattle.std.specs.Prelude.{ℕ, ◌+◌, ◌*◌, length}
 use Rattle.std.specs.List.{sum_by}
 use Rattle.oa_model.specs.Limits.{max_cells, max_dimensions, max_text_bytes}
@@ -11,8 +12,7 @@ use Rattle.oa_variant.specs.declared.scalar.Scalar.{Scalar}
 use Rattle.oa_variant.specs.declared.variant.Variant.{Variant}
 use Rattle.oa_variant.specs.declared.variant.Variant.TheVariants.{One, Array}
 
--- what a scalar of a type has behind the number of its type; a text the number of its bytes and these; there is no
--- scalar of VARIANT
+-- the content of a scalar of a type: of a text the number of its bytes, and the bytes; there is no scalar of VARIANT
 unfoldable pub content_size : VarType → Scalar → ℕ
 content_size types.Empty s = 0
 content_size types.Null s = 0
@@ -37,12 +37,12 @@ content_size types.Variant s = 0
 unfoldable pub scalar_size : Scalar → ℕ
 scalar_size s = 2 + content_size (type_of s) s
 
--- an element of an array: without the number of its type, but in an array of VARIANT
+-- an element of an array: without the number of its type, except in an array of VARIANT
 unfoldable pub element_size : VarType → Scalar → ℕ
 element_size types.Variant = scalar_size
 element_size t = content_size t
 
--- a scalar; or the number of the type, how many bounds there are, each with a count and a lowest index, and the
+-- a scalar; or the number of the type, the number of bounds, each bound with a count and a lowest index, and the
 -- elements
 unfoldable pub value_size : Variant → ℕ
 value_size (One s) = scalar_size s
@@ -50,7 +50,7 @@ value_size (Array a) = 4 + 8 * length a.bounds + sum_by (element_size a.elem) a.
 
 -- ---- at most
 
--- a content: a text behind its length
+-- a content: a text after its length
 abbrev pub max_content_bytes : ℕ
 max_content_bytes = max_text_bytes + 4
 

@@ -83,7 +83,7 @@ text = tagged text_size text_header text_of_size size_agrees
 
 -- ---- DECIMAL: scale, whether the sign is minus, Hi32, Lo64
 
--- the four parts of an image, nested as they stand
+-- the four parts of an image, nested in their order
 abbrev pub DecimalParts : Type 0
 DecimalParts = ℕ × (Bool × (ℕ × ℕ))
 
@@ -132,7 +132,7 @@ pub truth_again : (b : Bool) → truth_in (scalars.Bool b) ≡ b
 truth_again false = refl
 truth_again true = refl
 
--- what a scalar of a type has behind the number of the type; there is none of VARIANT
+-- the part of a scalar's image after the number of the type; there is none for VARIANT
 unfoldable pub of_type : VarType → Format Scalar
 of_type types.Empty =
     case type_of types.Empty (λ u. scalars.Empty) (λ s. tt) nothing (λ u is. refl) (λ u. refl) (is_made types.Empty)

@@ -66,7 +66,7 @@ kind =
     coded (λ k. Unit {0}) kind_at vt_of_value u16 (λ n k is e. (tt, kind_there (leb vt_array n) n k (leb-true _ _) e))
     (λ k is. kind_here k)
 
--- what a value holds; of one of another kind nothing is meant
+-- the scalar in a value; for an array any
 abbrev pub scalar_in : Variant → Scalar
 scalar_in (variants.One s) = s
 scalar_in v = scalars.Empty

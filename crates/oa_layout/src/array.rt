@@ -60,7 +60,7 @@ fn read_cell(alloc: Global, elem: VarType, r: &mut Ndr<'_>) -> Result<Scalar, Re
     }
 }
 
-/// Cells to be filled.
+/// Allocates `count` cells to be filled.
 fn blank(alloc: Global, count: usize) -> Result<Cells<Scalar>, AllocError>
     ensures { IfOk result (λ cells. length cells ≡ count) }
 {
@@ -90,7 +90,7 @@ fn read_cells(
     Ok(cells)
 }
 
-/// The bounds, and how many cells they make.
+/// Reads the bounds of an array. Returns them and the number of cells.
 #[tactic(auto, unfolding(crate::specs::Formats::combinators, crate::specs::Arrays::bounds_of), using(crate::specs::Arrays::shape_here, crate::proofs::Loops::shape_not))]
 fn read_bounds(
     alloc: Global,
@@ -108,7 +108,7 @@ fn read_bounds(
     }
 }
 
-/// What stands behind the number of the type.
+/// Reads the part of an array's image that follows the number of the type.
 #[tactic(auto, unfolding(crate::specs::Formats::combinators, crate::specs::Arrays::array_of), using(crate::proofs::Loops::all_fit))]
 pub(crate) fn read_array(
     alloc: Global,
@@ -139,7 +139,7 @@ fn put_cells(elem: VarType, cells: &[Scalar], w: &mut Window, out: &mut [u8])
     }
 }
 
-/// What stands behind the number of the type.
+/// Writes the part of an array's image that follows the number of the type.
 #[tactic(auto, unfolding(crate::specs::Formats::combinators, crate::specs::Arrays::bounds_of, crate::specs::Arrays::array_of), using(crate::specs::Windows::added_added))]
 pub(crate) fn put_array(a: &SafeArray<Scalar>, w: &mut Window, out: &mut [u8])
     ensures { Adds ((arrays.array_of a.now.elem).image a.now) w.old w.new out.old out.new }
@@ -151,7 +151,7 @@ pub(crate) fn put_array(a: &SafeArray<Scalar>, w: &mut Window, out: &mut [u8])
     put_cells(a.elem(), cells, w, out)
 }
 
-/// Adds a cell of an array of the type by itself.
+/// Writes one cell of an array of the type, as it is in the image of the array.
 #[tactic(auto, unfolding(crate::specs::Elements::element_image))]
 pub fn put_element(elem: VarType, s: &Scalar, w: &mut Window, out: &mut [u8])
     ensures { Adds (element_image elem s.now) w.old w.new out.old out.new }
@@ -162,8 +162,9 @@ pub fn put_element(elem: VarType, s: &Scalar, w: &mut Window, out: &mut [u8])
     }
 }
 
-/// Adds what stands before the cells in the image of an array: the number of their type with VT_ARRAY (0x2000) as u16, how many bounds
-/// there are as u16, and each bound in 8 bytes: its count as u32 and its lowest index as i32. Takes no memory.
+/// Writes the part of an array's image before its cells: the number of their type with VT_ARRAY (0x2000) as u16, the
+/// number of bounds as u16, and each bound in 8 bytes: its count as u32 and its lowest index as i32. Allocates
+/// nothing.
 #[tactic(auto, unfolding(crate::specs::Formats::combinators, crate::specs::Arrays::bounds_of, crate::specs::Variants::kind, crate::specs::Elements::array_head), using(crate::specs::Windows::added_added))]
 pub fn put_array_head(a: &SafeArray<Scalar>, w: &mut Window, out: &mut [u8])
     ensures { Adds (array_head a.now) w.old w.new out.old out.new }
@@ -176,7 +177,7 @@ pub fn put_array_head(a: &SafeArray<Scalar>, w: &mut Window, out: &mut [u8])
     put_each::<BoundFormat>(bounds, w, out)
 }
 
-/// How many bytes an element has in the image of an array of a type.
+/// Returns the length in bytes of an element in the image of an array of the type.
 #[tactic(auto, unfolding(crate::specs::Lengths::element_size))]
 pub fn element_len(elem: VarType, s: &Scalar) -> usize
     ensures value { result ≡ element_size elem s.now }
@@ -188,7 +189,7 @@ pub fn element_len(elem: VarType, s: &Scalar) -> usize
     }
 }
 
-/// How many bytes elements have in the image of an array of a type, one behind the other.
+/// Returns the length in bytes of elements in the image of an array of the type.
 pub fn elements_len(elem: VarType, elements: &[Scalar]) -> usize
     requires { length elements.now ≤ max_cells }
     ensures value { result ≡ sum_by (element_size elem) elements.now }
@@ -201,7 +202,8 @@ pub fn elements_len(elem: VarType, elements: &[Scalar]) -> usize
     len
 }
 
-/// The number of the type, how many bounds there are, these, and the elements.
+/// Returns the length in bytes of an array's image: the number of the type, the number of bounds, the bounds, and the
+/// elements.
 #[tactic(auto, unfolding(crate::specs::Lengths::value_size))]
 pub(crate) fn array_image_len(a: &SafeArray<Scalar>) -> usize
     ensures value { result ≡ value_size (variants.Array a.now) }

@@ -7,24 +7,25 @@ use oa_ndr::Short;
 use std::alloc::{AllocError, AllocFailed};
 use thiserror::Error;
 
-/// Why a part of an image was not read.
+/// Why a part of an image could not be read.
 #[derive(Clone, Copy, Debug, PartialEq, Eq, Error)]
 pub enum ReadFault {
     /// The bytes are the image of no value.
     #[error("no image")]
     Broken,
-    /// The allocator had no block for the value.
+    /// An allocation failed.
     #[error("out of memory")]
     Memory,
 }
 
-/// Why a whole image was not read.
+/// Why a whole image could not be read.
 #[derive(Clone, Copy, Debug, PartialEq, Eq, Error)]
 pub enum ImageFault {
-    /// The bytes are the image of no value. Reading came as far as this place, in bytes from the first.
+    /// The bytes are the image of no value. The number is the place, in bytes from the first, up to which they were
+    /// read.
     #[error("damaged at {0}")]
     Damaged(usize),
-    /// The allocator had no block for the value.
+    /// An allocation failed.
     #[error("out of memory")]
     Memory,
 }

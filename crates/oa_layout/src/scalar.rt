@@ -22,16 +22,16 @@ use oa_ndr::Ndr;
 use oa_variant::{Decimal, Scalar};
 use std::alloc::Global;
 
-/// What stands in place of the number of bytes of the null text.
+/// The number of bytes as it is written for the null text.
 const NULL_TEXT: u32 = 0xFFFF_FFFF;
 
 /// The greatest scale of a DECIMAL.
 const MAX_SCALE: u8 = 28;
 
-/// How far the high bits of a magnitude stand above the low ones: 2^64.
+/// The factor of a magnitude's high bits: 2^64.
 const ABOVE_LOW: u128 = 0x1_0000_0000_0000_0000;
 
-/// How many bytes a text has; None for null.
+/// Reads how many bytes a text has; None for the null text.
 #[tactic(auto, unfolding(oa_ndr::specs::Reading::bind, crate::specs::Formats::coded, crate::specs::Values::text_header))]
 fn read_text_header(r: &mut Ndr<'_>) -> Result<Option<u32>, ReadFault>
     ensures { ReadsImage result r.new (values.text_header.read r.old) }
@@ -81,7 +81,7 @@ fn read_vt(r: &mut Ndr<'_>) -> Result<VarType, ReadFault>
     VarType::from_vt(read_u16(r)?).ok_or(ReadFault::Broken)
 }
 
-/// What stands behind the number of the type.
+/// Reads the part of a scalar's image that follows the number of the type.
 #[tactic(auto, unfolding(crate::specs::Formats::combinators, crate::specs::Values::of_type))]
 pub(crate) fn read_content(
     alloc: Global,
@@ -135,7 +135,7 @@ fn put_decimal(d: &Decimal, w: &mut Window, out: &mut [u8])
     put_u64((magnitude % ABOVE_LOW) as u64, w, out)
 }
 
-/// What stands behind the number of the type.
+/// Writes the part of a scalar's image that follows the number of the type.
 #[tactic(auto, unfolding(crate::specs::Formats::combinators, crate::specs::Values::of_type), using(crate::proofs::Adding::added_none))]
 pub(crate) fn put_content(s: &Scalar, w: &mut Window, out: &mut [u8])
     ensures { Adds ((values.of_type (type_of s.now)).image s.now) w.old w.new out.old out.new }
@@ -184,7 +184,7 @@ impl PutImage for ScalarFormat {
     }
 }
 
-/// The text inside, behind the number of its bytes.
+/// Returns the length of a text's content: the number of its bytes, and the bytes.
 fn text_len(s: &Scalar) -> usize
     ensures value { result ≡ 4 + length (bytes_of (text_of s.now)) }
     ensures small { result ≤ max_content_bytes }
@@ -195,7 +195,7 @@ fn text_len(s: &Scalar) -> usize
     }
 }
 
-/// What a scalar of a type has behind the number of its type.
+/// Returns the length of a scalar's image after the number of its type.
 #[inline(always)]
 #[tactic(auto, unfolding(crate::specs::Lengths::content_size))]
 pub(crate) fn content_len(elem: VarType, s: &Scalar) -> usize
@@ -213,7 +213,7 @@ pub(crate) fn content_len(elem: VarType, s: &Scalar) -> usize
     }
 }
 
-/// How many bytes the image of a scalar has: at most six more than a text.
+/// Returns the length in bytes of a scalar's image: for a text at most six more than the text has.
 #[inline(always)]
 #[tactic(auto, unfolding(crate::specs::Lengths::scalar_size), using(crate::proofs::Lengths::scalar_sized))]
 pub fn scalar_image_len(s: &Scalar) -> usize

@@ -1,4 +1,4 @@
--- The codes of replies as a clause names them (MS-ERREF section 2.1).
+-- The codes of replies, for use in contracts (MS-ERREF section 2.1).
 use Rattle.oa_model.specs.declared.hresult.HResult.{HResult}
 
 abbrev pub s_ok : HResult

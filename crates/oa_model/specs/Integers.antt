@@ -1,11 +1,11 @@
--- The integer types, as data, and the numbers of each: the numbers of its values, which for CY are counts of
--- ten-thousandths (MS-OAUT sections 2.2.7 and 2.2.24).
+-- The integer types and the ranges of their values; those of CY are counts of ten-thousandths (MS-OAUT sections 2.2.7
+-- and 2.2.24).
 use Rattle.std.specs.Prelude.{ℕ, ℤ, ◌^◌, ◌&&◌, nat_lt, pos, negsuc, Bool, true, false}
 use Rattle.oa_model.specs.Types.{is_signed_type}
 use Rattle.oa_model.specs.declared.var_type.VarType.{VarType}
 use Rattle.oa_model.specs.declared.var_type.VarType.TheVariants as types
 
--- whether the values of a type are whole numbers
+-- The values of the type are whole numbers.
 abbrev pub is_integer_type : VarType → Bool
 is_integer_type types.I1 = true
 is_integer_type types.I2 = true
@@ -19,12 +19,12 @@ is_integer_type types.Ui8 = true
 is_integer_type types.Uint = true
 is_integer_type t = false
 
--- whether they are whole numbers of either sign: CY has numbers of either sign too, but they are no whole ones
+-- The values of the type are whole numbers of either sign. CY is signed too, but its values are no whole numbers.
 abbrev pub is_signed_integer : VarType → Bool
 is_signed_integer t = is_integer_type t && is_signed_type t
 
--- the numbers of an integer type, and of CY, are below 2^bits, and begin at -2^bits where the type is signed and else
--- at 0
+-- The numbers of an integer type, and of CY, are below 2^bits. The lowest is -2^bits if the type is signed, otherwise
+-- 0.
 abbrev pub bits_of : VarType → ℕ
 bits_of types.I1 = 7
 bits_of types.I2 = 15
@@ -39,6 +39,7 @@ bits_of types.Uint = 32
 bits_of types.Cy = 63
 bits_of t = 0
 
+-- The number is in the range of the type.
 abbrev pub in_range : VarType → ℤ → Bool
 in_range t (pos n) = nat_lt n (2 ^ bits_of t)
 in_range t (negsuc n) = is_signed_type t && nat_lt n (2 ^ bits_of t)

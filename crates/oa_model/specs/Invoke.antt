@@ -1,4 +1,4 @@
--- The numbers of Invoke and of type information as clauses and proofs name them: those of MS-OAUT.
+-- Constants of IDispatch::Invoke and of type information, for use in contracts, as MS-OAUT defines them.
 use Rattle.std.specs.Prelude.{ℕ, ℤ, negsuc}
 
 -- ---- flags of a call (MS-OAUT section 3.1.4.4)
@@ -17,7 +17,7 @@ put_flag = 4
 
 -- ---- reserved DISPIDs (MS-OAUT section 2.2.32.1)
 
--- DISPID_UNKNOWN, -1: of a name that is not known
+-- DISPID_UNKNOWN, -1: the DISPID of an unknown name.
 abbrev pub unknown_dispid : ℤ
 unknown_dispid = negsuc 0
 
@@ -63,16 +63,16 @@ optional_flag = 16
 abbrev pub has_default_flag : ℕ
 has_default_flag = 32
 
--- IMPLTYPEFLAG_FDEFAULT: the default interface of a coclass
+-- IMPLTYPEFLAG_FDEFAULT: marks the default interface of a coclass.
 abbrev pub default_flag : ℕ
 default_flag = 1
 
 -- ---- numbers of types (MS-OAUT section 2.2.7) that no value has
 
--- VT_ARRAY, which is added to the number of the cells' type
+-- VT_ARRAY, which is added to the number of the elements' type.
 abbrev pub vt_array : ℕ
 vt_array = 8192
 
--- VT_VOID: the type of a method without a value
+-- VT_VOID: the type of a method without a result.
 abbrev pub vt_void : ℕ
 vt_void = 24

@@ -1,4 +1,4 @@
--- The types of values, as data: their numbers, and how arrays of them are marked on the wire.
+-- The types of values: their numbers, and how arrays of them are marked on the wire.
 use Rattle.std.specs.Prelude.{ℕ, ◌+◌, ◌==◌, Bool, true, false, if◌then◌else◌, Option, Some, None}
 use Rattle.oa_model.specs.declared.var_type.VarType.{VarType}
 use Rattle.oa_model.specs.declared.var_type.VarType.TheVariants as types
@@ -6,7 +6,7 @@ use Rattle.oa_model.specs.declared.var_type.ValueType.{ValueType}
 use Rattle.oa_model.specs.declared.var_type.ValueType.TheVariants.{One, Array}
 use Rattle.oa_model.specs.Invoke.{vt_array}
 
--- the number of a type (MS-OAUT section 2.2.7)
+-- The number of a type (MS-OAUT section 2.2.7).
 abbrev pub vt_of : VarType → ℕ
 vt_of types.Empty = 0
 vt_of types.Null = 1
@@ -27,7 +27,7 @@ vt_of types.Ui8 = 21
 vt_of types.Int = 22
 vt_of types.Uint = 23
 
--- the type with a number: the other way round
+-- The type with a number, if there is one.
 abbrev pub type_at : ℕ → Option VarType
 type_at n =
     if n == 0 then Some types.Empty
@@ -50,11 +50,12 @@ type_at n =
     else if n == 23 then Some types.Uint
     else None
 
--- an array's number has 0x2000 added (VT_ARRAY)
+-- The number of a type of values: that of an array has 0x2000 added (VT_ARRAY).
 abbrev pub vt_of_value : ValueType → ℕ
 vt_of_value (One t) = vt_of t
 vt_of_value (Array t) = vt_of t + vt_array
 
+-- The values of the type are signed numbers.
 abbrev pub is_signed_type : VarType → Bool
 is_signed_type types.I1 = true
 is_signed_type types.I2 = true
@@ -75,7 +76,8 @@ is_signed_type types.Ui4 = false
 is_signed_type types.Ui8 = false
 is_signed_type types.Uint = false
 
--- the sfType of an array with such cells (MS-OAUT section 2.2.8); this server has no arrays of the types without one
+-- The sfType of an array with elements of this type (MS-OAUT section 2.2.8). This server has no arrays of types without
+-- one.
 abbrev pub sf_type_of : VarType → Option ℕ
 sf_type_of types.I1 = Some 16
 sf_type_of types.Ui1 = Some 16
@@ -96,7 +98,7 @@ sf_type_of types.Null = None
 sf_type_of types.Error = None
 sf_type_of types.Decimal = None
 
--- the bytes of a cell in the memory of the one who wrote the array (cbElements), in a 32-bit process
+-- The number of bytes of an element in the memory of a 32-bit process that wrote the array (cbElements).
 abbrev pub element_size_of : VarType → Option ℕ
 element_size_of types.I1 = Some 1
 element_size_of types.Ui1 = Some 1

@@ -1,8 +1,9 @@
-//! Names without regard to case.
+//! Names compared without regard to case.
 ghost use Rattle.std.specs.Prelude.{◌≡◌};
 ghost use Rattle.oa_model.specs.Folding.{folded};
 
-/// A character of a name with A to Z made small; every other byte stays. Two names are equal where these are.
+/// Returns the character of a name in lower case: A to Z become a to z, every other byte is unchanged. Two names are equal if their folded
+/// characters are.
 pub fn fold(character: u8) -> u8
     ensures { result ≡ folded character }
 {

@@ -1,4 +1,4 @@
-//! The numbers of Invoke and of type information, which are those of MS-OAUT.
+//! Constants of IDispatch::Invoke and of type information, as MS-OAUT defines them.
 
 /// DISPATCH_METHOD, a flag of a call (MS-OAUT section 3.1.4.4).
 pub const METHOD_FLAG: u16 = 1;
@@ -8,9 +8,9 @@ pub const GET_FLAG: u16 = 2;
 pub const PUT_FLAG: u16 = 4;
 /// DISPATCH_PROPERTYPUTREF, a flag of a call.
 pub const PUT_REF_FLAG: u16 = 8;
-/// DISPID_UNKNOWN: of a name that is not known (MS-OAUT section 2.2.32.1).
+/// DISPID_UNKNOWN: the DISPID of an unknown name (MS-OAUT section 2.2.32.1).
 pub const UNKNOWN_DISPID: i32 = -1;
-/// DISPID_PROPERTYPUT: of the argument that is a property's new value (MS-OAUT section 2.2.32.1).
+/// DISPID_PROPERTYPUT: the DISPID that names the new value of a property among the arguments (MS-OAUT section 2.2.32.1).
 pub const PROPERTY_PUT_DISPID: i32 = -3;
 /// INVOKE_FUNC (INVOKEKIND, MS-OAUT section 2.2.14).
 pub const INVOKE_METHOD: u16 = 1;
@@ -30,11 +30,11 @@ pub const IN_FLAG: u16 = 1;
 pub const OPTIONAL_FLAG: u16 = 0x10;
 /// PARAMFLAG_FHASDEFAULT, a flag of a parameter.
 pub const HAS_DEFAULT_FLAG: u16 = 0x20;
-/// IMPLTYPEFLAG_FDEFAULT: the entry of a coclass that is its default interface.
+/// IMPLTYPEFLAG_FDEFAULT: marks the default interface among the entries of a coclass.
 pub const DEFAULT_FLAG: u32 = 1;
-/// VT_ARRAY, which is added to the number of the cells' type (MS-OAUT section 2.2.7).
+/// VT_ARRAY, which is added to the number of the elements' type (MS-OAUT section 2.2.7).
 pub const VT_ARRAY: u16 = 0x2000;
 /// VT_I4: the type of a long (MS-OAUT section 2.2.7).
 pub const VT_I4: u16 = 3;
-/// VT_VOID: the type of a method without a value.
+/// VT_VOID: the type of a method without a result.
 pub const VT_VOID: u16 = 24;

@@ -4,50 +4,50 @@ ghost use Rattle.oa_model.specs.Types.{vt_of, type_at, vt_of_value, sf_type_of, 
 
 use crate::invoke::VT_ARRAY;
 
-/// The type of a scalar value (VARENUM, MS-OAUT section 2.2.7). VARIANT stands for any of them, as the type of an array's cells or as
-/// a declared type, and is the type of no value.
+/// The type of a scalar value (VARENUM, MS-OAUT section 2.2.7). VARIANT is the type of no value: as the type of an array's elements or as a
+/// declared type it allows a scalar of any type.
 #[derive(Clone, Copy, Debug, PartialEq, Eq)]
 pub enum VarType {
-    /// No value, 0.
+    /// 0: no value.
     Empty,
-    /// The null of databases, 1.
+    /// 1: the null of databases.
     Null,
-    /// A signed number of 16 bits, 2.
+    /// 2: a signed number of 16 bits.
     I2,
-    /// A signed number of 32 bits, 3.
+    /// 3: a signed number of 32 bits.
     I4,
-    /// A signed 64-bit count of ten-thousandths, 6.
+    /// 6: a signed 64-bit count of ten-thousandths.
     Cy,
-    /// A text, 8.
+    /// 8: a text.
     Bstr,
-    /// A code of 32 bits, 10.
+    /// 10: a code of 32 bits.
     Error,
-    /// True or false, 11.
+    /// 11: true or false.
     Bool,
-    /// Any scalar, 12.
+    /// 12: a scalar of any type.
     Variant,
-    /// A decimal number of 96 bits with sign and scale, 14.
+    /// 14: a decimal number of 96 bits with sign and scale.
     Decimal,
-    /// A signed number of 8 bits, 16.
+    /// 16: a signed number of 8 bits.
     I1,
-    /// An unsigned number of 8 bits, 17.
+    /// 17: an unsigned number of 8 bits.
     Ui1,
-    /// An unsigned number of 16 bits, 18.
+    /// 18: an unsigned number of 16 bits.
     Ui2,
-    /// An unsigned number of 32 bits, 19.
+    /// 19: an unsigned number of 32 bits.
     Ui4,
-    /// A signed number of 64 bits, 20.
+    /// 20: a signed number of 64 bits.
     I8,
-    /// An unsigned number of 64 bits, 21.
+    /// 21: an unsigned number of 64 bits.
     Ui8,
-    /// A signed number of 32 bits, 22.
+    /// 22: a signed number of 32 bits.
     Int,
-    /// An unsigned number of 32 bits, 23.
+    /// 23: an unsigned number of 32 bits.
     Uint,
 }
 
 impl VarType {
-    /// Its number (MS-OAUT section 2.2.7).
+    /// Returns the number of the type (MS-OAUT section 2.2.7).
     pub const fn vt(self) -> u16
         ensures { result ≡ vt_of self }
     {
@@ -73,7 +73,7 @@ impl VarType {
         }
     }
 
-    /// The type with a number; None where there is none in this server's profile.
+    /// Returns the type with a number. None if this server's profile has no such type.
     pub const fn from_vt(number: u16) -> Option<VarType>
         ensures { result ≡ type_at number }
     {
@@ -100,7 +100,7 @@ impl VarType {
         }
     }
 
-    /// Whether its values are signed numbers: I1, I2, I4, I8, INT and CY.
+    /// Returns whether its values are signed numbers: I1, I2, I4, I8, INT or CY.
     pub const fn is_signed(self) -> bool
         ensures { result ≡ is_signed_type self }
     {
@@ -110,8 +110,8 @@ impl VarType {
         )
     }
 
-    /// The sfType of an array with cells of this type (MS-OAUT section 2.2.8): by the width of its cells, BSTR or VARIANT. None where
-    /// this server has no such array: EMPTY, NULL, ERROR and DECIMAL.
+    /// Returns the sfType of an array with elements of this type (MS-OAUT section 2.2.8), which depends on their width; BSTR and VARIANT
+    /// have their own. None if this server has no such array: EMPTY, NULL, ERROR and DECIMAL.
     pub const fn sf_type(self) -> Option<u32>
         ensures { result ≡ sf_type_of self }
     {
@@ -126,7 +126,7 @@ impl VarType {
         }
     }
 
-    /// The cbElements of an array with cells of this type, in bytes. None where this server has no such array.
+    /// Returns the cbElements of an array with elements of this type, in bytes. None if this server has no such array.
     pub const fn element_size(self) -> Option<u32>
         ensures { result ≡ element_size_of self }
     {
@@ -141,17 +141,17 @@ impl VarType {
     }
 }
 
-/// The type of a value, or the declared type of a property or parameter: a scalar, or an array with cells of a type.
+/// The type of a value, or the declared type of a property or parameter: a scalar type, or that of an array.
 #[derive(Clone, Copy, Debug, PartialEq, Eq)]
 pub enum ValueType {
-    /// A scalar of the type.
+    /// A scalar of this type.
     One(VarType),
-    /// An array with cells of the type.
+    /// An array with elements of this type.
     Array(VarType),
 }
 
 impl ValueType {
-    /// Its number: that of the scalar or of the cells, an array's with 0x2000 added (VT_ARRAY, MS-OAUT section 2.2.7).
+    /// Returns the number of the type: that of the scalar, or that of the elements with 0x2000 added (VT_ARRAY, MS-OAUT section 2.2.7).
     pub const fn vt(self) -> u16
         ensures { result ≡ vt_of_value self }
     {

@@ -1,4 +1,4 @@
--- A writer adds to what was written, and takes nothing back.
+-- A writer adds to the bytes that have been written, and removes none.
 use Rattle.std.proofs.Common.{◌≡◌, ◌≤◌, List, ℕ, [], ◌++◌, length, take, drop, Result, Ok, Err, OnOk, OnErr, refl, sym, ap, ◌∙◌}
 use Rattle.std.proofs.Common.{append_assoc}
 use Rattle.std.proofs.lemmas.List.{append-nil, take-append-le, drop-append-le}
@@ -18,7 +18,7 @@ pub taken_back : (was o : FieldOutput) → StillHas was o → in_field (take (le
 unfolding StillHas
 taken_back was o h = rw (h.0, h.2, take-append_seam was.field h.1) refl
 
--- with more bytes behind them
+-- With more bytes after them.
 pub has_more : (was o : FieldOutput) (text : List ℕ) → StillHas was o → StillHas was (in_field (λ out. out ++ text) o)
 unfolding StillHas
 has_more was o text h = (h.0, h.1 ++ text, ap (λ (xs : List ℕ). xs ++ text) h.2 ∙ append_assoc was.field h.1 text)
@@ -31,6 +31,6 @@ pub keeps_added : {X E : Type 0} (r : Result X E) (start : ℕ) (old new text : 
 keeps_added (Ok x) start old new text in_it ok err = keeps_more (from start old) (from start new) text (rw (ok, take-append-le start old text in_it, drop-append-le start old text in_it) refl)
 keeps_added (Err e) start old new text in_it ok err = λ was h. rw err h
 
--- back to what was there when the call began
+-- Truncation to the bytes that were there when the call began.
 pub back_to : (old new o : FieldOutput) (n : ℕ) → TakesNothingBack old new → n ≡ length old.field → o ≡ in_field (take n) new → o ≡ old
 back_to old new o n kept at is = is ∙ ap (λ (i : ℕ). in_field (take i) new) at ∙ taken_back old new (kept old (has_itself old))

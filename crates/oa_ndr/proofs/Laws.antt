@@ -1,4 +1,5 @@
--- A reading reads a form: what it takes is of the form, and what is of the form is read again, whatever follows.
+-- A decoder agrees with a form: the bytes that it consumes are of the form, and bytes of the form are decoded again,
+-- whatever follows them.
 use Rattle.std.proofs.Common.{◌≡◌, ℕ, zero, suc, ◌+◌, ◌≤◌, Bool, true, false, not, cond, ltb, eqb, List, [], ◌∷◌, ◌++◌, length}
 use Rattle.std.proofs.Common.{take, drop, Option, Some, None, refl, sym, ap, subst, ◌∙◌, append_assoc, arith}
 use Rattle.std.specs.List.{AllByRecursion}
@@ -11,7 +12,7 @@ use Rattle.oa_ndr.specs.Forms.{pairwise, made}
 use Rattle.oa_ndr.specs.Reading.{Cursor, at, Reading, and_then, bind, give, fail, choose, bytes_at, align_at, slot_at, unit_at}
 use Rattle.oa_ndr.specs.Reading.{referent_at, many, map_at, all_used, whole}
 
--- what a reader took from the front
+-- The bytes that a decoder has consumed from the front.
 pub record Takes (F : ℕ → List ℕ → Type 0) (p : ℕ) (bytes : List ℕ) (t : Cursor) : Type 0 where
   pub text : List ℕ
   pub parts : bytes ≡ text ++ t.rest
@@ -31,7 +32,7 @@ Always x = Unit {0}
 abbrev some : {A : Type 0} → A → Option A
 some x = Some x
 
--- a value, and what is left
+-- A value and the rest.
 abbrev done : {A : Type 0} → A → Cursor → Option (A × Cursor)
 done x t = Some (x, t)
 
@@ -182,7 +183,7 @@ bind_reads {A} {C} F {P} {G} proj {read} {next} r has then = record {
       ((then (proj c) (has c h)).again (p + length form.front) form.back rest c (h, refl) form.second);
 }
 
--- a part that says what follows
+-- A part that determines the following ones.
 pub with_reads : {A C : Type 0} {PA : A → Type 0} {F : A → ℕ → List ℕ → Type 0} {P : C → Type 0} {G : A → C → ℕ → List ℕ → Type 0} {read : Reading A} {next : A → Reading C}
     → Reads PA F read → ((c : C) (a : A) (p : ℕ) (text : List ℕ) → P c → G a c p text → PA a) → ((a : A) → PA a → Reads P (G a) (next a))
     → Reads P (λ c. with F (λ a. G a c)) (bind read next)
@@ -229,7 +230,7 @@ align_then n then = skip_reads (align_reads n) (λ c x p text _ _ form. form) (�
 pub any_then : {C : Type 0} {P : C → Type 0} {G : C → ℕ → List ℕ → Type 0} {next : Reading C} (n : ℕ) (count : C → ℕ) → ((c : C) → P c → count c ≡ n) → Reads P G next → Reads P (λ c. any (count c) ▸ G c) (bind (bytes_at n) (λ _. next))
 any_then n count same then = skip_reads (bytes_reads n) (λ c x p text h len form. ap length form ∙ len ∙ sym (same c h)) (λ c p text h len. (text, len ∙ same c h, refl)) then
 
--- the same values, said in other words
+-- The same values, with another condition.
 pub same_values : {C : Type 0} {P Q : C → Type 0} {F : C → ℕ → List ℕ → Type 0} {read : Reading C} → Reads P F read → ((c : C) → P c → Q c) → ((c : C) → Q c → P c) → Reads Q F read
 same_values r to from = record {
   takes = λ p bytes c t e. let one = r.takes p bytes c t e in (to c one.0, one.1);
@@ -240,7 +241,7 @@ pub referent_reads : Reads Always referent referent_at
 unfolding referent_at
 referent_reads = with_reads (unit_reads 4) (λ c a p text _ _. tt) (λ a _. give_reads (not (eqb a 0)) tt refl (λ c _ e. e))
 
--- one kind of value among several: what is taken, and read again
+-- One kind of value among several: the bytes that are consumed are decoded again.
 pub made_takes : {A C : Type 0} {PA : A → Type 0} (P : C → Type 0) (F : C → ℕ → List ℕ → Type 0) (make : A → C) {read : Reading A}
     → Reads PA (λ a. F (make a)) read → ((a : A) → PA a → P (make a))
     → (p : ℕ) (bytes : List ℕ) (c : C) (t : Cursor) → bind read (λ a. give (make a)) (at p bytes) ≡ Some (c, t) → P c × Takes (F c) p bytes t
@@ -379,7 +380,7 @@ given_then {C} {P} {Q} {F} {read} has r = record {
       r.again p text rest c h (subst (λ (q : ℕ). F c q text) place (subst (F c (p + length form.front)) (sym same) form.second));
 }
 
--- what is known of the values, said in the form
+-- A fact about the values, as a part of the form.
 pub told_reads : {C : Type 0} {P : C → Type 0} {F : C → ℕ → List ℕ → Type 0} {read : Reading C} → Reads P F read → Reads Always (λ c. given (P c) ▸ F c) read
 told_reads {C} {P} {F} {read} r = record {
   takes = λ p bytes c t e.

@@ -1,4 +1,4 @@
--- What is written is of the form, wherever it stands.
+-- Bytes that are written are of the form, at any offset.
 use Rattle.std.proofs.Common.{◌≡◌, ℕ, ◌+◌, ◌<◌, ◌^◌, Bool, true, false, List, [], ◌∷◌, ◌++◌, length}
 use Rattle.std.proofs.Common.{drop, replicate, refl, sym, ap, subst, ◌∙◌, append_assoc, arith}
 use Rattle.std.specs.List.{AllByRecursion}
@@ -9,7 +9,7 @@ use Rattle.byteorder.specs.Numbers.{length-bytes_low_first, little_number-reads_
 use Rattle.oa_ndr.specs.Forms.{padding, ◌▸◌, nothing, align, ignored, unit, exactly, any, with, given, referent, each}
 use Rattle.oa_ndr.specs.Writing.{put_align, put_unit, put_bytes, put_referent, put_all}
 
--- what was added at the end
+-- The bytes that have been added at the end.
 pub record Adds (F : ℕ → List ℕ → Type 0) (old new : List ℕ) : Type 0 where
   pub text : List ℕ
   pub parts : new ≡ old ++ text
@@ -45,7 +45,7 @@ unit_writes n x lt = record {
       };
 }
 
--- any number may stand where it is ignored
+-- Any number may be written in an ignored part.
 pub ignored_writes : (n x : ℕ) → Writes (ignored n) (put_unit n x)
 ignored_writes n x = record {
   adds = λ out.

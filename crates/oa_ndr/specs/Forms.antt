@@ -1,19 +1,19 @@
--- How values lie in bytes (C706 chapter 14, little-endian).
+-- The encodings of values as bytes (C706 chapter 14, little-endian).
 --
--- A form relates the place at which a stretch of bytes begins, counted from the first byte of its field, to the bytes
--- of that stretch. The form of a value is stated in the direction of reading: these bytes stand for that value. So a
--- part that is ignored holds any bytes.
+-- A form relates an offset, counted from the first byte of a field, to the bytes that begin there. The form of a value
+-- is stated for decoding: these bytes encode this value. A part that is ignored may therefore be any bytes.
 use Rattle.std.specs.Prelude.{◌≡◌, ℕ, ◌+◌, ◌-◌, ◌%◌, ◌==◌, Bool, not, if◌then◌else◌, List, [], ◌∷◌, ◌++◌, length, drop}
 use Rattle.byteorder.specs.Endian.{little_number}
 
+-- A set of byte sequences for each offset at which they may begin.
 abbrev pub Form : Type 1
 Form = ℕ → List ℕ → Type 0
 
--- how many bytes lie between a place and the next multiple of n (C706 14.2.2)
+-- The number of bytes between an offset and the next multiple of n (C706 14.2.2).
 abbrev pub padding : ℕ → ℕ → ℕ
 padding n place = if place % n == 0 then 0 else n - place % n
 
--- one stretch after another
+-- A sequence of the first form followed by one of the second.
 pub record Then (F G : ℕ → List ℕ → Type 0) (place : ℕ) (bytes : List ℕ) : Type 0 where
   pub front : List ℕ
   pub back : List ℕ
@@ -25,58 +25,58 @@ infixr 5 ◌▸◌
 abbrev pub ◌▸◌ : Form → Form → Form
 F ▸ G = Then F G
 
--- no bytes
+-- No bytes.
 abbrev pub nothing : Form
 nothing place bytes = bytes ≡ []
 
--- padding up to a multiple of n, whatever it holds
+-- Padding up to a multiple of n, with any content.
 abbrev pub align : ℕ → Form
 align n place bytes = length bytes ≡ padding n place
 
--- n bytes at a multiple of n, whatever they and the padding before them hold
+-- n bytes at a multiple of n; they and the padding before them have any content.
 abbrev pub ignored : ℕ → Form
 ignored n place bytes = length bytes ≡ padding n place + n
 
--- n bytes at a multiple of n, the lowest first, which stand for the number x
+-- The number x in n bytes at a multiple of n, lowest byte first.
 pub record unit (n x : ℕ) (place : ℕ) (bytes : List ℕ) : Type 0 where
   pub len : length bytes ≡ padding n place + n
   pub value : little_number n (drop (padding n place) bytes) ≡ x
 
--- these very bytes
+-- Exactly these bytes.
 abbrev pub exactly : List ℕ → Form
 exactly text place bytes = bytes ≡ text
 
--- n bytes, whatever they hold
+-- n bytes with any content.
 abbrev pub any : ℕ → Form
 any n place bytes = length bytes ≡ n
 
--- a value that a stretch stands for, and what is said of it and of what follows
+-- A sequence that encodes some value, followed by one whose form may depend on this value.
 pub record with {A : Type 0} (F G : A → ℕ → List ℕ → Type 0) (place : ℕ) (bytes : List ℕ) : Type 0 where
   pub value : A
   pub form : Then (F value) (G value) place bytes
 
--- no bytes, and a fact
+-- No bytes, and a fact.
 pub record given (P : Type 0) (place : ℕ) (bytes : List ℕ) : Type 0 where
   pub fact : P
   pub none : bytes ≡ []
 
--- a unique pointer that is set, or is null (C706 14.3.12)
+-- The referent of a unique pointer that is set, or is null (C706 14.3.12).
 abbrev pub referent : Bool → Form
 referent is_set = with (unit 4) (λ number. given (is_set ≡ not (number == 0)))
 
--- each of a list, one after the other
+-- The encodings of the values of a list, one after another.
 abbrev pub each : {A : Type 0} → (A → Form) → List A → Form
 each F [] = nothing
 each F (x ∷ xs) = F x ▸ each F xs
 
--- pairs of two lists of one length, one after the other
+-- The encodings of the pairs of two lists of the same length, one after another.
 abbrev pub pairwise : {A B : Type 0} → (A → B → Form) → List A → List B → Form
 pairwise F [] [] = nothing
 pairwise F (x ∷ xs) (y ∷ ys) = F x y ▸ pairwise F xs ys
 pairwise F [] (y ∷ ys) = given ⊥
 pairwise F (x ∷ xs) [] = given ⊥
 
--- the value that make gives of a value that a stretch stands for
+-- A sequence that encodes some value of which `make` makes c.
 pub record made {A C : Type 0} (make : A → C) (F : A → ℕ → List ℕ → Type 0) (c : C) (place : ℕ)
     (bytes : List ℕ) : Type 0 where
   pub value : A

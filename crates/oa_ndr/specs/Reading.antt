@@ -1,14 +1,14 @@
--- Reading as functions on lists: the value at the front and what is left, or None.
+-- Decoders as functions on lists. They return the value at the front and the rest, or None.
 --
--- The steps are unfoldable, so that the laws in proofs/Laws need no continuation written out, and the code's clauses
--- show names.
+-- The steps are unfoldable, so that the theorems in proofs/Laws need no continuation in full, and the contracts of the
+-- code show names.
 use Rattle.std.specs.Prelude.{⊤}
 use Rattle.std.specs.Prelude.{◌≡◌, ℕ, zero, suc, ◌+◌, ◌==◌, Bool, not, nat_lt, if◌then◌else◌, List, [], ◌∷◌, length}
 use Rattle.std.specs.Prelude.{take, drop, Option, Some, None, Result, Ok, Err}
 use Rattle.byteorder.specs.Endian.{little_number}
 use Rattle.oa_ndr.specs.Forms.{padding}
 
--- where a reader stands: the place from the field's first byte, and the bytes from there on
+-- The state of a reader: its offset from the first byte of the field, and the bytes from there on.
 pub record Cursor : Type 0 where
   pub position : ℕ
   pub rest : List ℕ
@@ -16,10 +16,11 @@ pub record Cursor : Type 0 where
 abbrev pub at : ℕ → List ℕ → Cursor
 at position rest = record { position = position; rest = rest }
 
+-- The reader after n more bytes.
 abbrev pub moved : ℕ → Cursor → Cursor
 moved n s = at (s.position + n) (drop n s.rest)
 
--- a step of reading: the value at the front and what is left, or None
+-- A decoder: it returns the value at the front and the rest, or None.
 abbrev pub Reading : Type 0 → Type 0
 Reading A = Cursor → Option (A × Cursor)
 
@@ -27,7 +28,7 @@ abbrev pub and_then : {A B : Type 0} → Option (A × Cursor) → (A → Reading
 and_then None next = None
 and_then (Some x) next = next x.0 x.1
 
--- one step after another
+-- One decoder after another.
 unfoldable pub bind : {A B : Type 0} → Reading A → (A → Reading B) → Reading B
 bind read next s = and_then (read s) next
 
@@ -35,54 +36,56 @@ infixl 10 ◌>>=◌
 abbrev pub ◌>>=◌ : {A B : Type 0} → Reading A → (A → Reading B) → Reading B
 read >>= next = bind read next
 
--- no bytes, and this value
+-- Reads nothing and returns this value.
 unfoldable pub give : {A : Type 0} → A → Reading A
 give x s = Some (x, s)
 
+-- Fails.
 unfoldable pub fail : {A : Type 0} → Reading A
 fail s = None
 
+-- One of two decoders.
 unfoldable pub choose : {A : Type 0} → Bool → Reading A → Reading A → Reading A
 choose b one other s = if b then one s else other s
 
--- what a proof opens to follow a reading step by step
+-- The definitions that a proof unfolds to follow a decoder step by step.
 unfoldable pub steps : ⊤
 unfolding bind give fail choose
 steps = tt
 
--- What a call on a reader returned, seen by view, and left is what reading gives; without a value the reader is as
--- before.
+-- A call of the code on a reader returns what the decoder does, seen through `view`, and moves as far. If there is no
+-- value, the reader does not move.
 abbrev pub Gives : {X Y E : Type 0} → (X → Y) → Result X E → Cursor → Cursor → Option (Y × Cursor) → Type 0
 Gives view (Ok x) old new read = read ≡ Some (view x, new)
 Gives view (Err e) old new read = (read ≡ None) × (new ≡ old)
 
--- n bytes
+-- Reads n bytes.
 unfoldable pub bytes_at : ℕ → Reading (List ℕ)
 bytes_at n s = if nat_lt (length s.rest) n then None else Some (take n s.rest, moved n s)
 
--- the padding up to a multiple of n
+-- Skips the padding up to a multiple of n.
 unfoldable pub align_at : ℕ → Reading (Unit {0})
 align_at n s = if nat_lt (length s.rest) (padding n s.position) then None else Some (tt, moved (padding n s.position) s)
 
--- the n bytes at the next multiple of n
+-- Reads the n bytes at the next multiple of n.
 unfoldable pub slot_at : ℕ → Reading (List ℕ)
 slot_at n s =
     if nat_lt (length s.rest) (padding n s.position + n) then None
     else Some (take n (drop (padding n s.position) s.rest), moved (padding n s.position + n) s)
 
--- the number that they stand for
+-- Reads the number in the n bytes at the next multiple of n.
 unfoldable pub unit_at : ℕ → Reading ℕ
 unit_at n = do
   slot ← slot_at n
   give (little_number n slot)
 
--- whether the referent there is set
+-- Reads a referent and returns whether it is set.
 unfoldable pub referent_at : Reading Bool
 referent_at = do
   number ← unit_at 4
   give (not (number == 0))
 
--- n values of one kind
+-- Reads n values of one kind.
 unfoldable pub many : {A : Type 0} → Reading A → ℕ → Reading (List A)
 many read zero = give []
 many read (suc n) = do
@@ -90,7 +93,7 @@ many read (suc n) = do
   others ← many read n
   give (first ∷ others)
 
--- a value for each of a list
+-- Reads a value for each entry of a list.
 unfoldable pub map_at : {A B : Type 0} → (A → Reading B) → List A → Reading (List B)
 map_at read [] = give []
 map_at read (x ∷ xs) = do
@@ -98,11 +101,11 @@ map_at read (x ∷ xs) = do
   others ← map_at read xs
   give (first ∷ others)
 
--- a value, where no bytes are left
+-- The value, if no bytes are left.
 abbrev pub all_used : {A : Type 0} → Option (A × Cursor) → Option A
 all_used None = None
 all_used (Some x) = if length x.1.rest == 0 then Some x.0 else None
 
--- the value of a whole field
+-- The value of a whole field.
 abbrev pub whole : {A : Type 0} → Reading A → List ℕ → Option A
 whole read bytes = all_used (read (at 0 bytes))

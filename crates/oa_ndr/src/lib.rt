@@ -1,10 +1,10 @@
-//! Numbers and bytes at aligned places, as NDR lays them out (C706 chapter 14), little-endian. `Ndr` reads a
-//! field and `NdrOut` writes one; both count places from the field's first byte.
+//! Numbers and bytes with the alignment of NDR (C706 chapter 14), little-endian. `Ndr` reads a field and `NdrOut` writes one. Both count
+//! offsets from the first byte of the field.
 //!
-//! Its contract: each reader answers the value at its place, or `Short` exactly where the bytes end before it;
-//! each writer appends its bytes, or leaves the output as before.
+//! Contract: each reading function returns the value at its offset, or `Short` if and only if the bytes end before it. Each writing
+//! function appends its bytes, or leaves the output unchanged.
 //!
-//! What stands on it: oa_wire_text, oa_wire_array, oa_wire_variant, oa_layout, oa_record and oa_image.
+//! Used by oa_wire_text, oa_wire_array, oa_wire_variant, oa_layout, oa_record and oa_image.
 #![tactic(auto)]
 
 mod ndr;

@@ -1,4 +1,4 @@
-//! The reader.
+//! Reads fields.
 
 ghost use Rattle.std.specs.Prelude.{◌≡◌, ◌<◌, ◌≤◌, length, IfOk};
 ghost use Rattle.oa_ndr.specs.Forms.{padding};
@@ -16,16 +16,15 @@ use byteorder::{ByteOrder, LittleEndian};
 use std::marker::Model;
 use thiserror::Error;
 
-/// The bytes end before what was asked for.
+/// The bytes end too early.
 #[derive(Clone, Copy, Debug, PartialEq, Eq, Error)]
 #[error("the bytes end too early")]
 pub struct Short;
 
-/// A reader of one field, which knows how many bytes lie between it and the field's first byte.
+/// A reader of one field, which knows its offset from the first byte of the field.
 ///
-/// Each call reads at the next multiple of its own size and moves past what it read, the padding
-/// before it included, whatever that holds. Where the bytes end before, it answers `Short` and
-/// moves nothing.
+/// Each call reads at the next multiple of its own size and moves past the value. The padding before the value may have any content. If the
+/// bytes end too early, the call returns `Short` and does not move.
 #[derive(Drop)]
 pub struct Ndr<'a> {
     position: usize,
@@ -43,13 +42,13 @@ impl<'a> Model for Ndr<'a> {
     ghost invariant = { λ r. r.position + length r.rest.now < 2 ^ 64 };
 }
 
-/// How many bytes lie between a place and the next multiple of n.
+/// Returns the number of bytes between an offset and the next multiple of n.
 pub(crate) fn padding(n: usize, place: usize) -> usize
     requires { 0 < n }
     ensures value { result ≡ padding n place }
     ensures small { result < n }
 {
-    // A remainder by a constant is a mask: a division takes longer than all else that a read or a write does.
+    // A remainder by a constant is a mask. A division takes longer than the rest of a read or a write.
     match n {
         1 => 0,
         2 => (2 - place % 2) % 2,
@@ -63,7 +62,7 @@ pub(crate) fn padding(n: usize, place: usize) -> usize
 }
 
 impl<'a> Ndr<'a> {
-    /// A reader at the first byte of a field.
+    /// Makes a reader at the first byte of a field.
     pub fn new(bytes: &'a [u8]) -> Ndr<'a>
         ensures { result ≡ at 0 bytes.now }
     {
@@ -73,7 +72,7 @@ impl<'a> Ndr<'a> {
         }
     }
 
-    /// A second reader at the same place, to look ahead with.
+    /// Makes a second reader at the same offset, to look ahead.
     pub fn fork(&self) -> Ndr<'a>
         ensures { result ≡ self.now }
     {
@@ -83,21 +82,21 @@ impl<'a> Ndr<'a> {
         }
     }
 
-    /// How many bytes lie between the field's first byte and the reader.
+    /// Returns the offset from the first byte of the field.
     pub fn position(&self) -> usize
         ensures { result ≡ self.now.position }
     {
         self.position
     }
 
-    /// The bytes that were not read.
+    /// Returns the bytes that have not been read.
     pub fn rest(&self) -> &'a [u8]
         ensures { result.now ≡ self.now.rest }
     {
         self.rest
     }
 
-    /// Moves to the next multiple of `n`, past padding that may hold anything (C706 14.2.2).
+    /// Moves to the next multiple of `n`, which is 1 to 8, past padding of any content (C706 14.2.2).
     #[tactic(auto, unfolding(crate::specs::Reading::align_at))]
     pub fn align(&mut self, n: usize) -> Result<(), Short>
         requires above { 0 < n }
@@ -114,7 +113,7 @@ impl<'a> Ndr<'a> {
         Ok(())
     }
 
-    /// The next `n` bytes, at no multiple of anything.
+    /// Reads the next `n` bytes, without alignment.
     #[tactic(auto, unfolding(crate::specs::Reading::bytes_at))]
     pub fn bytes(&mut self, n: usize) -> Result<&'a [u8], Short>
         ensures bytes { Gives (λ x. x.now) result self.old self.new (bytes_at n self.old) }
@@ -129,7 +128,7 @@ impl<'a> Ndr<'a> {
         Ok(front)
     }
 
-    /// The n bytes at the next multiple of n.
+    /// Reads the n bytes at the next multiple of n.
     #[tactic(auto, unfolding(crate::specs::Reading::slot_at))]
     fn slot(&mut self, n: usize) -> Result<&'a [u8], Short>
         requires above { 0 < n }
@@ -148,7 +147,7 @@ impl<'a> Ndr<'a> {
         Ok(&front[gap..])
     }
 
-    /// The next byte.
+    /// Reads the next byte.
     #[tactic(auto, unfolding(crate::specs::Reading::unit_at, crate::specs::Reading::bind, crate::specs::Reading::give))]
     pub fn u8(&mut self) -> Result<u8, Short>
         ensures { Gives (λ x. x) result self.old self.new (unit_at 1 self.old) }
@@ -156,7 +155,7 @@ impl<'a> Ndr<'a> {
         Ok(self.slot(1)?[0])
     }
 
-    /// The number of 2 bytes at the next multiple of 2.
+    /// Reads the u16 at the next multiple of 2.
     #[tactic(auto, unfolding(crate::specs::Reading::unit_at, crate::specs::Reading::bind, crate::specs::Reading::give))]
     pub fn u16(&mut self) -> Result<u16, Short>
         ensures { Gives (λ x. x) result self.old self.new (unit_at 2 self.old) }
@@ -164,7 +163,7 @@ impl<'a> Ndr<'a> {
         Ok(LittleEndian::read_u16(self.slot(2)?))
     }
 
-    /// The number of 4 bytes at the next multiple of 4.
+    /// Reads the u32 at the next multiple of 4.
     #[tactic(auto, unfolding(crate::specs::Reading::unit_at, crate::specs::Reading::bind, crate::specs::Reading::give))]
     pub fn u32(&mut self) -> Result<u32, Short>
         ensures { Gives (λ x. x) result self.old self.new (unit_at 4 self.old) }
@@ -172,7 +171,7 @@ impl<'a> Ndr<'a> {
         Ok(LittleEndian::read_u32(self.slot(4)?))
     }
 
-    /// The number of 8 bytes at the next multiple of 8.
+    /// Reads the u64 at the next multiple of 8.
     #[tactic(auto, unfolding(crate::specs::Reading::unit_at, crate::specs::Reading::bind, crate::specs::Reading::give))]
     pub fn u64(&mut self) -> Result<u64, Short>
         ensures { Gives (λ x. x) result self.old self.new (unit_at 8 self.old) }
@@ -180,8 +179,8 @@ impl<'a> Ndr<'a> {
         Ok(LittleEndian::read_u64(self.slot(8)?))
     }
 
-    /// Whether the unique pointer at the next multiple of 4 is set: 0 is null, every other number
-    /// is not (C706 14.3.12).
+    /// Reads the referent of a unique pointer at the next multiple of 4, and returns whether it is set: 0 is null, every other number is
+    /// not (C706 14.3.12).
     #[tactic(auto, unfolding(crate::specs::Reading::referent_at, crate::specs::Reading::bind, crate::specs::Reading::give))]
     pub fn referent(&mut self) -> Result<bool, Short>
         ensures { Gives (λ x. x) result self.old self.new (referent_at self.old) }

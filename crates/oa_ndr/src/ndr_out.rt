@@ -1,4 +1,4 @@
-//! The writer.
+//! Writes fields.
 
 ghost use Rattle.std.specs.Prelude.{◌≡◌, ◌<◌, ◌≤◌, ◌++◌, OnOk, OnErr, length, replicate, take};
 ghost use Rattle.oa_ndr.specs.Writing.{
@@ -18,14 +18,13 @@ use std::marker::Model;
 
 const ZEROS: [u8; 8] = [0; 8];
 
-// What a unique pointer that is set is written as.
+// The referent of a unique pointer that is set.
 const REFERENT: u32 = 0x0002_0000;
 
 /// A writer of one field at the end of a vector.
 ///
-/// Each call writes at the next multiple of its own size, counted from the field's first byte,
-/// with zeros as padding before it. Where memory is refused, nothing is written. Only `truncate` takes
-/// back what was written.
+/// Each call writes at the next multiple of its own size, counted from the first byte of the field, after zeros as padding. If an
+/// allocation fails, nothing is written. Only `truncate` removes bytes that have been written.
 #[derive(Drop)]
 pub struct NdrOut {
     out: Vec<u8>,
@@ -43,6 +42,7 @@ impl Model for NdrOut {
     ghost invariant = { λ w. w.start ≤ length w.out.items };
 }
 
+/// Appends up to eight zeros.
 fn append_zeros(out: &mut Vec<u8>, n: usize) -> Result<(), AllocError>
     requires { n ≤ 8 }
     ensures ok { OnOk result (out.new.items ≡ out.old.items ++ replicate n 0) }
@@ -51,7 +51,7 @@ fn append_zeros(out: &mut Vec<u8>, n: usize) -> Result<(), AllocError>
     out.extend_from_slice(&ZEROS[..n])
 }
 
-/// Adds zeros and then these bytes, or nothing. The length is a part of the type, so that a number is stored and not copied.
+/// Appends zeros and then these bytes, or nothing. The length is a part of the type, so that a number is stored directly and not copied.
 fn append_behind_zeros<const N: usize>(
     out: &mut Vec<u8>,
     zeros: usize,
@@ -74,7 +74,7 @@ fn append_behind_zeros<const N: usize>(
 }
 
 impl NdrOut {
-    /// A writer of a field that begins at the end of `out`.
+    /// Makes a writer of a field that begins at the end of `out`.
     pub fn new(out: Vec<u8>) -> NdrOut
         ensures { result ≡ field_after out.items }
     {
@@ -82,28 +82,28 @@ impl NdrOut {
         NdrOut { out, start }
     }
 
-    /// How many bytes the field has so far.
+    /// Returns the number of bytes of the field so far.
     pub fn position(&self) -> usize
         ensures { result ≡ length self.now.field }
     {
         self.out.len() - self.start
     }
 
-    /// The bytes of the field so far.
+    /// Returns the bytes of the field so far.
     pub fn written(&self) -> &[u8]
         ensures { result.now ≡ self.now.field }
     {
         &self.out[self.start..]
     }
 
-    /// The vector, with the field at its end.
+    /// Returns the vector, which ends with the field.
     pub fn into_vec(self) -> Vec<u8>
         ensures { result.items ≡ self.before ++ self.field }
     {
         self.out
     }
 
-    /// Takes back what was written behind the first `len` bytes of the field. Where there is nothing behind them, the field stays.
+    /// Removes the bytes of the field after the first `len`. If the field is not longer, it is unchanged.
     pub fn truncate(&mut self, len: usize)
         ensures { self.new ≡ in_field (take len) self.old }
     {
@@ -112,7 +112,7 @@ impl NdrOut {
         }
     }
 
-    /// Zeros up to the next multiple of `n`.
+    /// Writes zeros up to the next multiple of `n`, which is 1 to 8. Err: an allocation fails.
     pub fn align(&mut self, n: usize) -> Result<(), AllocError>
         requires above { 0 < n }
         requires small { n ≤ 8 }
@@ -124,7 +124,7 @@ impl NdrOut {
         self.bytes(&ZEROS[..gap])
     }
 
-    /// These bytes, at no multiple of anything.
+    /// Writes these bytes, without alignment. Err: an allocation fails.
     pub fn bytes(&mut self, text: &[u8]) -> Result<(), AllocError>
         ensures ok { OnOk result (self.new ≡ in_field (put_bytes text.now) self.old) }
         ensures err { OnErr result (self.new ≡ self.old) }
@@ -133,7 +133,7 @@ impl NdrOut {
         self.out.extend_from_slice(text)
     }
 
-    /// Up to eight zeros, at no multiple of anything.
+    /// Writes up to eight zeros, without alignment. Err: an allocation fails.
     pub fn zeros(&mut self, n: usize) -> Result<(), AllocError>
         requires { n ≤ 8 }
         ensures ok { OnOk result (self.new ≡ in_field (put_bytes (replicate n 0)) self.old) }
@@ -143,7 +143,7 @@ impl NdrOut {
         self.bytes(&ZEROS[..n])
     }
 
-    /// These bytes at the next multiple of n.
+    /// Writes these bytes at the next multiple of n.
     fn slot<const N: usize>(&mut self, n: usize, number: &[u8; N]) -> Result<(), AllocError>
         requires above { 0 < n }
         requires small { n ≤ 8 }
@@ -155,7 +155,7 @@ impl NdrOut {
         append_behind_zeros(&mut self.out, gap, number)
     }
 
-    /// A byte.
+    /// Writes a byte. Err: an allocation fails.
     pub fn u8(&mut self, x: u8) -> Result<(), AllocError>
         ensures ok { OnOk result (self.new ≡ in_field (put_unit 1 x) self.old) }
         ensures err { OnErr result (self.new ≡ self.old) }
@@ -164,7 +164,7 @@ impl NdrOut {
         self.slot(1, &x.to_le_bytes())
     }
 
-    /// A number of 2 bytes at the next multiple of 2.
+    /// Writes a u16 at the next multiple of 2. Err: an allocation fails.
     pub fn u16(&mut self, x: u16) -> Result<(), AllocError>
         ensures ok { OnOk result (self.new ≡ in_field (put_unit 2 x) self.old) }
         ensures err { OnErr result (self.new ≡ self.old) }
@@ -173,7 +173,7 @@ impl NdrOut {
         self.slot(2, &x.to_le_bytes())
     }
 
-    /// A number of 4 bytes at the next multiple of 4.
+    /// Writes a u32 at the next multiple of 4. Err: an allocation fails.
     pub fn u32(&mut self, x: u32) -> Result<(), AllocError>
         ensures ok { OnOk result (self.new ≡ in_field (put_unit 4 x) self.old) }
         ensures err { OnErr result (self.new ≡ self.old) }
@@ -182,7 +182,7 @@ impl NdrOut {
         self.slot(4, &x.to_le_bytes())
     }
 
-    /// A number of 8 bytes at the next multiple of 8.
+    /// Writes a u64 at the next multiple of 8. Err: an allocation fails.
     pub fn u64(&mut self, x: u64) -> Result<(), AllocError>
         ensures ok { OnOk result (self.new ≡ in_field (put_unit 8 x) self.old) }
         ensures err { OnErr result (self.new ≡ self.old) }
@@ -191,7 +191,7 @@ impl NdrOut {
         self.slot(8, &x.to_le_bytes())
     }
 
-    /// A unique pointer: 0x00020000 where it is set, and 0 where it is null.
+    /// Writes the referent of a unique pointer: 0x00020000 if it is set, 0 if it is null. Err: an allocation fails.
     pub fn referent(&mut self, is_set: bool) -> Result<(), AllocError>
         ensures ok { OnOk result (self.new ≡ in_field (put_referent is_set) self.old) }
         ensures err { OnErr result (self.new ≡ self.old) }

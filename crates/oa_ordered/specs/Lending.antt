@@ -1,4 +1,4 @@
--- What a row ends as, where one of its values is lent.
+-- A row after one of its values was borrowed and returned.
 use Rattle.std.specs.Prelude.{ℕ, List}
 use Rattle.std.specs.Borrow.{Lends, Fml, RattleType, MutBor}
 use Rattle.oa_ordered.specs.Rows.{with_value}

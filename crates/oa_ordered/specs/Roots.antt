@@ -1,4 +1,4 @@
--- The entries of a map, in what it stands in.
+-- The entries of a map in its rows or branches.
 use Rattle.std.specs.Prelude.{◌≡◌, ◌<◌, ◌^◌, ℕ, List, length}
 use Rattle.std.specs.declared.cmp.Ordering.{Ordering}
 use Rattle.oa_ordered.specs.declared.root.Root.{Root}
@@ -15,7 +15,7 @@ module _ {K X : Type 0} where
   IsFilled (One row) = Unit {0}
   IsFilled (Many branches) = AreFilled branches.items
 
-  -- a map of so many entries
+  -- a map with `len` entries
   pub record IsMap (cmp : K → K → Ordering) (root : Root K X) (len : ℕ) : Type 0 where
     pub ordered : IsOrdered cmp (entries_of root)
     pub filled : IsFilled root

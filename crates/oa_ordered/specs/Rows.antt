@@ -9,11 +9,11 @@ use Rattle.std.specs.declared.cmp.Ordering.{Ordering}
 use Rattle.std.specs.declared.cmp.Ordering.TheVariants.{Less, Equal, Greater}
 
 module _ {K X : Type 0} where
-  -- the entries of the rows, in turn
+  -- the entries of the rows, one row after the other
   abbrev pub joined : List (List (K × X)) → List (K × X)
   joined rows = flat_map (λ row. row) rows
 
-  -- the entries before a place, those from it on, and those behind it
+  -- the entries before a place, those from it on, and those after it
   abbrev pub before : List (List (K × X)) → ℕ → ℕ → List (K × X)
   before rows row at = joined (take row rows) ++ take at (slice_index_or rows row [])
 
@@ -23,7 +23,7 @@ module _ {K X : Type 0} where
   abbrev pub after : List (List (K × X)) → ℕ → ℕ → List (K × X)
   after rows row at = drop (suc at) (slice_index_or rows row []) ++ joined (drop (suc row) rows)
 
-  -- the entries, with w as the value of the one at a place
+  -- the entries, with w as the value of the entry at a place
   abbrev pub with_value : List (K × X) → ℕ → X → List (K × X)
   with_value [] at w = []
   with_value (e ∷ es) zero w = (e.0, w) ∷ es
@@ -61,7 +61,7 @@ module _ {K X : Type 0} where
       begins_after [] = false
       begins_after (e ∷ es) = is_lt (cmp key e.0)
 
-      -- the key is at a place among entries, or it would stand there
+      -- the key is at a place among entries, or is to be inserted there
       pub record IsFoundIn (es : List (K × X)) (at : ℕ) : Type 0 where
         pub place : at < length es
         pub below : AllBelow (take at es)
@@ -72,14 +72,14 @@ module _ {K X : Type 0} where
         pub below : AllBelow (take at es)
         pub above : AllAbove (drop at es)
 
-      -- the key is in that row if in any; where there are rows, it is one of them
+      -- the key is in that row if it is in any; if there are rows, it is one of them
       pub record IsRowFor (rows : List (List (K × X))) (row : ℕ) : Type 0 where
         pub place : row ≤ length rows
         pub one : 0 < length rows → row < length rows
         pub below : AllBelow (joined (take row rows))
         pub above : AllAbove (joined (drop (suc row) rows))
 
-      -- the key is at a place in rows, or it would stand there
+      -- the key is at a place in rows, or is to be inserted there
       pub record IsFound (rows : List (List (K × X))) (row at : ℕ) : Type 0 where
         pub in_rows : row < length rows
         pub in_row : at < length (slice_index_or rows row [])

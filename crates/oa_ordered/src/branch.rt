@@ -12,10 +12,10 @@ use std::alloc::{AllocError, AllocFailed, Global};
 use std::marker::Model;
 use std::mem::replace;
 
-/// How many rows a branch takes before it is split.
+/// How many rows a branch has before it is split.
 pub(crate) const FULL_BRANCH: usize = 128;
 
-/// Rows that stand next to each other in the order of their keys.
+/// Rows that are adjacent in the order of their keys.
 #[derive(Drop)]
 pub(crate) struct Branch<K, V> {
     rows: Vec<Row<K, V>>,
@@ -35,7 +35,7 @@ impl<K, V> Model for Branch<K, V> {
 impl<K, V> Branch<K, V> {
     ghost use Rattle.oa_ordered.specs.Lends.{lends_in_branch};
 
-    /// The branch of rows, none of which is empty.
+    /// Makes a branch of rows, none of which is empty.
     pub(crate) fn of_rows(rows: Vec<Row<K, V>>) -> Branch<K, V>
         requires { AreFilled rows.items }
         ensures { result ≡ joined rows.items }
@@ -43,7 +43,7 @@ impl<K, V> Branch<K, V> {
         Branch { rows }
     }
 
-    /// The rows, none of which is empty.
+    /// Returns the rows, none of which is empty.
     pub(crate) fn rows(&self) -> &[Row<K, V>]
         ensures entries { joined result.now ≡ self.now }
         ensures filled { AreFilled result.now }
@@ -51,7 +51,7 @@ impl<K, V> Branch<K, V> {
         self.rows.as_slice()
     }
 
-    /// Whether the first key is above a key.
+    /// Returns whether the first key is above a key.
     pub(crate) fn begins_after(&self, key: &K) -> bool
     where
         K: Ord,
@@ -63,7 +63,7 @@ impl<K, V> Branch<K, V> {
         }
     }
 
-    /// The value of a key. Whatever `near` is, the answer is the same.
+    /// Returns the value of a key. `near` has no effect on the result.
     pub(crate) fn get_near(&self, key: &K, near: usize) -> Option<&V>
     where
         K: Ord,
@@ -76,7 +76,7 @@ impl<K, V> Branch<K, V> {
         }
     }
 
-    /// The value of a key, to be changed. Whatever `near` is, the answer is the same.
+    /// Returns the value of a key, to be changed. `near` has no effect on the result.
     pub(crate) fn get_mut_near(&mut self, key: &K, near: usize) -> Option<&mut V>
     where
         K: Ord,
@@ -90,7 +90,7 @@ impl<K, V> Branch<K, V> {
         }
     }
 
-    /// Sets the value of a key, and answers the one before.
+    /// Sets the value of a key, and returns the one before.
     pub(crate) fn insert(
         &mut self,
         alloc: Global,
@@ -116,7 +116,7 @@ impl<K, V> Branch<K, V> {
         }
     }
 
-    /// Removes a key, and answers its value.
+    /// Removes a key, and returns its value.
     pub(crate) fn remove(&mut self, key: &K) -> Option<V>
     where
         K: Ord + Drop,
@@ -134,14 +134,15 @@ impl<K, V> Branch<K, V> {
         }
     }
 
-    /// How many rows there are.
+    /// Returns how many rows there are.
     pub(crate) fn len(&self) -> usize
         ensures { (result ≡ 0) ↔ (self.now ≡ []) }
     {
         self.rows.len()
     }
 
-    /// Keeps some rows, and gives those behind them as a branch of their own, where there are so many; without memory all stay.
+    /// Keeps the rows before `at`, and returns those from there on as a branch of their own. Err: one of the two would
+    /// be empty, or an allocation failed; all rows stay.
     pub(crate) fn split_off(&mut self, at: usize) -> Result<Branch<K, V>, AllocError>
         ensures ok { IfOk result (λ rest. self.new ++ rest ≡ self.old) }
         ensures kept { OnOk result (0 < length self.new) }

@@ -1,4 +1,4 @@
-//! Branches of rows, whose entries in turn are those of a map.
+//! Branches of rows, whose entries together are those of a map.
 ghost use Rattle.std.specs.Prelude.{◌≡◌, ◌<◌, ◌+◌, ◌++◌, ◌∷◌, [], length, slice_index_or, IsTrue, None, IfOk, IfErr, OnOk, OnErr};
 ghost use Rattle.std.specs.List.{remove};
 ghost use Rattle.std.specs.Map.{lookup, remove_entry};
@@ -11,13 +11,13 @@ use crate::rows::FULL;
 use std::alloc::{AllocError, AllocFailed, Global};
 use std::mem::replace;
 
-/// How many rows of a full branch stay in it where it is split between others.
+/// How many rows stay in a full branch that is split between others.
 const HALF_BRANCH: usize = FULL_BRANCH / 2;
 
 /// How many entries are in a full branch of full rows.
 pub(crate) const BRANCH_ENTRIES: usize = FULL_BRANCH * FULL;
 
-/// Whether the key is in a branch if in any.
+/// Returns whether the key is in this branch if it is in any.
 fn is_branch_for<K: Ord, V>(branches: &[Branch<K, V>], key: &K, branch: usize) -> bool
     requires branch { branch < length branches.now }
     requires in_order { AreOrdered K.cmp branches.now }
@@ -32,8 +32,8 @@ fn is_branch_for<K: Ord, V>(branches: &[Branch<K, V>], key: &K, branch: usize) -
     branches[branch + 1].begins_after(key)
 }
 
-/// The branch in which the key is or would stand: the last that begins at or before it, or else the first. Looks first at one that is
-/// told, where that is not the first.
+/// Returns the branch in which the key is or belongs: the last that begins at or before it, or else the first. If
+/// `near` is not the first one, it looks there first.
 pub(crate) fn branch_for<K: Ord, V>(branches: &[Branch<K, V>], key: &K, near: usize) -> usize
     requires { AreOrdered K.cmp branches.now }
     ensures { IsRowFor K.cmp key.now branches.now result }
@@ -56,8 +56,8 @@ pub(crate) fn branch_for<K: Ord, V>(branches: &[Branch<K, V>], key: &K, near: us
     low
 }
 
-/// Splits a branch that is longer than a full one; without memory it stays as it is. The last one keeps all rows that it takes, so that
-/// rising keys fill the branches.
+/// Splits a branch that is longer than a full one; if an allocation fails, it stays as it is. The last one keeps its
+/// first `FULL_BRANCH` rows, so that rising keys fill the branches.
 fn split_long_branch<K: Drop, V: Drop>(branches: &mut Vec<Branch<K, V>>, branch: usize)
     requires branch { branch < length branches.old.items }
     requires filled { AreFilled branches.old.items }
@@ -96,7 +96,7 @@ fn split_branch<K: Drop, V: Drop>(
     Ok(())
 }
 
-/// Sets the value of a key in the branch that is for it, and answers the one before.
+/// Sets the value of a key in its branch, and returns the one before.
 fn insert_in_branch<K: Ord + Drop, V: Drop>(
     alloc: Global,
     branches: &mut Vec<Branch<K, V>>,
@@ -118,7 +118,7 @@ fn insert_in_branch<K: Ord + Drop, V: Drop>(
     branches[branch].insert(alloc, key, value)
 }
 
-/// Sets the value of a key, and answers the one before.
+/// Sets the value of a key, and returns the one before.
 pub(crate) fn insert_in<K: Ord + Drop, V: Drop>(
     alloc: Global,
     branches: &mut Vec<Branch<K, V>>,
@@ -140,7 +140,7 @@ pub(crate) fn insert_in<K: Ord + Drop, V: Drop>(
     Ok(old)
 }
 
-/// Takes a branch out.
+/// Removes a branch.
 fn drop_branch<K: Drop, V: Drop>(branches: &mut Vec<Branch<K, V>>, branch: usize)
     requires { branch < length branches.old.items }
     ensures { branches.new.items ≡ remove branches.old.items branch }
@@ -151,7 +151,7 @@ fn drop_branch<K: Drop, V: Drop>(branches: &mut Vec<Branch<K, V>>, branch: usize
     }
 }
 
-/// Removes a key, and answers its value. A branch goes with its last entry.
+/// Removes a key, and returns its value. A branch is removed with its last entry.
 pub(crate) fn remove_in<K: Ord + Drop, V: Drop>(
     branches: &mut Vec<Branch<K, V>>,
     key: &K,
@@ -172,7 +172,8 @@ pub(crate) fn remove_in<K: Ord + Drop, V: Drop>(
     value
 }
 
-/// The branch of a row that is split in two. Err where no memory is found or a part is empty; the row is then as it was.
+/// Splits a row in two, and makes a branch of both. Err: an allocation failed or a part is empty, and the row has not
+/// changed.
 pub(crate) fn branches_of_row<K: Drop, V: Drop>(
     alloc: Global,
     row: &mut Row<K, V>,
@@ -193,7 +194,7 @@ pub(crate) fn branches_of_row<K: Drop, V: Drop>(
     Ok(branches)
 }
 
-/// The branches of rows in order: full ones, but for the last. The list gives back its memory as they take theirs.
+/// Makes branches of rows in order: full ones, except the last. The list frees its memory while they allocate theirs.
 pub(crate) fn branches_of<K: Drop, V: Drop>(
     alloc: Global,
     rows: Vec<Row<K, V>>,
@@ -202,7 +203,7 @@ pub(crate) fn branches_of<K: Drop, V: Drop>(
     ensures same { IfOk result (λ branches. joined branches.items ≡ joined rows.items) }
     ensures filled { IfOk result (λ branches. AreFilled branches.items) }
 {
-    // From the last one on, so that what is left has its place.
+    // From the last one on, so that the rows that are left keep their places.
     let mut branches = Vec::with_capacity(alloc, rows.len().div_ceil(FULL_BRANCH))?;
     let mut left = Branch::of_rows(rows);
     'rows: while left.len() > FULL_BRANCH {

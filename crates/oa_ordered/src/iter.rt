@@ -1,4 +1,4 @@
-//! The entries of a map, one after another.
+//! Iterating over the entries of a map.
 ghost use Rattle.std.specs.Prelude.{◌≡◌, ◌<◌, ◌++◌, length};
 ghost use Rattle.std.specs.Iterator.{at_most};
 ghost use Rattle.std.specs.Map.Iter.{TakesFirst, deref_pair};
@@ -9,7 +9,7 @@ use crate::row::Row;
 use std::iter::{ExactSizeIterator, Iterator};
 use std::marker::Model;
 
-/// The entries of a map in the order of the keys; those that are left.
+/// The entries of a map that are left, in the order of their keys.
 #[derive(Drop)]
 pub struct Iter<'a, K, V> {
     entries: &'a [(K, V)],
@@ -31,7 +31,7 @@ impl<'a, K, V> Model for Iter<'a, K, V> {
 }
 
 impl<'a, K, V> Iter<'a, K, V> {
-    /// Those of entries, and then those of branches, so many together.
+    /// Makes an iterator over entries and then over those of branches, `count` in all.
     pub(crate) fn new(
         entries: &'a [(K, V)],
         branches: &'a [Branch<K, V>],
@@ -50,7 +50,7 @@ impl<'a, K, V> Iter<'a, K, V> {
     }
 }
 
-/// The first of rows and of those of branches, with the others.
+/// Returns the first of the rows, or of the next branch, and what is left.
 fn next_row<'a, K, V>(
     rows: &'a [Row<K, V>],
     branches: &'a [Branch<K, V>],

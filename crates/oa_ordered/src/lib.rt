@@ -1,9 +1,10 @@
-//! A map that is kept in the order of its keys, and as dense as its entries.
+//! A map in the order of its keys, in nearly as much memory as its entries need.
 //!
-//! Its contract: `OrderedMap` is the list of its entries, whose keys rise, and its calls do to the list what those of std's `BTreeMap` do
-//! to theirs; what is refused for want of memory is handed back, and nothing changes.
+//! Contract: an `OrderedMap` is the list of its entries, whose keys rise. Its calls change the list as those of std's
+//! `BTreeMap` change theirs. If an allocation fails, the arguments are returned, and nothing changes.
 //!
-//! What stands on it: oa_table keeps objects and cells in it, oa_share its clients; oa_image makes such maps of what a store has.
+//! Used by oa_table for objects and cells, by oa_share for its clients, and by oa_image, which makes such maps from a
+//! store.
 #![tactic(auto)]
 
 mod branch;

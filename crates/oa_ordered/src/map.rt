@@ -1,5 +1,5 @@
 //! The map.
-ghost use Rattle.std.specs.Prelude.{◌≡◌, ◌^◌, ◌<◌, ◌-◌, [], length, false, IsTrue, None, IfOk, IfErr, OnOk, OnErr, option_copied};
+ghost use Rattle.std.specs.Prelude.{◌≡◌, ◌^◌, ◌<◌, ◌≤◌, ◌-◌, [], length, false, IsTrue, None, IfOk, IfErr, OnOk, OnErr, option_copied};
 ghost use Rattle.std.specs.Option.{option_copied_mut};
 ghost use Rattle.std.specs.Borrow.{sem};
 ghost use Rattle.std.specs.Map.{keys_of, lookup, remove_entry};
@@ -14,15 +14,16 @@ use std::alloc::{AllocError, AllocFailed, Global};
 use std::iter::IntoIterator;
 use std::marker::Model;
 
-/// How many entries a map has at most.
+/// The greatest number of entries of a map.
 const MOST: usize = usize::MAX / 2;
 
-/// A map that is kept in the order of its keys.
+/// A map in the order of its keys.
 ///
-/// Its entries lie in rows of up to 64, each an allocation of its own with few places to spare, and the rows in branches of up to 128; a row
-/// or a branch that finds no memory to be split gets longer. A look-up halves the branches, then one of them and then a row of it; a new entry
-/// moves those behind it in its row, and where that is split the rows behind it in its branch. Up to 64 entries stand in one row, which
-/// lies in the map itself. An insert looks behind the last entry first.
+/// Its entries are in rows of up to 64, each an allocation of its own with little unused space, and the rows in
+/// branches of up to 128. A row or a branch that cannot be split, for want of memory, gets longer. A look-up bisects
+/// the branches, then the rows of one, then the entries of one row. An insertion moves the entries after it in its
+/// row, and the rows after it in its branch if the row is split. Up to 64 entries are in one row, which is in the map
+/// itself. An insertion looks after the last entry first.
 #[derive(Drop)]
 pub struct OrderedMap<K: Ord, V> {
     alloc: Global,
@@ -44,7 +45,7 @@ impl<K: Ord, V> Model for OrderedMap<K, V> {
 impl<K: Ord, V> OrderedMap<K, V> {
     ghost use Rattle.oa_ordered.specs.Lends.{lends_get};
 
-    /// A map without entries. Takes no memory.
+    /// Makes a map without entries. Allocates nothing.
     pub fn new(alloc: Global) -> OrderedMap<K, V>
         ensures { result ≡ [] }
     {
@@ -55,8 +56,8 @@ impl<K: Ord, V> OrderedMap<K, V> {
         }
     }
 
-    /// The map of entries whose keys rise. It takes memory as the list gives its own back, and has no place to spare. Err where no memory
-    /// is found.
+    /// Makes the map of entries whose keys rise. It allocates while the list frees its memory, and leaves no unused
+    /// space. Err: an allocation failed.
     pub fn from_sorted(alloc: Global, entries: Vec<(K, V)>) -> Result<OrderedMap<K, V>, AllocError>
     where
         K: Drop,
@@ -72,7 +73,7 @@ impl<K: Ord, V> OrderedMap<K, V> {
         Ok(OrderedMap { alloc, root, len })
     }
 
-    /// How many entries there are.
+    /// Returns how many entries there are.
     pub fn len(&self) -> usize
         ensures len { result ≡ length self.now }
         ensures small { result < 2 ^ 63 }
@@ -81,15 +82,15 @@ impl<K: Ord, V> OrderedMap<K, V> {
         self.len
     }
 
-    /// The value of a key.
+    /// Returns the value of a key.
     pub fn get(&self, key: &K) -> Option<&V>
         ensures { option_copied result ≡ lookup (is_at (K.cmp key.now)) self.now }
     {
         self.get_near(key, 0)
     }
 
-    /// The value of a key. Whatever `near` is, the answer is the same; it is quick where so many keys are below this one and rising keys
-    /// were inserted and none removed.
+    /// Returns the value of a key. `near` has no effect on the result. The look-up is fast if `near` keys are below
+    /// this one, and keys were inserted in rising order and never removed.
     pub fn get_near(&self, key: &K, near: usize) -> Option<&V>
         ensures { option_copied result ≡ lookup (is_at (K.cmp key.now)) self.now }
     {
@@ -108,7 +109,7 @@ impl<K: Ord, V> OrderedMap<K, V> {
         }
     }
 
-    /// The value of a key, to be changed.
+    /// Returns the value of a key, to be changed.
     pub fn get_mut(&mut self, key: &K) -> Option<&mut V>
         ensures* writes_back { sem 𝓛 (lends_get K.row V.row K.Ord self.entry key.now result) }
         ensures value { option_copied_mut result ≡ lookup (is_at (K.cmp key.now)) self.old }
@@ -116,7 +117,8 @@ impl<K: Ord, V> OrderedMap<K, V> {
         self.get_mut_near(key, 0)
     }
 
-    /// The value of a key, to be changed. Whatever `near` is, the answer is the same; it is quick where it is for `get_near`.
+    /// Returns the value of a key, to be changed. `near` has no effect on the result; it makes the look-up fast as in
+    /// `get_near`.
     pub fn get_mut_near(&mut self, key: &K, near: usize) -> Option<&mut V>
         ensures* writes_back { sem 𝓛 (lends_get K.row V.row K.Ord self.entry key.now result) }
         ensures value { option_copied_mut result ≡ lookup (is_at (K.cmp key.now)) self.old }
@@ -136,8 +138,8 @@ impl<K: Ord, V> OrderedMap<K, V> {
         }
     }
 
-    /// Sets the value of a key, and answers the one before. A key that is there stays, and the new one is dropped. Where no memory is
-    /// found, both are handed back and nothing changes.
+    /// Sets the value of a key, and returns the one before. An equal key that is in the map stays, and the new one is
+    /// dropped. Err: an allocation failed; key and value are returned, and nothing changes.
     pub fn insert(&mut self, key: K, value: V) -> Result<Option<V>, AllocFailed<(K, V)>>
     where
         K: Drop,
@@ -160,10 +162,11 @@ impl<K: Ord, V> OrderedMap<K, V> {
         Ok(old)
     }
 
-    /// Whether the key is there, or is not one too many.
+    /// Returns whether the key is in the map, or can be added within the greatest number of entries.
     fn has_room_for(&self, key: &K) -> bool
         ensures room { IsTrue result → lookup (is_at (K.cmp key.now)) self.now ≡ None → length self.now < 2 ^ 63 - 1 }
         ensures none { result ≡ false → lookup (is_at (K.cmp key.now)) self.now ≡ None }
+        ensures full { result ≡ false → 2 ^ 63 - 1 ≤ length self.now }
     {
         if self.len < MOST {
             return true;
@@ -171,7 +174,7 @@ impl<K: Ord, V> OrderedMap<K, V> {
         self.get(key).is_some()
     }
 
-    /// Removes a key, and answers its value.
+    /// Removes a key, and returns its value.
     pub fn remove(&mut self, key: &K) -> Option<V>
     where
         K: Drop,
@@ -184,7 +187,7 @@ impl<K: Ord, V> OrderedMap<K, V> {
         Some(value)
     }
 
-    /// The entries in the order of their keys. Takes no memory.
+    /// Returns the entries in the order of their keys. Allocates nothing.
     pub fn iter(&self) -> Iter<'_, K, V>
         ensures rest { result ≡ self.now }
         ensures ordered { IsStrictlySortedBy K.cmp (keys_of self.now) }

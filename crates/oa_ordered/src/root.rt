@@ -1,4 +1,4 @@
-//! What the entries of a map lie in.
+//! The rows or branches of a map.
 ghost use Rattle.std.specs.Prelude.{◌≡◌, ◌<◌, ◌≤◌, [], None, IfOk, IfErr, OnOk, OnErr};
 ghost use Rattle.std.specs.Map.{lookup, remove_entry};
 ghost use Rattle.std.specs.BTreeMap.{insert_entry, is_at};
@@ -12,7 +12,8 @@ use crate::rows::{FULL, HALF, rows_of};
 use std::alloc::{AllocError, AllocFailed, Global};
 use std::mem::replace;
 
-/// The entries of a map: in one row, or in branches of rows. Once they lie in branches they stay there until all are removed.
+/// The entries of a map: in one row, or in branches of rows. Once they are in branches, they stay there until all are
+/// removed.
 #[derive(Drop)]
 pub(crate) enum Root<K, V> {
     One(Row<K, V>),
@@ -20,7 +21,7 @@ pub(crate) enum Root<K, V> {
 }
 
 impl<K, V> Root<K, V> {
-    /// The root of entries in order, with no place to spare.
+    /// Makes the root of entries in order, without unused space.
     pub(crate) fn of_entries(alloc: Global, entries: Vec<(K, V)>) -> Result<Root<K, V>, AllocError>
     where
         K: Drop,
@@ -36,7 +37,7 @@ impl<K, V> Root<K, V> {
         Ok(Root::Many(branches))
     }
 
-    /// Sets the value of a key, and answers the one before.
+    /// Sets the value of a key, and returns the one before.
     pub(crate) fn insert(
         &mut self,
         alloc: Global,
@@ -77,7 +78,8 @@ impl<K, V> Root<K, V> {
         }
     }
 
-    /// Splits the one row in a branch of two where it is longer than a full one; without memory it stays as it is.
+    /// Splits the one row into a branch of two if it is longer than a full one; if an allocation fails, it stays as
+    /// it is.
     fn split_long_row(&mut self, alloc: Global, keep: usize)
     where
         K: Drop,
@@ -100,7 +102,7 @@ impl<K, V> Root<K, V> {
         *self = Root::Many(branches);
     }
 
-    /// Removes a key, and answers its value.
+    /// Removes a key, and returns its value.
     pub(crate) fn remove(&mut self, key: &K) -> Option<V>
     where
         K: Ord + Drop,

@@ -9,7 +9,7 @@ use std::alloc::{AllocError, AllocFailed, Global};
 use std::cmp::Ordering;
 use std::marker::Model;
 
-/// Entries that stand next to each other in the order of their keys.
+/// Entries that are adjacent in the order of their keys.
 #[derive(Drop)]
 pub(crate) struct Row<K, V> {
     entries: Vec<(K, V)>,
@@ -23,7 +23,8 @@ impl<K, V> Model for Row<K, V> {
     ghost view = { λ r. r.entries.items };
 }
 
-/// Makes room for one more item. A full vector grows by an eighth of its length, so that few places are spare, and a full row has none.
+/// Reserves space for one more item. A full vector grows by an eighth of its length, so little is unused, and in a
+/// full row nothing.
 pub(crate) fn make_room<T>(items: &mut Vec<T>) -> Result<(), AllocError>
     ensures items { items.new.items ≡ items.old.items }
     ensures room { OnOk result (vec_len items.new < vec_capacity items.new) }
@@ -35,7 +36,7 @@ pub(crate) fn make_room<T>(items: &mut Vec<T>) -> Result<(), AllocError>
     items.reserve_exact(len / 8 + 1)
 }
 
-/// Where the key is among entries in order, or where it would stand.
+/// Returns the place of the key among entries in order, or the place at which to insert it.
 pub(crate) fn place_in<K: Ord, V>(entries: &[(K, V)], key: &K) -> Result<usize, usize>
     requires { IsOrdered K.cmp entries.now }
     ensures found { IfOk result (λ at. IsFoundIn K.cmp key.now entries.now at) }
@@ -54,7 +55,7 @@ pub(crate) fn place_in<K: Ord, V>(entries: &[(K, V)], key: &K) -> Result<usize, 
     Err(low)
 }
 
-/// Where the key is among entries in order, or where it would stand. Looks first at a place.
+/// Returns the place of the key among entries in order, or the place at which to insert it. Looks at `near` first.
 pub(crate) fn place_in_near<K: Ord, V>(
     entries: &[(K, V)],
     key: &K,
@@ -72,7 +73,8 @@ pub(crate) fn place_in_near<K: Ord, V>(
     place_in(entries, key)
 }
 
-/// Where the key is among entries in order, or where it would stand. Looks behind the last one first.
+/// Returns the place of the key among entries in order, or the place at which to insert it. Looks after the last one
+/// first.
 pub(crate) fn place_to_insert<K: Ord, V>(entries: &[(K, V)], key: &K) -> Result<usize, usize>
     requires { IsOrdered K.cmp entries.now }
     ensures found { IfOk result (λ at. IsFoundIn K.cmp key.now entries.now at) }
@@ -90,7 +92,7 @@ pub(crate) fn place_to_insert<K: Ord, V>(entries: &[(K, V)], key: &K) -> Result<
 impl<K, V> Row<K, V> {
     ghost use Rattle.oa_ordered.specs.Lending.{lends_value};
 
-    /// A row without entries. Takes no memory.
+    /// Makes a row without entries. Allocates nothing.
     pub(crate) fn new(alloc: Global) -> Row<K, V>
         ensures { result ≡ [] }
     {
@@ -99,7 +101,7 @@ impl<K, V> Row<K, V> {
         }
     }
 
-    /// A row without entries, and with room for so many where that is found.
+    /// Makes a row without entries, with space for `many` if the allocation succeeds.
     pub(crate) fn with_room(alloc: Global, many: usize) -> Row<K, V>
         ensures { result ≡ [] }
     {
@@ -109,7 +111,7 @@ impl<K, V> Row<K, V> {
         }
     }
 
-    /// The row of these entries, with no place to spare.
+    /// Makes a row of these entries, without unused space.
     pub(crate) fn of_entries(entries: Vec<(K, V)>) -> Row<K, V>
         ensures { result ≡ entries.items }
     {
@@ -130,7 +132,7 @@ impl<K, V> Row<K, V> {
         self.entries.as_slice()
     }
 
-    /// Whether the first key is above a key.
+    /// Returns whether the first key is above a key.
     pub(crate) fn begins_after(&self, key: &K) -> bool
     where
         K: Ord,
@@ -142,7 +144,7 @@ impl<K, V> Row<K, V> {
         }
     }
 
-    /// The value at a place, to be changed.
+    /// Returns the value at a place, to be changed.
     pub(crate) fn value_mut(&mut self, at: usize) -> &mut V
         requires { at < length self.old }
         ensures* writes_back { sem 𝓛 (lends_value K.row V.row self.entry at result) }
@@ -151,7 +153,7 @@ impl<K, V> Row<K, V> {
         &mut self.entries[at].1
     }
 
-    /// Puts an entry at a place, before those from there on.
+    /// Inserts an entry at a place, before those from there on.
     pub(crate) fn insert(&mut self, at: usize, entry: (K, V)) -> Result<(), AllocFailed<(K, V)>>
         requires { at ≤ length self.old }
         ensures ok { OnOk result (self.new ≡ insert self.old at entry) }
@@ -164,7 +166,7 @@ impl<K, V> Row<K, V> {
         self.entries.insert(at, entry)
     }
 
-    /// Takes the entry at a place out.
+    /// Removes the entry at a place.
     pub(crate) fn remove(&mut self, at: usize) -> (K, V)
         requires { at < length self.old }
         ensures entry { result ≡ slice_index_or self.old at result }
@@ -177,7 +179,7 @@ impl<K, V> Row<K, V> {
         entry
     }
 
-    /// Keeps the entries before a place, and gives those from there on as a row of their own.
+    /// Keeps the entries before a place, and returns those from there on as a row of their own.
     pub(crate) fn split_off(&mut self, at: usize) -> Result<Row<K, V>, AllocError>
         requires { at ≤ length self.old }
         ensures ok { IfOk result (λ rest. rest ≡ drop at self.old) }

@@ -1,4 +1,4 @@
-//! Rows, whose entries in turn are those of a map.
+//! Rows, whose entries together are those of a map.
 ghost use Rattle.std.specs.Prelude.{◌≡◌, ◌<◌, ◌≤◌, ◌++◌, ◌∷◌, [], take, drop, suc, length, slice_index_or, false, IsTrue, IfOk, IfErr, OnOk, OnErr};
 ghost use Rattle.std.specs.List.{remove};
 ghost use Rattle.oa_ordered.specs.Rows.{AreFilled, AreOrdered, IsFound, IsFoundIn, IsGap, IsGapIn, IsOrdered, IsRowFor, after, before, from, joined};
@@ -7,14 +7,15 @@ use crate::row::{Row, make_room, place_in, place_to_insert};
 use std::alloc::{AllocError, AllocFailed, Global};
 use std::cmp::Ordering;
 
-/// How many entries a row takes before it is split.
+/// How many entries a row has before it is split.
 pub(crate) const FULL: usize = 64;
 
-/// How many entries of a full row stay in it where it is split.
+/// How many entries stay in a full row that is split.
 pub(crate) const HALF: usize = FULL / 2;
 
-/// Behind so many rows one is begun with room for a full one: they are full where keys rise, so that at most an eighth is spare. One that grew
-/// by eighths, while the values of its entries are made, would leave a hole at each step.
+/// After this many rows, a new one is allocated in full length at once. If keys rise, such rows get full, so at most
+/// an eighth is unused. A row that grew by eighths, between the allocations of its values, would leave a hole at each
+/// step.
 const MANY: usize = 8;
 
 /// A place in rows: the row, and the place in it.
@@ -24,7 +25,7 @@ pub(crate) struct Place {
     pub(crate) at: usize,
 }
 
-/// The row in which the key is or would stand: the last that begins at or before it, or else the first.
+/// Returns the row in which the key is or belongs: the last that begins at or before it, or else the first.
 fn row_for<K: Ord, V>(rows: &[Row<K, V>], key: &K) -> usize
     requires { AreOrdered K.cmp rows.now }
     ensures { IsRowFor K.cmp key.now rows.now result }
@@ -42,7 +43,7 @@ fn row_for<K: Ord, V>(rows: &[Row<K, V>], key: &K) -> usize
     low
 }
 
-/// The row in which the key is or would stand. Looks first at the last one.
+/// Returns the row in which the key is or belongs. Looks at the last one first.
 fn row_to_insert<K: Ord, V>(rows: &[Row<K, V>], key: &K) -> usize
     requires { AreOrdered K.cmp rows.now }
     ensures { IsRowFor K.cmp key.now rows.now result }
@@ -56,7 +57,7 @@ fn row_to_insert<K: Ord, V>(rows: &[Row<K, V>], key: &K) -> usize
     row_for(rows, key)
 }
 
-/// Where a search begins: with halves, or behind the last entry, where new keys often stand.
+/// Where a search begins: by bisection, or after the last entry, where new keys often belong.
 #[derive(Clone, Copy)]
 pub(crate) enum Search {
     Halves,
@@ -64,7 +65,7 @@ pub(crate) enum Search {
 }
 
 impl Search {
-    /// The row in which the key is or would stand.
+    /// Returns the row in which the key is or belongs.
     fn row<K: Ord, V>(self, rows: &[Row<K, V>], key: &K) -> usize
         requires { AreOrdered K.cmp rows.now }
         ensures { IsRowFor K.cmp key.now rows.now result }
@@ -75,7 +76,7 @@ impl Search {
         }
     }
 
-    /// Where the key is among entries in order, or where it would stand.
+    /// Returns the place of the key among entries in order, or the place at which to insert it.
     fn place<K: Ord, V>(self, entries: &[(K, V)], key: &K) -> Result<usize, usize>
         requires { IsOrdered K.cmp entries.now }
         ensures found { IfOk result (λ at. IsFoundIn K.cmp key.now entries.now at) }
@@ -88,7 +89,7 @@ impl Search {
     }
 }
 
-/// Where the key is, or where it would stand.
+/// Returns the place of the key, or the place at which to insert it.
 pub(crate) fn place_of<K: Ord, V>(
     rows: &[Row<K, V>],
     key: &K,
@@ -108,7 +109,8 @@ pub(crate) fn place_of<K: Ord, V>(
     }
 }
 
-/// Where the key is, or where it would stand. Looks first where the entry stands before which there are so many in full rows.
+/// Returns the place of the key, or the place at which to insert it. Looks first at the entry that has `near` entries
+/// before it if all rows are full.
 pub(crate) fn place_near<K: Ord, V>(
     rows: &[Row<K, V>],
     key: &K,
@@ -131,7 +133,7 @@ pub(crate) fn place_near<K: Ord, V>(
     place_of(rows, key, Search::Halves)
 }
 
-/// Adds a row of one entry behind the others.
+/// Appends a row with one entry.
 fn begin_row<K: Drop, V: Drop>(
     alloc: Global,
     rows: &mut Vec<Row<K, V>>,
@@ -167,7 +169,7 @@ fn split<K: Drop, V: Drop>(rows: &mut Vec<Row<K, V>>, row: usize) -> Result<(), 
     Ok(())
 }
 
-/// Puts an entry at a place of a row.
+/// Inserts an entry at a place of a row.
 fn insert_free<K: Drop, V: Drop>(
     rows: &mut Vec<Row<K, V>>,
     place: Place,
@@ -185,7 +187,7 @@ fn insert_free<K: Drop, V: Drop>(
     rows[place.row].insert(place.at, entry)
 }
 
-/// Splits a row that is longer than a full one; without memory it stays as it is.
+/// Splits a row that is longer than a full one; if an allocation fails, it stays as it is.
 fn split_long<K: Drop, V: Drop>(rows: &mut Vec<Row<K, V>>, row: usize)
     requires row { row < length rows.old.items }
     requires filled { AreFilled rows.old.items }
@@ -200,7 +202,7 @@ fn split_long<K: Drop, V: Drop>(rows: &mut Vec<Row<K, V>>, row: usize)
     };
 }
 
-/// Whether a place is behind all entries, where no row is or the last one is full.
+/// Returns whether a place is after all entries, and there is no row or the last one is full.
 #[tactic(auto, using(crate::proofs::Joined::nothing_past_rows, crate::proofs::Joined::nothing_past_last))]
 fn is_past_full<K, V>(rows: &[Row<K, V>], place: Place) -> bool
     requires row { place.row ≤ length rows.now }
@@ -213,8 +215,8 @@ fn is_past_full<K, V>(rows: &[Row<K, V>], place: Place) -> bool
     place.row + 1 == rows.len() && place.at >= FULL && place.at == rows[place.row].len()
 }
 
-/// Puts an entry at a place, before those from there on. Behind all others it begins a row where the last is full, so that rising keys
-/// fill the rows.
+/// Inserts an entry at a place, before those from there on. After all others it begins a row if the last one is full,
+/// so that rising keys fill the rows.
 pub(crate) fn insert_at<K: Drop, V: Drop>(
     alloc: Global,
     rows: &mut Vec<Row<K, V>>,
@@ -238,7 +240,7 @@ pub(crate) fn insert_at<K: Drop, V: Drop>(
     Ok(())
 }
 
-/// The rows of entries in order: full ones, but for the last. The list gives back its memory as they take theirs.
+/// Makes rows of entries in order: full ones, except the last. The list frees its memory while they allocate theirs.
 pub(crate) fn rows_of<K: Drop, V: Drop>(
     alloc: Global,
     entries: Vec<(K, V)>,
@@ -246,7 +248,7 @@ pub(crate) fn rows_of<K: Drop, V: Drop>(
     ensures same { IfOk result (λ rows. joined rows.items ≡ entries.items) }
     ensures filled { IfOk result (λ rows. AreFilled rows.items) }
 {
-    // From the last one on, so that what is left has its place.
+    // From the last one on, so that the entries that are left keep their places.
     let mut rows = Vec::with_capacity(alloc, entries.len().div_ceil(FULL))?;
     let mut left = Row::of_entries(entries);
     'rows: while left.len() > FULL {
@@ -260,7 +262,7 @@ pub(crate) fn rows_of<K: Drop, V: Drop>(
     Ok(rows)
 }
 
-/// Takes a row out.
+/// Removes a row.
 fn drop_row<K: Drop, V: Drop>(rows: &mut Vec<Row<K, V>>, row: usize)
     requires { row < length rows.old.items }
     ensures { rows.new.items ≡ remove rows.old.items row }
@@ -271,7 +273,7 @@ fn drop_row<K: Drop, V: Drop>(rows: &mut Vec<Row<K, V>>, row: usize)
     }
 }
 
-/// Takes the entry at a place out, and its row where that was the last one in it.
+/// Removes the entry at a place, and its row if that was the last one in it.
 pub(crate) fn remove_at<K: Drop, V: Drop>(rows: &mut Vec<Row<K, V>>, place: Place) -> (K, V)
     requires row { place.row < length rows.old.items }
     requires place { place.at < length (slice_index_or rows.old.items place.row []) }

@@ -1,22 +1,25 @@
 -- What is counted of locks, where one is taken, one is given back, or an event applies.
-use Rattle.std.proofs.Common.{rules, ◌≡◌, ℕ, suc, ◌<◌, ◌≤◌, length, zero, suc, ◌+◌, ◌-◌, ◌==◌, arith, Bool, true, false, true≢false, List, [], ◌∷◌, ◌++◌, map, Option, Some, None, Result, Ok, Err, refl, sym, ap, ◌∙◌, subst}
-use Rattle.std.specs.Prelude.{◌&&◌, ◌||◌, is_some, not, remove, nat_lt, nat_le, if◌then◌else◌, ℤ}
+use Rattle.std.proofs.Common.{◌≡◌, ℕ, suc, zero, suc, ◌+◌, ◌-◌, ◌==◌, arith, Bool, true, false, true≢false, List, [], ◌∷◌, ◌++◌, map, Option, Some, None, Result, Ok, Err, refl, sym, ap, ◌∙◌, subst}
+use Rattle.std.specs.Prelude.{◌&&◌, ◌||◌, not, nat_lt, nat_le, if◌then◌else◌, ℤ}
 use Rattle.std.specs.BTreeMap.{insert_entry, is_at}
-use Rattle.std.specs.Cmp.{IsEquivalence, unsigned_tied}
-use Rattle.std.specs.List.{list_any, position_or_len}
+use Rattle.std.specs.Cmp.{unsigned_tied}
+use Rattle.std.specs.List.{list_any}
 use Rattle.std.specs.List.Sorted.{IsStrictlySortedBy}
 use Rattle.std.specs.Map.{keys_of, remove_entry, values_of}
-use Rattle.std.specs.Ordering.{is_eq, nat_cmp}
-use Rattle.std.proofs.lemmas.Bool.{and_parts, eq-eqb, eqb-true, lt-ltb, ltb-true}
-use Rattle.std.proofs.lemmas.Cmp.{and_equiv, eq_by_cmp_equiv, nat_cmp_total, nat_eq_equiv, on_equiv}
+use Rattle.std.specs.Ordering.{is_eq, match_ordering, nat_cmp, ordering_then}
+use Rattle.std.specs.declared.cmp.Ordering.{Ordering}
+use Rattle.std.specs.declared.cmp.Ordering.TheVariants.{Less, Equal, Greater}
+use Rattle.std.proofs.lemmas.Bool.{and_parts, eq-eqb, eqb-true}
+use Rattle.std.proofs.lemmas.Cmp.{eq_by_cmp_equiv, nat_cmp_total}
 use Rattle.std.proofs.lemmas.Map.{keys-set_value, lookup-remove_entry}
 use Rattle.std.proofs.lemmas.Map.Keys.{IsDistinct-from_sorted}
 use Rattle.oa_model.specs.Limits.{greatest_object_number, max_cell_locks, max_cells}
 use Rattle.oa_model.specs.declared.bound.Bound.{Bound}
-use Rattle.oa_owners.specs.ClientLocks.{cells_of, is_cell, is_lock_of, of_others, owns, without, without_one}
-use Rattle.oa_owners.specs.declared.owners.ClientLock.{ClientLock}
+use Rattle.oa_owners.proofs.CellOrder.{cell_laws, is_equal}
+use Rattle.oa_owners.specs.ClientLocks.{ClientLock, cell_cmp, cells_of, is_cell, is_lock_of, lock_cmp, of_others, owns, with_one, without_first, without_one}
 use Rattle.oa_owners.specs.Counts.{HasLocks, count_in, name_of}
-use Rattle.oa_owners.proofs.Finding.{found_put, found_set, same_found, sorted_put, sorted_removed}
+use Rattle.std.proofs.lemmas.Map.Steps.{set_value_same}
+use Rattle.oa_owners.proofs.Finding.{found_again, found_put, found_set, same_found, set_twice, sorted_put, sorted_removed}
 use Rattle.oa_array.specs.Arrays.{redimensioned, with_cell, with_first, with_locks}
 use Rattle.oa_array.specs.Boxes.{box_size}
 use Rattle.oa_array.specs.Within.{in_bounds}
@@ -48,10 +51,6 @@ count_first name other names = refl
 pub count_none : (name : CellName) → count_in name [] ≡ 0
 unfolding count_in
 count_none name = refl
-
--- whether two names are those of one cell, as an equality
-cell_laws : IsEquivalence is_cell
-cell_laws = and_equiv (on_equiv (λ (n : CellName). n.object) nat_eq_equiv) (on_equiv (λ (n : CellName). n.place) (eq_by_cmp_equiv places_total))
 
 pub itself : (name : CellName) → is_cell name name ≡ true
 itself name = cell_laws.refl name
@@ -273,6 +272,43 @@ can_unlock name names old has = by (object_at name.object old) refl some
     by (Some object) found has_object =
         let one = on_object_found object has_object in (with_object name.object old one.0, ap (λ (due : Result ObjectValue TableFault). mapped (with_object name.object old) due) one.1)
 
+-- a lock that was taken and is given back has changed nothing
+value_back : (old new : Variant) → locked_value old ≡ Ok new → released_value new ≡ Ok old
+value_back (One s) new e = absurd cc
+value_back (AnArray a) new e = by (a.locks == max_cell_locks) e
+  where
+    fewer : (n : ℕ) → (n + 1) - 1 ≡ n
+    fewer n = omega arith
+
+    some : (n : ℕ) (b : Bool) → (n + 1 == 0) ≡ b → b ≡ false
+    some n true e = absurd (omega (arith, eqb-true (n + 1) 0 e))
+    some n false e = refl
+
+    given : released_value (AnArray (with_locks a (a.locks + 1))) ≡ Ok (AnArray a)
+    given =
+        ap (λ (b : Bool). if b then Err (Array arrays.Unexpected) else Ok (AnArray (with_locks a ((a.locks + 1) - 1)))) (some a.locks (a.locks + 1 == 0) refl)
+        ∙ ap (λ (n : ℕ). Ok (AnArray (with_locks a n))) (fewer a.locks)
+
+    by : (b : Bool) → (if b then Err (Array arrays.Unexpected) else Ok (AnArray (with_locks a (a.locks + 1)))) ≡ Ok new → released_value new ≡ Ok (AnArray a)
+    by true is = absurd cc
+    by false is = ap released_value (sym (same_ok _ _ is)) ∙ given
+
+object_back : (place : PlaceValue) (object new : ObjectValue) → with_change place locked_value object ≡ Ok new → with_change place released_value new ≡ Ok object
+object_back place object new e =
+    let on = made_in place locked_value object new e in
+    ap (λ (o : ObjectValue). with_change place released_value o) on.is
+    ∙ ap (λ (o : Option Variant). changed_if_put place released_value (with_value place object on.mid) o) (found_again (is_at (place_cmp place)) object.cells on.old on.mid on.found)
+    ∙ ap (λ (r : Result Variant TableFault). mapped (with_value place (with_value place object on.mid)) r) (value_back on.old on.mid on.makes)
+    ∙ ap (λ (cells : List (PlaceValue × Variant)). Ok (record object { cells = cells })) (set_twice (is_at (place_cmp place)) object.cells on.mid on.old ∙ set_value_same (is_at (place_cmp place)) object.cells on.old on.found)
+
+pub lock_back : (name : CellName) (table new : TableValue) → with_lock name table ≡ Ok new → without_lock name new ≡ Ok table
+lock_back name table new e =
+    let on = made_on name.object (with_change name.place locked_value) table new e in
+    ap (λ (t : TableValue). on_object name.object (with_change name.place released_value) t) on.is
+    ∙ ap (λ (o : Option ObjectValue). changed_if_live name.object (with_change name.place released_value) (with_object name.object table on.mid) o) (found_again (is_at (nat_cmp name.object)) table.objects on.old on.mid on.found)
+    ∙ ap (λ (r : Result ObjectValue TableFault). mapped (with_object name.object (with_object name.object table on.mid)) r) (object_back name.place on.old on.mid on.makes)
+    ∙ ap (λ (objects : List (ℕ × ObjectValue)). Ok (record table { objects = objects })) (set_twice (is_at (nat_cmp name.object)) table.objects on.mid on.old ∙ set_value_same (is_at (nat_cmp name.object)) table.objects on.old on.found)
+
 -- ---- events
 put_stays : (name : CellName) (value : Variant) (old new : TableValue) → locks_of value ≡ 0 → on_object name.object (with_put name.place value) old ≡ Ok new → (other : CellName) → locks_at other new ≡ locks_at other old
 put_stays name value old new none e other =
@@ -404,11 +440,28 @@ count_split name (x ∷ front) back = omega (arith, count_first name x (front ++
 pub has_same : (one two : List CellName) (table : TableValue) → ((name : CellName) → count_in name one ≡ count_in name two) → HasLocks one table → HasLocks two table
 has_same one two table same has name = has name ∙ same name
 
--- a lock that is noted last
-pub count_last : (name : CellName) (locks : List ClientLock) (lock : ClientLock) → count_in name (lock.name ∷ map name_of locks) ≡ count_in name (map name_of (locks ++ lock ∷ []))
-count_last name [] lock = refl
-count_last name (x ∷ locks) lock =
-    omega (arith, count_first name lock.name (x.name ∷ map name_of locks), count_first name x.name (map name_of locks), count_first name x.name (map name_of (locks ++ lock ∷ [])), count_last name locks lock, count_first name lock.name (map name_of locks))
+-- one lock more
+pub count_more_of : (name : CellName) (locks : List ClientLock) (client : ℕ) (own : CellName) → count_in name (own ∷ map name_of locks) ≡ count_in name (map name_of (with_one client own locks))
+count_more_of name [] client own = refl
+count_more_of name (x ∷ locks) client own = by (lock_cmp new x) refl (count_more_of name locks client own)
+  where
+    new : ClientLock
+    new = record { client = client; name = own }
+
+    same_cell : (o p : Ordering) → ordering_then o p ≡ Equal → is_eq p ≡ true
+    same_cell Less p e = absurd cc
+    same_cell Equal p e = ap is_eq e
+    same_cell Greater p e = absurd cc
+
+    by : (o : Ordering) → lock_cmp new x ≡ o → count_in name (own ∷ map name_of locks) ≡ count_in name (map name_of (with_one client own locks))
+        → count_in name (own ∷ x.name ∷ map name_of locks) ≡ count_in name (map name_of (match_ordering o (new ∷ x ∷ locks) (x ∷ x ∷ locks) (x ∷ with_one client own locks)))
+    by Less e rest = refl
+    by Equal e rest =
+        let one : is_cell own x.name ≡ true = sym (is_equal own x.name) ∙ same_cell (nat_cmp client x.client) (cell_cmp own x.name) e in
+        count_first name own (x.name ∷ map name_of locks) ∙ ap (λ (b : Bool). one_if b + count_in name (x.name ∷ map name_of locks)) (same_cells own x.name name one)
+        ∙ sym (count_first name x.name (x.name ∷ map name_of locks))
+    by Greater e rest =
+        omega (arith, count_first name own (x.name ∷ map name_of locks), count_first name x.name (map name_of locks), count_first name x.name (map name_of (with_one client own locks)), rest, count_first name own (map name_of locks))
 
 -- those of a client, and of others
 pub count_owned : (name : CellName) (client : ℕ) (locks : List ClientLock) → count_in name (map name_of locks) ≡ count_in name (cells_of client locks ++ map name_of (of_others client locks))
@@ -430,88 +483,25 @@ count_owned name client (lock ∷ locks) = by (lock.client == client) (count_own
           rest,
         )
 
--- the first that passes is left out
-abbrev drop_one : (ClientLock → Bool) → List ClientLock → List ClientLock
-drop_one p [] = []
-drop_one p (x ∷ xs) = if p x then xs else x ∷ drop_one p xs
-
-place_first : (p : ClientLock → Bool) (x : ClientLock) (xs : List ClientLock) (b : Bool) → p x ≡ b → position_or_len p (x ∷ xs) ≡ (if b then 0 else suc (position_or_len p xs))
-place_first p x xs true e = rw e refl
-place_first p x xs false e = ap (λ (c : Bool). if not c then 1 + position_or_len p xs else 0) e ∙ later (position_or_len p xs)
-  where
-    later : (n : ℕ) → 1 + n ≡ suc n
-    later n = omega arith
-
-removed_at : (p : ClientLock → Bool) (xs : List ClientLock) → position_or_len p xs < length xs → remove xs (position_or_len p xs) ≡ drop_one p xs
-removed_at p [] within = absurd (omega (arith, within))
-removed_at p (x ∷ xs) within = by (p x) refl (removed_at p xs)
-  where
-    by : (b : Bool) → p x ≡ b → (position_or_len p xs < length xs → remove xs (position_or_len p xs) ≡ drop_one p xs) → remove (x ∷ xs) (position_or_len p (x ∷ xs)) ≡ (if b then xs else x ∷ drop_one p xs)
-    by true e rest = ap (λ (n : ℕ). remove (x ∷ xs) n) (place_first p x xs true e)
-    by false e rest = ap (λ (n : ℕ). remove (x ∷ xs) n) (place_first p x xs false e) ∙ ap (λ (l : List ClientLock). x ∷ l) (rest (omega (arith, within, place_first p x xs false e)))
-
--- whether the client has a lock of the cell
-stands : (client : ℕ) (name : CellName) (locks : List ClientLock) → owns client name locks ≡ true → position_or_len (is_lock_of client name) locks < length locks
-stands client name locks is = by (nat_lt (position_or_len (is_lock_of client name) locks) (length locks)) refl is
-  where
-    by : (b : Bool) → nat_lt (position_or_len (is_lock_of client name) locks) (length locks) ≡ b → is_some (if b then Some (position_or_len (is_lock_of client name) locks) else None) ≡ true
-        → position_or_len (is_lock_of client name) locks < length locks
-    by true e some = ltb-true (position_or_len (is_lock_of client name) locks) (length locks) e
-    by false e some = absurd (true≢false (sym some))
-
-without_is : (client : ℕ) (name : CellName) (locks : List ClientLock) → owns client name locks ≡ true → without_one client name locks ≡ drop_one (is_lock_of client name) locks
-without_is client name locks is =
-    let within = stands client name locks is in
-    ap (λ (b : Bool). without (if b then Some (position_or_len (is_lock_of client name) locks) else None) locks) (lt-ltb (position_or_len (is_lock_of client name) locks) (length locks) within)
-    ∙ removed_at (is_lock_of client name) locks within
-
+-- one lock fewer
 pub count_without : (other : CellName) (client : ℕ) (name : CellName) (locks : List ClientLock) → owns client name locks ≡ true → count_in other (map name_of locks) ≡ count_in other (name ∷ map name_of (without_one client name locks))
-count_without other client name locks is = dropped locks (stands client name locks is) ∙ sym (ap (λ (l : List ClientLock). count_in other (name ∷ map name_of l)) (without_is client name locks is))
+count_without other client name [] is = absurd (true≢false (sym is))
+count_without other client name (x ∷ xs) is = by (is_lock_of client name x) refl is (count_without other client name xs)
   where
-    step : (x : ClientLock) (xs : List ClientLock) → position_or_len (is_lock_of client name) (x ∷ xs) < length (x ∷ xs)
-        → (position_or_len (is_lock_of client name) xs < length xs → count_in other (map name_of xs) ≡ count_in other (name ∷ map name_of (drop_one (is_lock_of client name) xs)))
-        → (b : Bool) → is_lock_of client name x ≡ b → count_in other (x.name ∷ map name_of xs) ≡ count_in other (name ∷ map name_of (if b then xs else x ∷ drop_one (is_lock_of client name) xs))
-    step x xs within rest true e =
+    by : (b : Bool) → is_lock_of client name x ≡ b → (b || owns client name xs) ≡ true → (owns client name xs ≡ true → count_in other (map name_of xs) ≡ count_in other (name ∷ map name_of (without_one client name xs)))
+        → count_in other (x.name ∷ map name_of xs) ≡ count_in other (name ∷ map name_of (if b then xs else x ∷ without_one client name xs))
+    by true e now rest =
         let one : is_cell x.name name ≡ true = (and_parts (x.client == client) (is_cell x.name name) e).1 in
         count_first other x.name (map name_of xs) ∙ ap (λ (b : Bool). one_if b + count_in other (map name_of xs)) (same_cells x.name name other one) ∙ sym (count_first other name (map name_of xs))
-    step x xs within rest false e =
+    by false e now rest =
         omega (
           arith,
           count_first other x.name (map name_of xs),
-          rest (omega (arith, within, place_first (is_lock_of client name) x xs false e)),
-          count_first other name (map name_of (drop_one (is_lock_of client name) xs)),
-          count_first other name (x.name ∷ map name_of (drop_one (is_lock_of client name) xs)),
-          count_first other x.name (map name_of (drop_one (is_lock_of client name) xs)),
+          rest now,
+          count_first other name (map name_of (without_one client name xs)),
+          count_first other name (x.name ∷ map name_of (without_one client name xs)),
+          count_first other x.name (map name_of (without_one client name xs)),
         )
-
-    dropped : (xs : List ClientLock) → position_or_len (is_lock_of client name) xs < length xs → count_in other (map name_of xs) ≡ count_in other (name ∷ map name_of (drop_one (is_lock_of client name) xs))
-    dropped [] within = absurd (omega (arith, within))
-    dropped (x ∷ xs) within = step x xs within (dropped xs) (is_lock_of client name x) refl
-
--- where there is one client alone
-pub count_of_none : (client : ℕ) (name : CellName) (locks : List ClientLock) → of_others client locks ≡ [] → owns client name locks ≡ false → count_in name (map name_of locks) ≡ 0
-count_of_none client name locks alone none = by locks alone (nowhere (nat_lt (position_or_len (is_lock_of client name) locks) (length locks)) refl none)
-  where
-    nowhere : (b : Bool) → nat_lt (position_or_len (is_lock_of client name) locks) (length locks) ≡ b → is_some (if b then Some (position_or_len (is_lock_of client name) locks) else None) ≡ false
-        → length locks ≤ position_or_len (is_lock_of client name) locks
-    nowhere true e some = absurd (true≢false some)
-    nowhere false e some = by_false e
-      where
-        by_false : nat_lt (position_or_len (is_lock_of client name) locks) (length locks) ≡ false → length locks ≤ position_or_len (is_lock_of client name) locks
-        by_false f = search (f, rules)
-
-    step : (x : ClientLock) (xs : List ClientLock) → length (x ∷ xs) ≤ position_or_len (is_lock_of client name) (x ∷ xs) → (of_others client xs ≡ [] → length xs ≤ position_or_len (is_lock_of client name) xs → count_in name (map name_of xs) ≡ 0)
-        → (own : Bool) → (x.client == client) ≡ own → (if not own then x ∷ of_others client xs else of_others client xs) ≡ [] → (b : Bool) → is_cell x.name name ≡ b → count_in name (x.name ∷ map name_of xs) ≡ 0
-    step x xs past rest false own is b e = absurd cc
-    step x xs past rest true own is true e =
-        let here : is_lock_of client name x ≡ true = ap (λ (c : Bool). c && is_cell x.name name) own ∙ e in absurd (omega (arith, past, place_first (is_lock_of client name) x xs true here))
-    step x xs past rest true own is false e =
-        let no_lock : is_lock_of client name x ≡ false = ap (λ (c : Bool). c && is_cell x.name name) own ∙ e in
-        omega (arith, count_first name x.name (map name_of xs), ap one_if e, rest is (omega (arith, past, place_first (is_lock_of client name) x xs false no_lock)))
-
-    by : (xs : List ClientLock) → of_others client xs ≡ [] → length xs ≤ position_or_len (is_lock_of client name) xs → count_in name (map name_of xs) ≡ 0
-    by [] own past = count_none name
-    by (x ∷ xs) own past = step x xs past (by xs) (x.client == client) refl own (is_cell x.name name) refl
 
 -- ---- where there is one client alone
 own_head : (client : ℕ) (x : ClientLock) (xs : List ClientLock) → of_others client (x ∷ xs) ≡ [] → ((x.client == client) ≡ true) × (of_others client xs ≡ [])
@@ -524,17 +514,36 @@ own_head client x xs own = by (x.client == client) refl own
 own_more : (client : ℕ) (x : ClientLock) (xs : List ClientLock) → (x.client == client) ≡ true → of_others client xs ≡ [] → of_others client (x ∷ xs) ≡ []
 own_more client x xs e own = ap (λ (b : Bool). if not b then x ∷ of_others client xs else of_others client xs) e ∙ own
 
-pub own_last : (client : ℕ) (name : CellName) (locks : List ClientLock) → of_others client locks ≡ [] → of_others client (locks ++ record { client = client; name = name } ∷ []) ≡ []
-own_last client name [] own = own_more client (record { client = client; name = name }) [] (eq-eqb client client refl) refl
-own_last client name (x ∷ xs) own = let parts = own_head client x xs own in own_more client x (xs ++ record { client = client; name = name } ∷ []) parts.0 (own_last client name xs parts.1)
-
-own_dropped : (p : ClientLock → Bool) (client : ℕ) (locks : List ClientLock) → of_others client locks ≡ [] → of_others client (drop_one p locks) ≡ []
-own_dropped p client [] own = refl
-own_dropped p client (x ∷ xs) own = let parts = own_head client x xs own in by (p x) parts.1 (own_more client x (drop_one p xs) parts.0 (own_dropped p client xs parts.1))
+pub count_of_none : (client : ℕ) (name : CellName) (locks : List ClientLock) → of_others client locks ≡ [] → owns client name locks ≡ false → count_in name (map name_of locks) ≡ 0
+count_of_none client name [] alone none = count_none name
+count_of_none client name (x ∷ xs) alone none = by (is_cell x.name name) refl (ap (λ (b : Bool). (b && is_cell x.name name) || owns client name xs) (sym parts.0) ∙ none) (count_of_none client name xs parts.1)
   where
-    by : (b : Bool) → of_others client xs ≡ [] → of_others client (x ∷ drop_one p xs) ≡ [] → of_others client (if b then xs else x ∷ drop_one p xs) ≡ []
+    parts : ((x.client == client) ≡ true) × (of_others client xs ≡ [])
+    parts = own_head client x xs alone
+
+    by : (b : Bool) → is_cell x.name name ≡ b → (is_cell x.name name || owns client name xs) ≡ false → (owns client name xs ≡ false → count_in name (map name_of xs) ≡ 0) → count_in name (x.name ∷ map name_of xs) ≡ 0
+    by true e now rest = absurd (true≢false (ap (λ (c : Bool). c || owns client name xs) (sym e) ∙ now))
+    by false e now rest = omega (arith, count_first name x.name (map name_of xs), ap one_if e, rest (ap (λ (c : Bool). c || owns client name xs) (sym e) ∙ now))
+
+pub own_one_more : (client : ℕ) (name : CellName) (locks : List ClientLock) → of_others client locks ≡ [] → of_others client (with_one client name locks) ≡ []
+own_one_more client name [] own = own_more client (record { client = client; name = name }) [] (eq-eqb client client refl) refl
+own_one_more client name (x ∷ xs) own = let parts = own_head client x xs own in by (lock_cmp new x) parts (own_one_more client name xs parts.1)
+  where
+    new : ClientLock
+    new = record { client = client; name = name }
+
+    by : (o : Ordering) → ((x.client == client) ≡ true) × (of_others client xs ≡ []) → of_others client (with_one client name xs) ≡ [] → of_others client (match_ordering o (new ∷ x ∷ xs) (x ∷ x ∷ xs) (x ∷ with_one client name xs)) ≡ []
+    by Less parts rest = own_more client new (x ∷ xs) (eq-eqb client client refl) own
+    by Equal parts rest = own_more client x (x ∷ xs) parts.0 own
+    by Greater parts rest = own_more client x (with_one client name xs) parts.0 rest
+
+own_dropped : (p : ClientLock → Bool) (client : ℕ) (locks : List ClientLock) → of_others client locks ≡ [] → of_others client (without_first p locks) ≡ []
+own_dropped p client [] own = refl
+own_dropped p client (x ∷ xs) own = let parts = own_head client x xs own in by (p x) parts.1 (own_more client x (without_first p xs) parts.0 (own_dropped p client xs parts.1))
+  where
+    by : (b : Bool) → of_others client xs ≡ [] → of_others client (x ∷ without_first p xs) ≡ [] → of_others client (if b then xs else x ∷ without_first p xs) ≡ []
     by true one two = one
     by false one two = two
 
-pub own_without : (client : ℕ) (name : CellName) (locks : List ClientLock) → owns client name locks ≡ true → of_others client locks ≡ [] → of_others client (without_one client name locks) ≡ []
-own_without client name locks is own = ap (λ (l : List ClientLock). of_others client l) (without_is client name locks is) ∙ own_dropped (is_lock_of client name) client locks own
+pub own_without : (client : ℕ) (name : CellName) (locks : List ClientLock) → of_others client locks ≡ [] → of_others client (without_one client name locks) ≡ []
+own_without client name locks own = own_dropped (is_lock_of client name) client locks own

@@ -94,16 +94,42 @@ module _ {K X : Type 0} {R : K → K → Ordering} (total : IsTotalOrder R) wher
           on true same = ap (λ (b : Bool). cond b (Some e.1) (Some new)) (sym (alike total put key e.0 same) ∙ other)
           on false other' = refl
 
+-- ---- a value that is set twice, or back
+module _ {K X : Type 0} (test : K → Bool) where
+  pub found_again : (es : List (K × X)) (old new : X) → lookup test es ≡ Some old → lookup test (set_value test es new) ≡ Some new
+  found_again [] old new found = absurd cc
+  found_again (e ∷ es) old new found = by (test e.0) refl found (found_again es old new)
+    where
+      by : (b : Bool) → test e.0 ≡ b → cond b (Some e.1) (lookup test es) ≡ Some old → (lookup test es ≡ Some old → lookup test (set_value test es new) ≡ Some new)
+          → lookup test (cond b ((e.0, new) ∷ es) (e ∷ set_value test es new)) ≡ Some new
+      by true is now rest = ap (λ (b : Bool). cond b (Some new) (lookup test es)) is
+      by false is now rest = ap (λ (b : Bool). cond b (Some e.1) (lookup test (set_value test es new))) is ∙ rest now
+
+  pub set_twice : (es : List (K × X)) (one two : X) → set_value test (set_value test es one) two ≡ set_value test es two
+  set_twice [] one two = refl
+  set_twice (e ∷ es) one two = by (test e.0) refl (set_twice es one two)
+    where
+      by : (b : Bool) → test e.0 ≡ b → set_value test (set_value test es one) two ≡ set_value test es two
+          → set_value test (cond b ((e.0, one) ∷ es) (e ∷ set_value test es one)) two ≡ cond b ((e.0, two) ∷ es) (e ∷ set_value test es two)
+      by true is rest = ap (λ (b : Bool). cond b ((e.0, two) ∷ es) ((e.0, one) ∷ set_value test es two)) is
+      by false is rest =
+          ap (λ (b : Bool). cond b ((e.0, two) ∷ set_value test es one) (e ∷ set_value test (set_value test es one) two)) is ∙ ap (λ (l : List (K × X)). e ∷ l) rest
+
 -- ---- keys in order
 module _ {K : Type 0} {R : K → K → Ordering} (total : IsTotalOrder R) where
-  abbrev Above : K → List K → Type 0
+  abbrev pub Above : K → List K → Type 0
   Above k keys = AllByRecursion (λ y. R k y ≡ Less) keys
 
-  above_all : (one two : K) (keys : List K) → R one two ≡ Less → Above two keys → Above one keys
+  pub above_all : (one two : K) (keys : List K) → R one two ≡ Less → Above two keys → Above one keys
   above_all one two [] less all = all
   above_all one two (key ∷ keys) less all = (total.trans one two key less all.0, above_all one two keys less all.1)
 
 module _ {K X : Type 0} {R : K → K → Ordering} (total : IsTotalOrder R) where
+  -- a key below all others is none of them
+  pub none_above : (key : K) (es : List (K × X)) → Above total key (keys_of es) → lookup (is_at (R key)) es ≡ None
+  none_above key [] all = refl
+  none_above key (e ∷ es) all = ap (λ (o : Ordering). cond (is_eq o) (Some e.1) (lookup (is_at (R key)) es)) all.0 ∙ none_above key es all.1
+
   above_removed : (test : K → Bool) (k : K) (es : List (K × X)) → Above total k (keys_of es) → Above total k (keys_of (remove_entry test es))
   above_removed test k [] all = all
   above_removed test k (e ∷ es) all = by (test e.0) (above_removed test k es all.1)

@@ -1,2 +1,5 @@
 pub mod Finding
+mod CellOrder
+mod InClient
+mod InClients
 pub mod Counted

@@ -1,2 +1,3 @@
 pub mod ClientLocks
+pub mod Kept
 pub mod Counts

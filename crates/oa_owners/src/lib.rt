@@ -1,11 +1,15 @@
-//! Whose lock is whose.
+//! The owners of locks.
 //!
-//! Its contract: `Owners` is the list of the locks that clients have taken, each with its owner; a client can give back a lock that it has, and
-//! its end lets go of all of its own.
+//! Contract: `Owners` is the list of all locks, each with its client, in the order of the clients and then of the
+//! cells. A client can release a lock that it has, and its end releases all of its locks.
 //!
-//! What stands on it: the turns of many clients in oa_server.
+//! Used by oa_server for the turns of many clients.
 #![tactic(auto)]
 
+mod cells;
+mod key;
 mod owners;
 
-pub use owners::{ClientLock, Owners};
+pub use cells::ClientCells;
+pub use key::CellKey;
+pub use owners::Owners;

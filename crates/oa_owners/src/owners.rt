@@ -1,111 +1,125 @@
 //! Locks with their owners.
-ghost use Rattle.std.specs.Prelude.{◌≡◌, ◌∷◌, ◌++◌, ◌==◌, [], List, OnErr, OnOk, not, position};
-ghost use Rattle.oa_owners.specs.ClientLocks.{is_cell, is_lock_of, of_others, owns, without_one};
-ghost use Rattle.oa_owners.specs.declared.owners.ClientLock.{ClientLock as ALock};
+ghost use Rattle.std.specs.Prelude.{◌≡◌, [], IfErr, OnErr, OnOk, map};
+ghost use Rattle.oa_owners.specs.ClientLocks.{cells_of, of_others, owns, with_one, without_one};
+ghost use Rattle.oa_owners.specs.Counts.{name_of};
+ghost use Rattle.oa_owners.specs.Kept.{all_cells};
 
-use oa_table::CellName;
-use std::alloc::{AllocError, Global};
-use std::cmp::Ordering;
+use crate::{CellKey, ClientCells};
+use oa_ordered::{Iter, OrderedMap};
+use std::alloc::Global;
 use std::marker::Model;
 
-/// A lock of the array in a cell, and the client that has taken it.
-#[derive(Drop)]
-pub struct ClientLock {
-    /// The client's number.
-    pub client: u32,
-    /// The cell.
-    pub name: CellName,
-}
-
-/// The locks that clients have taken, in the order in which they took them.
+/// The locks of all clients, in the order of the clients and then of the cells.
+///
+/// A client has one entry, with one entry for each cell that it has locked and the number of its locks. Look-ups take
+/// logarithmic time. A client's entry stays until its end.
 #[derive(Drop)]
 pub struct Owners {
-    locks: Vec<ClientLock>,
+    alloc: Global,
+    clients: OrderedMap<u32, ClientCells>,
 }
 
 impl Model for Owners {
     ghost use Rattle.std.specs.Prelude.{List};
-    ghost use Rattle.oa_owners.specs.declared.owners.ClientLock.{ClientLock};
+    ghost use Rattle.oa_owners.specs.ClientLocks.{ClientLock};
+    ghost use Rattle.oa_owners.specs.Kept.{all_locks};
 
     ghost Value = { List ClientLock };
 
-    ghost view = { λ o. o.locks.items };
+    ghost view = { λ o. all_locks o.clients };
 }
 
 impl Owners {
-    /// No locks. Takes no memory.
+    /// Makes a list without locks. Allocates nothing.
     pub fn new(alloc: Global) -> Owners
         ensures { result ≡ [] }
     {
         Owners {
-            locks: Vec::new(alloc),
+            alloc,
+            clients: OrderedMap::new(alloc),
         }
     }
 
-    /// The locks.
-    pub fn locks(&self) -> &[ClientLock]
-        ensures { result.now ≡ self.now }
+    /// Returns the clients by rising number, each with the cells that it has locked. (The clause states which cells,
+    /// each as often as it is locked.) Allocates nothing.
+    pub fn clients(&self) -> Iter<'_, u32, ClientCells>
+        ensures { all_cells result ≡ map name_of self.now }
     {
-        &self.locks
+        self.clients.iter()
     }
 
-    /// The client takes a lock of this cell. Err where memory is refused; then nothing changes.
-    pub fn add(&mut self, client: u32, name: CellName) -> Result<(), AllocError>
-        ensures added { OnOk result (self.new ≡ self.old ++ record { client = client; name = name } ∷ []) }
+    /// Adds a lock of the client on this cell. It allocates only for the client's first lock of the cell. Err: the
+    /// allocation failed; the key is returned, and nothing changed.
+    pub fn add(&mut self, client: u32, cell: CellKey) -> Result<(), CellKey>
+        ensures added { OnOk result (self.new ≡ with_one client cell self.old) }
+        ensures back { IfErr result (λ back. back ≡ cell) }
         ensures err { OnErr result (self.new ≡ self.old) }
     {
-        self.locks.push(ClientLock { client, name })?;
-        Ok(())
-    }
-
-    /// Takes the lock back that was added last.
-    pub fn drop_last(&mut self)
-        ensures { (locks : List ALock) (lock : ALock) → self.old ≡ locks ++ lock ∷ [] → self.new ≡ locks }
-    {
-        let _last = self.locks.pop();
-    }
-
-    /// Whether the client has a lock of this cell.
-    pub fn owns(&self, client: u32, name: &CellName) -> bool
-        ensures { result ≡ owns client name.now self.now }
-    {
-        place_of(&self.locks, client, name).is_some()
-    }
-
-    /// The client gives one lock of this cell back, the oldest that it has. Where it has none nothing changes.
-    pub fn take_one(&mut self, client: u32, name: &CellName)
-        ensures { self.new ≡ without_one client name.now self.old }
-    {
-        if let Some(place) = place_of(&self.locks, client, name) {
-            let _lock = self.locks.remove(place);
+        if self.begin(client) {
+            return self.add_to(client, cell);
         }
+        Err(cell)
     }
 
-    /// The client ends: all of its locks go.
-    pub fn take_all(&mut self, client: u32)
-        ensures { self.new ≡ of_others client self.old }
+    /// Finds or makes the entry of a client. Returns false if the allocation failed.
+    fn begin(&mut self, client: u32) -> bool
+        ensures { self.new ≡ self.old }
     {
-        self.locks.retain(|lock| lock.client != client);
+        let None = self.clients.get(&client) else {
+            return true;
+        };
+        let cells = ClientCells::new(self.alloc);
+        self.clients.insert(client, cells).is_ok()
     }
-}
 
-/// Where the oldest lock of the client on this cell stands.
-fn place_of(locks: &[ClientLock], client: u32, name: &CellName) -> Option<usize>
-    ensures { result ≡ position (is_lock_of client name.now) locks.now }
-{
-    locks.iter().position(|lock| is_lock_of(lock, client, name))
-}
+    /// Adds a lock to the entry of a client; without an entry it returns the key.
+    fn add_to(&mut self, client: u32, cell: CellKey) -> Result<(), CellKey>
+        ensures added { OnOk result (self.new ≡ with_one client cell self.old) }
+        ensures back { IfErr result (λ back. back ≡ cell) }
+        ensures err { OnErr result (self.new ≡ self.old) }
+    {
+        // For the prover: the clause `ordered` of `len`.
+        let _count = self.clients.len();
+        let Some(cells) = self.clients.get_mut(&client) else {
+            return Err(cell);
+        };
+        cells.add(cell)
+    }
 
-/// Whether it is a lock of the client on this cell.
-fn is_lock_of(lock: &ClientLock, client: u32, name: &CellName) -> bool
-    ensures { result ≡ is_lock_of client name.now lock.now }
-{
-    lock.client == client && is_cell(&lock.name, name)
-}
+    /// Returns whether the client has a lock of this cell.
+    pub fn owns(&self, client: u32, cell: &CellKey) -> bool
+        ensures { result ≡ owns client cell.now self.now }
+    {
+        // For the prover: the clause `ordered` of `len`.
+        let _count = self.clients.len();
+        let Some(cells) = self.clients.get(&client) else {
+            return false;
+        };
+        cells.has(cell)
+    }
 
-/// Whether two names are those of one cell.
-fn is_cell(one: &CellName, two: &CellName) -> bool
-    ensures { result ≡ is_cell one.now two.now }
-{
-    one.object == two.object && one.place.cmp(&two.place) == Ordering::Equal
+    /// Releases one of the client's locks of this cell, if it has one.
+    pub fn take_one(&mut self, client: u32, cell: &CellKey)
+        ensures { self.new ≡ without_one client cell.now self.old }
+    {
+        // For the prover: the clause `ordered` of `len`.
+        let _count = self.clients.len();
+        let Some(cells) = self.clients.get_mut(&client) else {
+            return;
+        };
+        cells.take_one(cell);
+    }
+
+    /// Removes all locks of a client that ends, and returns them.
+    pub fn take_all(&mut self, client: u32) -> ClientCells
+        ensures others { self.new ≡ of_others client self.old }
+        ensures own { result ≡ cells_of client self.old }
+    {
+        // For the prover: the clause `ordered` of `len`.
+        let _count = self.clients.len();
+        let Some(cells) = self.clients.remove(&client) else {
+            return ClientCells::new(self.alloc);
+        };
+        cells
+    }
 }

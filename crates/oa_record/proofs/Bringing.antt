@@ -29,7 +29,7 @@ asks_value body head (Some field) (Some value) short read is = asks body _ _ sho
 asks_value body head None (Some value) short read is = absurd is
 asks_value body head (Some field) None short read is = absurd is
 
--- the same of what was read
+-- As above, for the decoded call.
 pub asks_read : (body : List ℕ) (head : CallHead) (field : Option (List ℕ)) (read : Option ValueCall) → length body ≤ max_request_bytes
     → whole layout_at body ≡ Some (Layout.CallBody Invoke (parts_bringing head field)) → IfSome read (λ call. (call.head ≡ head) × SpellsNew field call.value)
     → IfSome read (λ call. Asks body (ByCall Invoke (bringing call.head call.value)))

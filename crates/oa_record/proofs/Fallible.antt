@@ -1,4 +1,4 @@
--- A reading of values one after the other, where one of them fails.
+-- Decoding values one after another, if one of them fails.
 use Rattle.std.proofs.Common.{◌≡◌, ℕ, ◌-◌, ◌<◌, List, Option}
 use Rattle.oa_ndr.specs.Reading.{Cursor, Reading, many}
 use Rattle.oa_ndr.proofs.Loop.{with_front, many_ends}

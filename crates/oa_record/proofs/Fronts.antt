@@ -1,4 +1,4 @@
--- What stands before the lists of an INVOKE, read by its places.
+-- The fields of an INVOKE before its lists, read by their offsets.
 use Rattle.std.proofs.Common.{◌≡◌, ℕ, ◌+◌, ◌≤◌, ◌==◌, ◌&&◌, nat_le, nat_lt, Bool, true, false, true≢false, if◌then◌else◌, List, length, take, drop}
 use Rattle.std.proofs.Common.{Option, Some, None, refl, sym, ap, ◌∙◌, arith}
 use Rattle.std.proofs.lemmas.Bool.Decides.{nat_tests}
@@ -88,7 +88,7 @@ call_laid body front r s t call h invoke start moves read none =
     let behind : s ≡ place_of 64 body = ap (λ (p : List ℕ × Cursor). p.1) (same_inside (front, s) (take 64 body, place_of 64 body) first) in
     rw (laid body h invoke, ← behind, read, none) refl
 
--- the lists behind counts that were read
+-- The lists after the counts.
 pub lists_are : (body : List ℕ) (head : CallHead) (count named_count : ℕ) (s t : Cursor) (call : CallParts) → head ≡ head_in body
     → count ≡ number_in 4 56 body → named_count ≡ number_in 4 60 body → (nat_le count max_arguments && nat_le named_count max_arguments) ≡ true
     → lists_at head count named_count s ≡ Some (call, t) → lists_behind body s ≡ Some (call, t)

@@ -1,4 +1,4 @@
--- How many bytes are there where memory is taken: those of a head and its counts.
+-- The number of bytes that are there before an allocation: those of a head and its counts.
 use Rattle.std.proofs.Common.{◌≡◌, ℕ, ℤ, ◌+◌, ◌≤◌, List, length, Some, ap, arith}
 use Rattle.std.proofs.lemmas.List.{length-append}
 use Rattle.oa_ndr.specs.Forms.{◌▸◌, ignored, unit}
@@ -14,7 +14,7 @@ use Rattle.oa_record.specs.declared.fault.RecordFault.{RecordFault}
 use Rattle.oa_record.specs.declared.fault.RecordFault.TheVariants.{Stub, BadVarType, Memory}
 use Rattle.oa_record.proofs.LayoutLaws.{guid_reads, call_head_reads}
 
--- the stretches of a form have at least so many bytes
+-- The sequences of a form have at least this many bytes.
 abbrev HasAtLeast : ℕ → (ℕ → List ℕ → Type 0) → Type 0
 HasAtLeast n F = (place : ℕ) (bytes : List ℕ) → F place bytes → n ≤ length bytes
 
@@ -70,7 +70,7 @@ layout_length parts body form =
     let long : 4 + (2 + (2 + n)) ≤ length body = then_has 4 (2 + (2 + n)) (ignored_has 4) (then_has 2 (2 + n) (unit_has 2 _) (then_has 2 n (ignored_has 2) (fields_have parts))) 0 body form in
     omega (arith, long)
 
--- what is read is there
+-- Bytes that have been read are there.
 pub unit_there : (n : ℕ) (s t : Cursor) (x : ℕ) → unit_at n s ≡ Some (x, t) → n + length t.rest ≤ length s.rest
 unit_there n s t x e =
     let one = ((unit_reads n).takes s.position s.rest x t e).1 in
@@ -92,7 +92,7 @@ start_there body x n y s t u e f g =
     let a : 4 + length s.rest ≤ length body = unit_there 4 (at 0 body) s x e in
     omega (arith, a, unit_there 2 s t n f, unit_there 2 t u y g)
 
--- where they are there anyhow
+-- If they are there in any case.
 pub behind_anyhow : (n : ℕ) (e : RecordFault) (s : Cursor) → n ≤ length s.rest → FaultIsBehind n e s
 behind_anyhow n Stub s h = tt
 behind_anyhow n (BadVarType i) s h = tt

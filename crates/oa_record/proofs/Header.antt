@@ -1,4 +1,4 @@
--- The opcode of a body stands at the offset 4.
+-- The opcode of a body is at the offset 4.
 use Rattle.std.proofs.Common.{◌≡◌, ℕ, ◌+◌, ◌<◌, ◌≤◌, List, [], ◌∷◌, ◌++◌, length, drop, Some, ap, subst, sym, ◌∙◌, arith}
 use Rattle.std.proofs.lemmas.List.{drop_at, length-append}
 use Rattle.byteorder.specs.Endian.{little_number}
@@ -41,7 +41,7 @@ opcode_lies parts body form =
     header body form.front two.front two.back (opcode_number (opcode_of parts)) (0 + length form.front) (form.parts ∙ ap (λ (y : List ℕ). form.front ++ y) two.parts) len_a start two.first
     (omega (arith, ap length three.parts, length-append three.front three.back, len_c))
 
--- the same, as it is read
+-- The opcode of a body, as it is decoded.
 pub opcode_read : (body : List ℕ) (x n y : ℕ) (s t u : Cursor) → unit_at 4 (at 0 body) ≡ Some (x, s) → unit_at 2 s ≡ Some (n, t) → unit_at 2 t ≡ Some (y, u) → (8 ≤ length body) × (opcode_at body ≡ n)
 opcode_read body x n y s t u e f g =
     let one = ((unit_reads 4).takes 0 body x s e).1 in
@@ -55,7 +55,7 @@ opcode_read body x n y s t u e f g =
     header body one.text two.text t.rest n s.position (one.parts ∙ ap (λ (r : List ℕ). one.text ++ r) two.parts) len_a p two.form
     (omega (arith, ap length three.parts, length-append three.text u.rest, len_c))
 
--- so want of memory is that of a body
+-- A failed allocation is then that of a body.
 pub starves : (e : RecordFault) (body : List ℕ) (n : ℕ) (opcode : Opcode) (s : Cursor) → 8 + length s.rest ≤ length body → opcode_at body ≡ n → opcode_named n ≡ Some opcode → IsStarved e opcode s → IsStarvedBody e body
 starves Stub body n opcode s long at is h = tt
 starves (BadVarType i) body n opcode s long at is h = tt

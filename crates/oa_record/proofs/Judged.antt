@@ -89,7 +89,7 @@ sound_ends xs i d Stub lt h = broken_at xs i d lt h
 sound_ends xs i d (BadVarType index) lt h = absurd h
 sound_ends xs i d Memory lt h = tt
 
--- the fields behind a place
+-- The fields after a place.
 pub behind_is : (xs : List (Bor (List ℕ))) (n : ℕ) → map (λ (x : Bor (List ℕ)). x.now) (take (length xs - n) (drop n xs)) ≡ drop n (shown xs)
 behind_is xs n =
     let all : take (length xs - n) (drop n xs) ≡ drop n xs = take_all (length xs - n) (drop n xs) (omega (arith, length-drop n xs)) in

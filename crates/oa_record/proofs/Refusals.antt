@@ -10,7 +10,7 @@ use Rattle.oa_record.proofs.Requests.{one_layout}
 one_fault : (field : List ℕ) → SpellsNothing field faults.BadVarType → SpellsNothing field faults.BadStub → ⊥
 one_fault field a b = let e : faults.BadVarType ≡ faults.BadStub = sym a.fault ∙ b.fault in absurd cc
 
--- where the lowest bad type is named, no field is broken
+-- If the lowest bad type is reported, no field is broken.
 all_unbroken : (front back : List (List ℕ)) (field : List ℕ) → AllByRecursion IsSpelled front → SpellsNothing field faults.BadVarType → AllByRecursion IsUnbroken back → AllByRecursion IsUnbroken (front ++ field ∷ back)
 all_unbroken [] back field h bad rest = (one_fault field bad, rest)
 all_unbroken (f ∷ front) back field h bad rest = ((λ broken. broken.nothing h.0.0 h.0.1), all_unbroken front back field h.1 bad rest)

@@ -26,7 +26,7 @@ use Rattle.oa_record.proofs.OpcodeLaws.{named_back}
 use Rattle.oa_record.proofs.HeadLengths.{layout_length}
 use Rattle.oa_record.proofs.Header.{opcode_lies}
 
--- what spells a value, spells no other
+-- Bytes that encode a value encode no other one.
 abbrev pub OneValue : Type 0
 OneValue = (bytes : List ℕ) (v w : Variant) → Spells bytes v → Spells bytes w → v ≡ w
 
@@ -97,7 +97,7 @@ stub_asks_nothing body q (inr b) a = spoilt_asks_nothing _ body q b.parts b.brok
 pub bad_type_asks_nothing : (body : List ℕ) (index : Option ℕ) (q : Request) → IsBadVarType body index → Asks body q → ⊥
 bad_type_asks_nothing body index q b a = spoilt_asks_nothing _ body q b.parts b.bad.front b.bad.back b.bad.field b.lies b.bad.whole b.bad.bad a
 
--- ---- what reading a body answers
+-- ---- The result of decoding a body.
 
 no_layout : (body : List ℕ) → whole layout_at body ≡ None → HasNoLayout body
 no_layout body none parts lies = let some = whole_again layout_reads body parts tt lies.form in absurd (clash (whole layout_at body) none parts some)
@@ -115,7 +115,7 @@ no_parts body Stub short none s = inl (no_layout body none)
 no_parts body (BadVarType i) short none s = absurd none
 no_parts body Memory short none s = record { opcode = s.0; long = s.1; short = short }
 
--- what the values of a layout answer is the answer
+-- The result for the values of a layout is the result for the body.
 pub asks : (body : List ℕ) (parts : Layout) (q : Request) → length body ≤ max_request_bytes → whole layout_at body ≡ Some parts → TakesRequest parts q
     → Asks body q
 asks body parts q short read t = record { parts = parts; lies = lies_so body parts short read; values = t.values; spelled = t.spelled; is = t.is }
@@ -137,13 +137,13 @@ answered body parts (Err e) short read h = refuses body parts e short read h
 
 -- ---- the values of a layout
 
--- where the arguments are all values that there are
+-- If the arguments are the only values.
 pub refuses_call : (parts : Layout) (c : CallParts) (e : RecordFault) → variant_fields parts ≡ c.fields → ((place : ℕ) → field_index parts place ≡ Some place) → 0 < before_memory (opcode_of parts) → RefusesFields c.fields e → Requests parts (Err e)
 refuses_call parts c Stub fields place memory h = subst HasBroken (sym fields) h
 refuses_call parts c (BadVarType index) fields place memory h = record { place = h.0; bad = subst (λ (fs : List (List ℕ)). HasBadType fs h.0) (sym fields) h.2; named = h.1 ∙ sym (place h.0) }
 refuses_call parts c Memory fields place memory h = memory
 
--- the new value of an element behind the arguments
+-- The new value of an element, after the arguments.
 last_is : (values : List Variant) (v : Variant) (f : List Variant → Variant → Option Request) → with_last (values ++ v ∷ []) f ≡ f values v
 last_is [] v f = refl
 last_is (x ∷ []) v f = refl

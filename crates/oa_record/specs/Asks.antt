@@ -1,4 +1,4 @@
--- Which body asks which request, and the refusal of a body that asks none (this project's choice).
+-- Which request a body encodes, and which error a body that encodes none has (this project's choice).
 use Rattle.std.specs.Prelude.{◌≡◌, ◌⊎◌, ℕ, ◌+◌, ◌<◌, ◌≤◌, ◌==◌, nat_lt, if◌then◌else◌, List, [], ◌∷◌, ◌++◌, length}
 use Rattle.std.specs.Prelude.{Option, Some, None, Result, Ok, Err}
 use Rattle.std.specs.List.{AllByRecursion}
@@ -20,29 +20,29 @@ use Rattle.oa_record.specs.declared.request.Request.TheVariants.{PutElement, Red
 use Rattle.oa_record.specs.declared.fault.RecordFault.{RecordFault}
 use Rattle.oa_record.specs.declared.fault.RecordFault.TheVariants.{Stub, BadVarType, Memory}
 
--- the body is laid out so
+-- The body has at most `max_request_bytes` and the layout `parts`.
 pub record HasLayout (parts : Layout) (body : List ℕ) : Type 0 where
   pub short : length body ≤ max_request_bytes
   pub form : layout parts 0 body
 
--- each field spells its value
+-- The lists have the same length, and each field is an encoding of the value at its place.
 abbrev pub AllSpell : List (List ℕ) → List Variant → Type 0
 AllSpell [] [] = Unit {0}
 AllSpell (f ∷ fs) (v ∷ vs) = Spells f v × AllSpell fs vs
 AllSpell [] (v ∷ vs) = ⊥
 AllSpell (f ∷ fs) [] = ⊥
 
--- a call with the values of its arguments
+-- The call with these values as its arguments.
 abbrev pub call_of : CallParts → List Variant → Call
 call_of c values = record { head = c.head; named = c.named; arguments = values }
 
--- some values, the last one apart
+-- Splits off the last value and passes both parts to `f`; None for no values.
 abbrev pub with_last : List Variant → (List Variant → Variant → Option Request) → Option Request
 with_last [] f = None
 with_last (v ∷ []) f = f [] v
 with_last (v ∷ w ∷ ws) f = with_last (w ∷ ws) (λ values last. f (v ∷ values) last)
 
--- the request of a layout, with the values of its variant fields; None where there are too few
+-- The request of a layout whose variant fields have these values; None if a PUTELEM has no value.
 abbrev pub request_of : Layout → List Variant → Option Request
 request_of (Layout.CreateBody class) values = Some (Create class)
 request_of (Layout.NumberBody kind number) values = Some (ByNumber kind number)
@@ -55,7 +55,7 @@ request_of (Layout.PutElementBody put) values =
 request_of (Layout.RedimensionBody redim) values = Some (Redimension (call_of redim.call values) redim.bound)
 request_of (Layout.QueryBody query) values = Some (Query query)
 
--- the opcode of a request
+-- The opcode of a request.
 abbrev pub request_opcode : Request → Opcode
 request_opcode (Create class) = opcodes.Create
 request_opcode (ByNumber kind number) = opcodes.ByNumber kind
@@ -66,7 +66,8 @@ request_opcode (PutElement call indices value) = opcodes.PutElement
 request_opcode (Redimension call bound) = opcodes.Redimension
 request_opcode (Query query) = opcodes.Query query
 
--- the body asks this request
+-- The body encodes this request: it has some layout, whose variant fields encode some values, and these make the
+-- request.
 pub record Asks (body : List ℕ) (request : Request) : Type 0 where
   pub parts : Layout
   pub lies : HasLayout parts body
@@ -74,19 +75,20 @@ pub record Asks (body : List ℕ) (request : Request) : Type 0 where
   pub spelled : AllSpell (variant_fields parts) values
   pub is : request_of parts values ≡ Some request
 
--- a field that spells a value
+-- The field is an encoding of some value.
 abbrev pub IsSpelled : List ℕ → Type 0
 IsSpelled field = (v : Variant) × Spells field v
 
--- a field that spells none, with its fault
+-- The field is an encoding of no value, for the reason `why`.
 pub record SpellsNothing (field : List ℕ) (why : WireFault) : Type 0 where
   pub nothing : (v : Variant) → Spells field v → ⊥
   pub fault : field_fault field ≡ why
 
+-- The field is an encoding of some value, or has a type outside the profile.
 abbrev pub IsUnbroken : List ℕ → Type 0
 IsUnbroken field = SpellsNothing field faults.BadStub → ⊥
 
--- a broken field
+-- Some field is broken: bad stub data.
 pub record HasBroken (fields : List (List ℕ)) : Type 0 where
   pub front : List (List ℕ)
   pub field : List ℕ
@@ -94,7 +96,8 @@ pub record HasBroken (fields : List (List ℕ)) : Type 0 where
   pub whole : fields ≡ front ++ field ∷ back
   pub broken : SpellsNothing field faults.BadStub
 
--- the lowest index of a field whose type is none of a value, where no field is broken
+-- The field at `index` has a type outside the profile, all fields before it encode values, and no field after it is
+-- broken.
 pub record HasBadType (fields : List (List ℕ)) (index : ℕ) : Type 0 where
   pub front : List (List ℕ)
   pub field : List ℕ
@@ -105,21 +108,22 @@ pub record HasBadType (fields : List (List ℕ)) (index : ℕ) : Type 0 where
   pub bad : SpellsNothing field faults.BadVarType
   pub unbroken : AllByRecursion IsUnbroken back
 
--- the body has no layout
+-- The body has no layout.
 abbrev pub HasNoLayout : List ℕ → Type 0
 HasNoLayout body = (parts : Layout) → HasLayout parts body → ⊥
 
+-- The body has a layout, but some variant field is broken.
 pub record IsBroken (body : List ℕ) : Type 0 where
   pub parts : Layout
   pub lies : HasLayout parts body
   pub broken : HasBroken (variant_fields parts)
 
--- the body is refused as bad stub data: it has no layout, or some field of it is broken
+-- The body is refused as bad stub data: it has no layout, or some variant field is broken.
 abbrev pub IsStub : List ℕ → Type 0
 IsStub body = HasNoLayout body ⊎ IsBroken body
 
--- what a refusal calls the field of this place: its index in rgvarg; the new value of an element, which is no argument,
--- has none
+-- The index that a refusal reports for the field at this place: its index in rgvarg. The new value of an element is not
+-- an argument and has none.
 abbrev pub field_index : Layout → ℕ → Option ℕ
 field_index (Layout.CreateBody class) place = Some place
 field_index (Layout.NumberBody kind number) place = Some place
@@ -130,8 +134,8 @@ field_index (Layout.PutElementBody put) place = if place == length put.element.c
 field_index (Layout.RedimensionBody redim) place = Some place
 field_index (Layout.QueryBody query) place = Some place
 
--- the body is refused for the type of a value: it has a layout with no broken field, and this is the index of the first
--- field with a type of no value
+-- The body is refused as a bad type: it has a layout, no variant field is broken, and `index` is that of the first
+-- field with a type outside the profile.
 pub record IsBadVarType (body : List ℕ) (index : Option ℕ) : Type 0 where
   pub parts : Layout
   pub lies : HasLayout parts body
@@ -139,19 +143,20 @@ pub record IsBadVarType (body : List ℕ) (index : Option ℕ) : Type 0 where
   pub bad : HasBadType (variant_fields parts) place
   pub named : index ≡ field_index parts place
 
--- the tag of a body; 0 where it is too short for one
+-- The tag of a body; 0 if the body has fewer than 8 bytes.
 abbrev pub tag_at : List ℕ → ℕ
 tag_at body = if nat_lt (length body) 8 then 0 else little_number 4 body
 
--- The body is of an opcode whose bodies take memory to be read, and has the 8 bytes before the fields and those of the
--- fields behind which memory is taken: 56 in all of a look-up, 64 of a call. No other body is answered with want of
--- memory.
+-- The bodies for which decoding may run out of memory: the opcode needs memory, and the body contains the 8 bytes
+-- before the fields and the fields before the first allocation, which is 56 bytes in all for a look-up of names and 64
+-- for a call.
 pub record MayStarve (body : List ℕ) : Type 0 where
   pub opcode : 0 < opcode_before_memory (opcode_at body)
   pub long : 8 + opcode_before_memory (opcode_at body) ≤ length body
   pub short : length body ≤ max_request_bytes
 
--- what reading a body answers
+-- The result of decoding a body is right: the request that it encodes, the one error that it has, or `Memory` if its
+-- decoding may run out of memory.
 abbrev pub IsRequest : List ℕ → Result Request RecordFault → Type 0
 IsRequest body (Ok request) = Asks body request
 IsRequest body (Err Stub) = IsStub body

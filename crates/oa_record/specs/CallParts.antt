@@ -1,25 +1,25 @@
--- A call as its body has it: values stand as the bytes of their fields. (This project's choice.)
+-- A call as its body contains it, with its values still encoded. (This project's choice.)
 use Rattle.std.specs.Prelude.{ℤ, ℕ, List}
 use Rattle.oa_model.specs.declared.bound.Bound.{Bound}
 use Rattle.oa_record.specs.declared.request.CallHead.{CallHead}
 
--- a call, with the bytes of the arguments' fields
+-- The head of a call, the DISPIDs of its named arguments, and the bytes of its arguments' fields.
 pub record CallParts : Type 0 where
   pub head : CallHead
   pub named : List ℤ
   pub fields : List (List ℕ)
 
--- a call that names an array, and the index list of an element
+-- A call that names an array, and the indices of an element.
 pub record ElementParts : Type 0 where
   pub call : CallParts
   pub indices : List ℤ
 
--- the same, and the bytes of the element's new value
+-- A call that names an array, the indices of an element, and the bytes of the element's new value.
 pub record PutParts : Type 0 where
   pub element : ElementParts
   pub value : List ℕ
 
--- a call that names an array, and its new first listed bound
+-- A call that names an array, and its new first listed bound.
 pub record RedimParts : Type 0 where
   pub call : CallParts
   pub bound : Bound

@@ -1,7 +1,7 @@
--- How the fields of a request lie in its body (this project's choice). Opcodes with the same fields share a case of
--- `Layout`, `opcode_of`, `fields` and `variant_fields`. REPLACE LIBRARY has none: its text is borrowed (Replacement).
+-- The layout of a request in its body (this project's choice). Opcodes with the same fields share a case of `Layout`,
+-- `opcode_of`, `fields` and `variant_fields`. REPLACE LIBRARY has none: its text is borrowed (Replacement).
 --
--- In each body: a tag of 4 bytes, the opcode in 2, 2 reserved bytes, and from the offset 8 on the opcode's own fields,
+-- Each body is a tag of 4 bytes, the opcode in 2, 2 reserved bytes, and from the offset 8 on the opcode's own fields,
 -- which fill the body exactly.
 use Rattle.std.specs.Prelude.{◌≡◌, ℕ, ℤ, ◌≤◌, List, [], ◌∷◌, ◌++◌, length}
 use Rattle.std.specs.Int.{w32, cast_signed}
@@ -19,7 +19,7 @@ use Rattle.oa_record.specs.declared.opcode.Query.{Query}
 use Rattle.oa_record.specs.declared.request.CallHead.{CallHead}
 use Rattle.oa_record.specs.declared.request.GetIds.{GetIds}
 
--- the parts of a body, with the bytes of its variant fields
+-- The parts of a body, with the bytes of its variant fields.
 pub data Layout : Type 0 where
   CreateBody : (class : List ℕ) → Layout
   NumberBody : (kind : ByNumber) (number : ℕ) → Layout
@@ -30,6 +30,7 @@ pub data Layout : Type 0 where
   RedimensionBody : (redim : RedimParts) → Layout
   QueryBody : (query : Query) → Layout
 
+-- The opcode of a body with this layout.
 abbrev pub opcode_of : Layout → Opcode
 opcode_of (Layout.CreateBody class) = opcodes.Create
 opcode_of (Layout.NumberBody kind number) = opcodes.ByNumber kind
@@ -40,7 +41,7 @@ opcode_of (Layout.PutElementBody put) = opcodes.PutElement
 opcode_of (Layout.RedimensionBody redim) = opcodes.Redimension
 opcode_of (Layout.QueryBody query) = opcodes.Query query
 
--- the fields that hold a value each: arguments in the order of rgvarg, and behind them the new value of an element
+-- The fields that encode a value each: the arguments in the order of rgvarg, followed by the new value of an element.
 abbrev pub variant_fields : Layout → List (List ℕ)
 variant_fields (Layout.CreateBody class) = []
 variant_fields (Layout.NumberBody kind number) = []
@@ -51,26 +52,26 @@ variant_fields (Layout.PutElementBody put) = put.element.call.fields ++ put.valu
 variant_fields (Layout.RedimensionBody redim) = redim.call.fields
 variant_fields (Layout.QueryBody query) = []
 
--- 16 bytes, which are a GUID in wire order (MS-DTYP section 2.3.4.2)
+-- 16 bytes that are a GUID in wire order (MS-DTYP section 2.3.4.2).
 abbrev pub guid : List ℕ → Form
 guid = made wire_order (λ bytes. given (length bytes ≡ 16) ▸ exactly bytes)
 
--- a signed number of 32 bits
+-- A signed number of 32 bits, little-endian.
 abbrev pub dispid : ℤ → Form
 dispid z = with (unit 4) (λ x. given (z ≡ cast_signed w32 x))
 
--- a variant field: how many bytes, a reserved number, the bytes, padding up to a multiple of 8
+-- A variant field: the number of bytes, a reserved number, the bytes, padding up to a multiple of 8.
 abbrev pub field : List ℕ → Form
 field bytes = unit 4 (length bytes) ▸ ignored 4 ▸ exactly bytes ▸ align 8
 
--- what is called, and how: object, DISPID, interface, riid, lcid, flags, a reserved number (MS-OAUT section 3.1.4.4 has
--- the meaning of each)
+-- The head of a call: object, DISPID, interface, riid, lcid, flags, a reserved number (their meaning: MS-OAUT section
+-- 3.1.4.4).
 abbrev pub call_head : CallHead → Form
 call_head h = unit 4 h.object ▸ dispid h.dispid ▸ guid h.interface ▸ guid h.riid ▸ unit 4 h.lcid ▸ unit 2 h.flags
     ▸ ignored 2 ▸ nothing
 
--- a call: these, cArgs, cNamed, the DISPIDs of the named arguments, padding up to a multiple of 8, and the arguments in
--- the order of rgvarg
+-- A call: its head, cArgs, cNamed, the DISPIDs of the named arguments, padding up to a multiple of 8, and the arguments
+-- in the order of rgvarg.
 abbrev pub call_parts : CallParts → Form
 call_parts c =
     call_head c.head
@@ -78,39 +79,39 @@ call_parts c =
     ▸ given ((length c.fields ≤ max_arguments) × (length c.named ≤ max_arguments))
     ▸ each dispid c.named ▸ align 8 ▸ each field c.fields
 
--- an index list: how many, a reserved number, the indices, padding up to a multiple of 8
+-- An index list: the number of indices, a reserved number, the indices, padding up to a multiple of 8.
 abbrev pub indices : List ℤ → Form
 indices xs = unit 4 (length xs) ▸ ignored 4 ▸ given (length xs ≤ max_dimensions) ▸ each dispid xs ▸ align 8
 
--- a call that names an array, and the index list of an element
+-- A call that names an array, and the index list of an element.
 abbrev pub element_parts : ElementParts → Form
 element_parts e = call_parts e.call ▸ indices e.indices
 
--- these, and the element's new value
+-- A call that names an array, the index list of an element, and the element's new value.
 abbrev pub put_parts : PutParts → Form
 put_parts p = element_parts p.element ▸ field p.value
 
--- a call that names an array, and its new first listed bound: cElements, lLbound (SAFEARRAYBOUND, MS-OAUT section
--- 2.2.30.1)
+-- A call that names an array, and its new first listed bound: cElements, lLbound (SAFEARRAYBOUND, MS-OAUT section
+-- 2.2.30.1).
 abbrev pub redim_parts : RedimParts → Form
 redim_parts r = call_parts r.call ▸ bound r.bound
 
--- a string: how many UTF-16 units, a reserved number, the units, padding up to a multiple of 8
+-- A string: the number of UTF-16 units, a reserved number, the units, padding up to a multiple of 8.
 abbrev pub string : List ℕ → Form
 string units = unit 4 (length units) ▸ ignored 4 ▸ each (unit 2) units ▸ align 8
 
--- a look-up: object, a reserved number, interface, riid, lcid, the number of names, the names (MS-OAUT section 3.1.4.3
--- has the meaning of each)
+-- A look-up of names: object, a reserved number, interface, riid, lcid, the number of names, the names (their meaning:
+-- MS-OAUT section 3.1.4.3).
 abbrev pub get_ids : GetIds → Form
 get_ids g =
     unit 4 g.object ▸ ignored 4 ▸ guid g.interface ▸ guid g.riid ▸ unit 4 g.lcid
     ▸ unit 4 (length g.names) ▸ given ((1 ≤ length g.names) × (length g.names ≤ max_names)) ▸ each string g.names
 
--- a number, a reserved number
+-- A number and a reserved number.
 abbrev pub number : ℕ → Form
 number n = unit 4 n ▸ ignored 4 ▸ nothing
 
--- the fields of each opcode
+-- The fields of each opcode.
 abbrev pub fields : Layout → Form
 fields (Layout.CreateBody class) = guid class
 fields (Layout.NumberBody kind n) = number n
@@ -121,6 +122,6 @@ fields (Layout.PutElementBody put) = put_parts put
 fields (Layout.RedimensionBody redim) = redim_parts redim
 fields (Layout.QueryBody query) = nothing
 
--- the tag, the opcode, a reserved number, the fields of the opcode
+-- A whole body: the tag, the opcode, a reserved number, the fields of the opcode.
 abbrev pub layout : Layout → Form
 layout parts = ignored 4 ▸ unit 2 (opcode_number (opcode_of parts)) ▸ ignored 2 ▸ fields parts

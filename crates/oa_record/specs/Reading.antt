@@ -1,4 +1,4 @@
--- Reading a layout as a function on lists, which says the same as the forms (proofs/LayoutLaws has the laws). (This
+-- Parsing a layout, as functions on lists. They agree with the forms of Layouts, as proofs/LayoutLaws proves. (This
 -- project's choice.)
 use Rattle.std.specs.Prelude.{◌≡◌, ℕ, ℤ, ◌+◌, ◌<◌, ◌≤◌, ◌&&◌, nat_le, List, length, Option, Some, None, Result, Ok, Err}
 use Rattle.std.specs.Int.{w32, cast_signed}
@@ -17,54 +17,60 @@ use Rattle.oa_record.specs.declared.request.GetIds.{GetIds}
 use Rattle.oa_record.specs.declared.fault.RecordFault.{RecordFault}
 use Rattle.oa_record.specs.declared.fault.RecordFault.TheVariants.{Stub, BadVarType, Memory}
 
--- what reading gives where a call fails
+-- The result of the specification's parser if a call of the code fails: None after `Stub`, anything after `Memory`;
+-- `BadVarType` does not occur.
 abbrev pub ReadingFails : {Y : Type 0} → RecordFault → Option Y → Type 0
 ReadingFails Stub read = read ≡ None
 ReadingFails (BadVarType i) read = ⊥
 ReadingFails Memory read = Unit {0}
 
--- What a call answers, seen by view, and leaves is what reading gives, unless memory ran out.
+-- A call of the code returns what the parser returns, seen through `view`, and moves the cursor as it does, unless
+-- memory runs out.
 abbrev pub ReadsBody : {X Y : Type 0} → (X → Y) → Result X RecordFault → Cursor → Option (Y × Cursor) → Type 0
 ReadsBody view (Ok x) new read = read ≡ Some (view x, new)
 ReadsBody view (Err e) new read = ReadingFails e read
 
--- the same of a call that takes no memory
+-- As `ReadsBody`, for a call that allocates nothing.
 abbrev pub ReadsFixed : {X Y E : Type 0} → (X → Y) → Result X E → Cursor → Option (Y × Cursor) → Type 0
 ReadsFixed view (Ok x) new read = read ≡ Some (view x, new)
 ReadsFixed view (Err e) new read = read ≡ None
 
--- the same where nothing is left
+-- As `ReadsBody`, for a call that reads the input to its end.
 abbrev pub ReadsBodyToItsEnd : {X Y : Type 0} → (X → Y) → Result X RecordFault → Option Y → Type 0
 ReadsBodyToItsEnd view (Ok x) read = read ≡ Some (view x)
 ReadsBodyToItsEnd view (Err e) read = ReadingFails e read
 
--- a call answers, or lacks memory, only behind so many bytes
+-- The error `Memory` occurs only if at least `n` bytes are left at the start of the call.
 abbrev pub FaultIsBehind : ℕ → RecordFault → Cursor → Type 0
 FaultIsBehind n Stub s = Unit {0}
 FaultIsBehind n (BadVarType i) s = Unit {0}
 FaultIsBehind n Memory s = n ≤ length s.rest
 
+-- `Ok` and `Memory` occur only if at least `n` bytes are left at the start of the call.
 abbrev pub IsBehind : {X : Type 0} → ℕ → Result X RecordFault → Cursor → Type 0
 IsBehind n (Ok x) s = n ≤ length s.rest
 IsBehind n (Err e) s = FaultIsBehind n e s
 
--- want of memory comes only where the opcode takes some, and behind the bytes before it
+-- The error `Memory` occurs only if the opcode needs memory, and the bytes before its first allocation are there.
 abbrev pub IsStarved : RecordFault → Opcode → Cursor → Type 0
 IsStarved Stub opcode s = Unit {0}
 IsStarved (BadVarType i) opcode s = Unit {0}
 IsStarved Memory opcode s = (0 < before_memory opcode) × (before_memory opcode ≤ length s.rest)
 
+-- As `IsStarved`, for the result of a call.
 abbrev pub StarvesAt : {X : Type 0} → Result X RecordFault → Opcode → Cursor → Type 0
 StarvesAt (Ok x) opcode s = Unit {0}
 StarvesAt (Err e) opcode s = IsStarved e opcode s
 
--- and where the body has these, and the 8 bytes before its fields
+-- The error `Memory` occurs only if the opcode of the body needs memory, and the body has its 8 first bytes and those
+-- before the first allocation.
 abbrev pub IsStarvedBody : RecordFault → List ℕ → Type 0
 IsStarvedBody Stub body = Unit {0}
 IsStarvedBody (BadVarType i) body = Unit {0}
 IsStarvedBody Memory body =
     (0 < opcode_before_memory (opcode_at body)) × (8 + opcode_before_memory (opcode_at body) ≤ length body)
 
+-- As `IsStarvedBody`, for the result of a call.
 abbrev pub Starves : {X : Type 0} → Result X RecordFault → List ℕ → Type 0
 Starves (Ok x) body = Unit {0}
 Starves (Err e) body = IsStarvedBody e body
@@ -87,6 +93,7 @@ field_at = do
   _ ← align_at 8
   give bytes
 
+-- A call's head with these fields.
 abbrev pub head_of : ℕ → ℤ → List ℕ → List ℕ → ℕ → ℕ → CallHead
 head_of object dispid interface riid lcid flags =
     record { object = object; dispid = dispid; interface = interface; riid = riid; lcid = lcid; flags = flags }
@@ -102,10 +109,11 @@ call_head_at = do
   _ ← unit_at 2
   give (head_of object dispid interface riid lcid flags)
 
+-- A call with these parts.
 abbrev pub parts_of : CallHead → List ℤ → List (List ℕ) → CallParts
 parts_of head named fields = record { head = head; named = named; fields = fields }
 
--- the lists behind the counts
+-- Reads the lists of a call, after its counts.
 unfoldable pub lists_at : CallHead → ℕ → ℕ → Reading CallParts
 lists_at head count named_count = do
   named ← many dispid_at named_count
@@ -120,7 +128,7 @@ call_at = do
   named_count ← unit_at 4
   choose (nat_le count max_arguments && nat_le named_count max_arguments) (lists_at head count named_count) fail
 
--- the indices behind their number
+-- Reads the indices of an index list, after their number.
 unfoldable pub index_list_at : ℕ → Reading (List ℤ)
 index_list_at count = do
   xs ← many dispid_at count
@@ -160,7 +168,7 @@ redim_at = do
   bound ← bound_at
   give (redim_of call bound)
 
--- the units of a string
+-- Reads the units of a string.
 unfoldable pub string_at : Reading (List ℕ)
 string_at = do
   n ← unit_at 4
@@ -173,7 +181,7 @@ abbrev pub ids_of : ℕ → List ℕ → List ℕ → ℕ → List (List ℕ) �
 ids_of object interface riid lcid names =
     record { object = object; interface = interface; riid = riid; lcid = lcid; names = names }
 
--- the names behind their number
+-- Reads the names of a look-up, after their number.
 unfoldable pub names_at : ℕ → List ℕ → List ℕ → ℕ → ℕ → Reading GetIds
 names_at object interface riid lcid count = do
   names ← many string_at count
@@ -189,14 +197,14 @@ get_ids_at = do
   count ← unit_at 4
   choose (nat_le 1 count && nat_le count max_names) (names_at object interface riid lcid count) fail
 
--- a number and a reserved one
+-- Reads a number and a reserved one.
 unfoldable pub number_at : Reading ℕ
 number_at = do
   n ← unit_at 4
   _ ← unit_at 4
   give n
 
--- the fields of an opcode
+-- Reads the fields of an opcode.
 unfoldable pub fields_at : Opcode → Reading Layout
 fields_at opcodes.Create = do
   class ← guid_at
@@ -222,11 +230,12 @@ fields_at opcodes.Redimension = do
 fields_at (opcodes.Query query) = give (Layout.QueryBody query)
 fields_at opcodes.Replace = fail
 
--- the fields of the opcode of some number
+-- Reads the fields of an opcode; fails if there is no opcode.
 unfoldable pub named_at : Option Opcode → Reading Layout
 named_at None = fail
 named_at (Some opcode) = fields_at opcode
 
+-- Reads a whole body.
 unfoldable pub layout_at : Reading Layout
 layout_at = do
   _ ← unit_at 4

@@ -1,6 +1,6 @@
--- A body that asks for another library: that opcode, and one field, the library's text, which is borrowed (this
--- project's choice). The field is laid out as a variant field is: how many bytes, a reserved number, the bytes, padding
--- up to a multiple of 8.
+-- The body of REPLACE LIBRARY: its opcode and one field, the library's text, which is borrowed (this project's choice).
+-- The field has the layout of a variant field: the number of bytes, a reserved number, the bytes, padding up to a
+-- multiple of 8.
 use Rattle.std.specs.Prelude.{ℕ, ◌+◌, ◌==◌, nat_lt, Bool, false, if◌then◌else◌, List, length, take, drop, Option, Some}
 use Rattle.std.specs.Prelude.{None}
 use Rattle.byteorder.specs.Endian.{little_number}
@@ -9,15 +9,15 @@ use Rattle.oa_ndr.specs.Forms.{padding}
 use Rattle.oa_record.specs.Opcodes.{opcode_at, opcode_number}
 use Rattle.oa_record.specs.declared.opcode.Opcode.TheVariants as opcodes
 
--- the body has that opcode
+-- The body has at least 8 bytes and the opcode of REPLACE LIBRARY.
 abbrev pub is_replacement : List ℕ → Bool
 is_replacement body = if nat_lt (length body) 8 then false else opcode_at body == opcode_number opcodes.Replace
 
--- the text of such a length, where it and its padding are all of the bytes
+-- The first `n` bytes, if these and their padding are all of the bytes.
 abbrev pub padded_text : ℕ → List ℕ → Option (List ℕ)
 padded_text n bytes = if length bytes == n + padding 8 n then Some (take n bytes) else None
 
--- the text that the body has behind its length and a reserved number
+-- The text in the body, after its length and a reserved number.
 abbrev pub text_in : List ℕ → Option (List ℕ)
 text_in body =
     if nat_lt (length body) 16 then None

@@ -1,4 +1,4 @@
-//! The lists of a call.
+//! The lists of a call: DISPIDs and arguments.
 ghost use Rattle.std.specs.Prelude.{◌≡◌, ◌≤◌, length};
 ghost use Rattle.oa_model.specs.Limits.{max_arguments};
 
@@ -23,7 +23,7 @@ impl Model for Dispids {
 }
 
 impl Dispids {
-    /// A list of at most 32 DISPIDs.
+    /// Makes a list of at most 32 DISPIDs.
     pub fn new(dispids: Vec<i32>) -> Dispids
         requires { length dispids.items ≤ max_arguments }
         ensures { result ≡ dispids.items }
@@ -31,7 +31,7 @@ impl Dispids {
         Dispids { dispids }
     }
 
-    /// The DISPIDs in order, at most 32.
+    /// Returns the DISPIDs in order, at most 32.
     pub fn as_slice(&self) -> &[i32]
         ensures value { result.now ≡ self.now }
         ensures few { length result.now ≤ max_arguments }
@@ -60,7 +60,7 @@ impl Model for Arguments {
 }
 
 impl Arguments {
-    /// A list of at most 32 values.
+    /// Makes a list of at most 32 values.
     pub fn new(values: Vec<Variant>) -> Arguments
         requires { length values.items ≤ max_arguments }
         ensures { result ≡ values.items }
@@ -68,7 +68,7 @@ impl Arguments {
         Arguments { values }
     }
 
-    /// The values in the order of rgvarg, at most 32.
+    /// Returns the values in the order of rgvarg, at most 32.
     pub fn as_slice(&self) -> &[Variant]
         ensures value { result.now ≡ self.now }
         ensures few { length result.now ≤ max_arguments }
@@ -76,7 +76,7 @@ impl Arguments {
         self.values.as_slice()
     }
 
-    /// The values in the order of rgvarg, at most 32, for the caller to keep.
+    /// Returns the values in the order of rgvarg, at most 32, as an owned `Vec`.
     pub fn into_vec(self) -> Vec<Variant>
         ensures value { result.items ≡ self }
         ensures few { length result.items ≤ max_arguments }

@@ -1,11 +1,11 @@
-//! A body taken apart.
+//! The parts of a body.
 use crate::raw_call::RawCall;
 use crate::{ByCall, ByNumber, GetIds, Query};
 use oa_array::Indices;
 use oa_model::Bound;
 use uuid::Uuid;
 
-/// The parts of a body; values stand as the bytes of their fields.
+/// The parts of a body, with its values still encoded.
 #[derive(Drop)]
 pub(crate) enum Parts<'a> {
     Create(Uuid),

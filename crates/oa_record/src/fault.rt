@@ -1,4 +1,4 @@
-//! Why a body is no request, and why a value is no field.
+//! Why a body is refused, and why a value cannot be written as a field.
 ghost use Rattle.std.specs.Prelude.{◌≡◌};
 ghost use Rattle.oa_record.specs.declared.fault.FieldFault.TheVariants as field_faults;
 ghost use Rattle.oa_record.specs.declared.fault.RecordFault.TheVariants.{Stub, Memory};
@@ -9,23 +9,23 @@ use oa_ndr::Short;
 use std::alloc::{AllocError, AllocFailed};
 use thiserror::Error;
 
-/// Why a body is no request.
+/// Why a body is not decoded as a request.
 #[derive(Clone, Copy, Debug, PartialEq, Eq, Error)]
 pub enum RecordFault {
-    /// The layout is broken, or a field is of no value.
+    /// The body has the layout of no request, or the field of a value is broken.
     #[error("bad stub data")]
     Stub,
-    /// The value of this index in rgvarg has a type outside this server's profile, and no lower one has; None for a value that is no
-    /// argument.
+    /// A value has a type outside this server's profile. The number is its index in rgvarg, the lowest of such values; None for a value
+    /// that is not an argument.
     #[error("bad variable type")]
     BadVarType(Option<u32>),
-    /// The allocator had no block for a value, a name or a list of the request.
+    /// The allocation of a value, a name or a list of the request fails.
     #[error("out of memory")]
     Memory,
 }
 
 impl RecordFault {
-    /// The code of a reply with this refusal (MS-ERREF section 2.1).
+    /// Returns the code of the reply (MS-ERREF section 2.1): RPC_X_BAD_STUB_DATA as an HRESULT, DISP_E_BADVARTYPE or E_OUTOFMEMORY.
     pub fn code(self) -> HResult
         ensures { result ≡ record_code self }
     {
@@ -36,7 +36,7 @@ impl RecordFault {
         }
     }
 
-    /// The index in rgvarg that the reply tells with it.
+    /// Returns the index in rgvarg that the reply contains, if any.
     pub fn index(self) -> Option<u32>
         ensures { result ≡ index_told self }
     {
@@ -74,10 +74,10 @@ impl<T: Drop> From<AllocFailed<T>> for RecordFault {
 /// Why a value or a text is not written as a field of a reply.
 #[derive(Clone, Copy, Debug, PartialEq, Eq, Error)]
 pub enum FieldFault {
-    /// Its length is above what a field can count.
+    /// The value or text is longer than a field can be.
     #[error("field too long")]
     TooLong,
-    /// The allocator had no block for its bytes.
+    /// The allocation of its bytes fails.
     #[error("out of memory")]
     Memory,
 }
@@ -90,7 +90,7 @@ impl From<AllocError> for FieldFault {
     }
 }
 
-// A reply that is too long is not made either.
+// Treats a reply that is too long like one that does not fit the memory.
 impl From<FieldFault> for AllocError {
     fn from(_: FieldFault) -> AllocError {
         AllocError

@@ -1,4 +1,4 @@
-//! The fields of replies. Each is made as a body of its own, or added to one that is being made.
+//! The fields of replies. Each is built as a `Vec` of its own, or appended to one.
 ghost use Rattle.std.specs.Prelude.{[], ◌≡◌, ◌↔◌, ◌<◌, ◌≤◌, ◌+◌, ◌++◌, length, replicate, take, IfOk, IsErrOf, OnErr, OnOk};
 ghost use Rattle.std.specs.List.{flat_map};
 ghost use Rattle.oa_model.specs.Limits.{max_names};
@@ -21,13 +21,13 @@ use std::alloc::{AllocError, Global};
 use std::mem;
 use uuid::Uuid;
 
-/// The most bytes that the fields of a reply have.
+/// The largest number of bytes that the fields of a reply can have.
 pub const MAX_FIELDS_BYTES: usize = 4_294_967_275;
 
-/// The longest value that a reply has room for, in bytes: behind the 8 bytes before it, and with its padding.
+/// The largest encoded value, in bytes, that fits a reply: after the 8 bytes of count and reserved number, and with its padding.
 const MAX_VALUE_BYTES: usize = (MAX_FIELDS_BYTES - 8) / 8 * 8;
 
-/// A number and a reserved number.
+/// Encodes a u32 and a reserved u32, which is 0, in 8 bytes.
 #[tactic(auto, unfolding(crate::specs::Replies::word))]
 fn two_words(number: u32) -> [u8; 8]
     ensures { result ≡ number_field number }
@@ -36,7 +36,7 @@ fn two_words(number: u32) -> [u8; 8]
     [a, b, c, d, 0, 0, 0, 0]
 }
 
-/// Adds the zeros that follow so many bytes.
+/// Appends the zeros that pad `len` bytes to a multiple of 8.
 fn pad(out: &mut Vec<u8>, len: usize) -> Result<(), AllocError>
     requires { len ≤ 8589934592 }
     ensures ok { OnOk result (out.new.items ≡ out.old.items ++ replicate (padding 8 len) 0) }
@@ -45,7 +45,7 @@ fn pad(out: &mut Vec<u8>, len: usize) -> Result<(), AllocError>
     out.resize(out.len() + (len.next_multiple_of(8) - len), 0)
 }
 
-/// Takes back what was added behind so many bytes, where a growth was refused.
+/// Truncates `out` to `len` bytes if `added` is an error, and returns `added`.
 fn undone(out: &mut Vec<u8>, len: usize, added: Result<(), AllocError>) -> Result<(), AllocError>
     ensures same { result ≡ added }
     ensures ok { OnOk result (out.new.items ≡ out.old.items) }
@@ -57,7 +57,7 @@ fn undone(out: &mut Vec<u8>, len: usize, added: Result<(), AllocError>) -> Resul
     added
 }
 
-/// The fields of a reply that are a number: u32 number, u32 reserved.
+/// Returns a number field: u32 number, u32 reserved. Err: the allocation fails.
 pub fn number_field(alloc: Global, number: u32) -> Result<Vec<u8>, AllocError>
     ensures value { IfOk result (λ v. v.items ≡ number_field number) }
     ensures len { IfOk result (λ v. length v.items ≡ 8) }
@@ -65,7 +65,7 @@ pub fn number_field(alloc: Global, number: u32) -> Result<Vec<u8>, AllocError>
     Vec::from_slice(alloc, &two_words(number))
 }
 
-/// Adds a number as a field: u32 number, u32 reserved. At Err `out` is as before.
+/// Appends a number field: u32 number, u32 reserved. Err: the allocation fails; `out` is unchanged.
 pub fn put_number_field(out: &mut Vec<u8>, number: u32) -> Result<(), AllocError>
     ensures value { OnOk result (out.new.items ≡ out.old.items ++ number_field number) }
     ensures len { OnOk result (length out.new.items ≡ length out.old.items + 8) }
@@ -74,7 +74,7 @@ pub fn put_number_field(out: &mut Vec<u8>, number: u32) -> Result<(), AllocError
     out.extend_from_slice(&two_words(number))
 }
 
-/// Adds an object.
+/// Appends an object field. After Err, `out` may end with a part of it.
 fn add_object(out: &mut Vec<u8>, number: u32, class: &Uuid) -> Result<(), AllocError>
     ensures value { OnOk result (out.new.items ≡ out.old.items ++ object_field number class.now) }
     ensures len { OnOk result (length out.new.items ≡ length out.old.items + 24) }
@@ -85,7 +85,8 @@ fn add_object(out: &mut Vec<u8>, number: u32, class: &Uuid) -> Result<(), AllocE
     Ok(())
 }
 
-/// Adds an object to a list of objects: u32 number, u32 reserved, the 16 bytes of its coclass's GUID. At Err `out` is as before.
+/// Appends an object field, for a list of objects: u32 number, u32 reserved, the 16 bytes of its coclass's GUID. Err: the allocation fails;
+/// `out` is unchanged.
 pub fn put_object_field(out: &mut Vec<u8>, number: u32, class: &Uuid) -> Result<(), AllocError>
     ensures value { OnOk result (out.new.items ≡ out.old.items ++ object_field number class.now) }
     ensures len { OnOk result (length out.new.items ≡ length out.old.items + 24) }
@@ -96,7 +97,8 @@ pub fn put_object_field(out: &mut Vec<u8>, number: u32, class: &Uuid) -> Result<
     undone(out, len, added)
 }
 
-/// The fields of a refusal that names what a library would lose: the 16 bytes of a GUID, i32 DISPID, u32 reserved.
+/// Returns the fields of the refusal of a library that would lose something: the 16 bytes of the GUID of its interface or coclass, i32
+/// DISPID, u32 reserved. Err: the allocation fails.
 pub fn lost_field(alloc: Global, guid: &Uuid, dispid: i32) -> Result<Vec<u8>, AllocError>
     ensures value { IfOk result (λ v. v.items ≡ lost_field guid.now dispid) }
     ensures len { IfOk result (λ v. length v.items ≡ 24) }
@@ -107,7 +109,7 @@ pub fn lost_field(alloc: Global, guid: &Uuid, dispid: i32) -> Result<Vec<u8>, Al
     Ok(field)
 }
 
-/// The field of a long, all of its bytes laid out at once.
+/// Encodes a value field with a long (VT_I4), all 32 bytes at once.
 #[tactic(auto, unfolding(crate::specs::Replies::word))]
 fn long_field(bits: u32) -> [u8; 32]
     ensures { result ≡ number_field 24 ++ put_unit 4 bits (put_unit 4 3 (put_head 3 3 [])) }
@@ -119,7 +121,7 @@ fn long_field(bits: u32) -> [u8; 32]
     ]
 }
 
-/// Adds a value of `len` bytes as a field.
+/// Appends a value field. `len` is the number of bytes of the encoded value. After Err, `out` may end with a part of it.
 fn add_value(out: &mut Vec<u8>, value: &Variant, len: usize) -> Result<(), AllocError>
     requires counted { len ≡ length (canon value.now) }
     requires few { len ≤ max_value_bytes }
@@ -131,9 +133,10 @@ fn add_value(out: &mut Vec<u8>, value: &Variant, len: usize) -> Result<(), Alloc
     pad(out, len)
 }
 
-/// Adds a value as a field: u32 count of the value's bytes, u32 reserved, these bytes, zeros up to a multiple of 8. At Err `out` is as before.
+/// Appends a value field: u32 count of the value's bytes, u32 reserved, these bytes, zeros up to a multiple of 8. After Err, `out` is
+/// unchanged.
 ///
-/// `TooLong` for an array above 4,294,967,264 bytes on the wire, and for nothing else.
+/// Errors: `TooLong` if and only if the encoded value, an array, has more than 4,294,967,264 bytes; `Memory` if an allocation fails.
 pub fn put_variant_field(out: &mut Vec<u8>, value: &Variant) -> Result<(), FieldFault>
     ensures value { OnOk result (out.new.items ≡ out.old.items ++ variant_field value.now) }
     ensures err { OnErr result (out.new.items ≡ out.old.items) }
@@ -149,9 +152,9 @@ pub fn put_variant_field(out: &mut Vec<u8>, value: &Variant) -> Result<(), Field
     Ok(())
 }
 
-/// The fields of a reply that are a value: u32 count of the value's bytes, u32 reserved, these bytes, zeros up to a multiple of 8.
+/// Returns a value field: u32 count of the value's bytes, u32 reserved, these bytes, zeros up to a multiple of 8.
 ///
-/// `TooLong` for an array above 4,294,967,264 bytes on the wire, and for nothing else.
+/// Errors: `TooLong` if and only if the encoded value, an array, has more than 4,294,967,264 bytes; `Memory` if an allocation fails.
 #[tactic(auto, using(crate::proofs::Longs::long_is))]
 pub fn variant_field(alloc: Global, value: &Variant) -> Result<Vec<u8>, FieldFault>
     ensures value { IfOk result (λ v. v.items ≡ variant_field value.now) }
@@ -170,7 +173,7 @@ pub fn variant_field(alloc: Global, value: &Variant) -> Result<Vec<u8>, FieldFau
     Ok(field)
 }
 
-/// How many bytes a scalar takes as a value.
+/// Returns the length in bytes of the encoding of a scalar as a value.
 #[tactic(auto, unfolding(oa_wire_array::specs::Canon::scalar_len))]
 fn one_len(value: &Scalar) -> usize
     ensures value { result ≡ length (canon (One value.now)) }
@@ -179,7 +182,7 @@ fn one_len(value: &Scalar) -> usize
     scalar_len(value)
 }
 
-/// Adds the bytes of a scalar, a field of their own.
+/// Appends the encoding of a scalar, aligned as if it began at offset 0. Err: an allocation fails; `out` is unchanged.
 fn add_scalar(out: &mut Vec<u8>, value: &Scalar) -> Result<(), AllocError>
     ensures ok { OnOk result (out.new.items ≡ out.old.items ++ canon (One value.now)) }
     ensures err { OnErr result (out.new.items ≡ out.old.items) }
@@ -190,7 +193,7 @@ fn add_scalar(out: &mut Vec<u8>, value: &Scalar) -> Result<(), AllocError>
     answer
 }
 
-/// Adds a scalar as the field of a value.
+/// Appends a value field with a scalar. After Err, `out` may end with a part of it.
 fn add_scalar_field(out: &mut Vec<u8>, value: &Scalar) -> Result<(), AllocError>
     ensures ok { OnOk result (out.new.items ≡ out.old.items ++ variant_field (One value.now)) }
     ensures front { OnErr result (take (length out.old.items) out.new.items ≡ out.old.items) }
@@ -202,7 +205,7 @@ fn add_scalar_field(out: &mut Vec<u8>, value: &Scalar) -> Result<(), AllocError>
     Ok(())
 }
 
-/// Adds a scalar as the field of a value, from where it stands. At Err `out` is as before.
+/// Appends a value field with a scalar, without a copy into a `Variant`. Err: an allocation fails; `out` is unchanged.
 fn put_scalar_field(out: &mut Vec<u8>, value: &Scalar) -> Result<(), AllocError>
     ensures value { OnOk result (out.new.items ≡ out.old.items ++ variant_field (One value.now)) }
     ensures err { OnErr result (out.new.items ≡ out.old.items) }
@@ -212,9 +215,9 @@ fn put_scalar_field(out: &mut Vec<u8>, value: &Scalar) -> Result<(), AllocError>
     undone(out, len, added)
 }
 
-/// The fields of a reply that are a scalar's value: u32 count of the value's bytes at 0, u32 reserved at 4, these bytes from 8 on as
-/// `oa_wire_variant::write_variant` spells the scalar (wireVARIANT, MS-OAUT section 2.2.29), zeros up to a multiple of 8. Err only where memory
-/// is refused.
+/// Returns a value field with a scalar: u32 count of the value's bytes at 0, u32 reserved at 4, from 8 on these bytes as
+/// `oa_wire_variant::write_variant` encodes the scalar (wireVARIANT, MS-OAUT section 2.2.29), zeros up to a multiple of 8. Err: an
+/// allocation fails.
 pub fn scalar_field(alloc: Global, value: &Scalar) -> Result<Vec<u8>, AllocError>
     ensures value { IfOk result (λ v. v.items ≡ variant_field (One value.now)) }
     ensures len { IfOk result (λ v. length v.items ≤ max_fields_bytes) }
@@ -224,7 +227,7 @@ pub fn scalar_field(alloc: Global, value: &Scalar) -> Result<Vec<u8>, AllocError
     Ok(field)
 }
 
-/// The bytes of a DISPID.
+/// Encodes a DISPID in 4 bytes, little-endian.
 #[tactic(auto, unfolding(crate::specs::Replies::word))]
 fn signed_bytes(id: i32) -> [u8; 4]
     ensures { result ≡ signed_word id }
@@ -232,7 +235,7 @@ fn signed_bytes(id: i32) -> [u8; 4]
     id.to_le_bytes()
 }
 
-/// Adds the bytes of DISPIDs.
+/// Appends DISPIDs, 4 bytes each.
 fn put_ids(out: &mut Vec<u8>, ids: &[i32]) -> Result<(), AllocError>
     ensures { OnOk result (out.new.items ≡ out.old.items ++ flat_map signed_word ids.now) }
 {
@@ -242,7 +245,7 @@ fn put_ids(out: &mut Vec<u8>, ids: &[i32]) -> Result<(), AllocError>
     Ok(())
 }
 
-/// The fields of a reply that are DISPIDs, at most 17: u32 count, u32 reserved, i32 each, zeros up to a multiple of 8.
+/// Returns a field of at most 17 DISPIDs: u32 count, u32 reserved, i32 each, zeros up to a multiple of 8. Err: an allocation fails.
 pub fn ids_field(alloc: Global, ids: &[i32]) -> Result<Vec<u8>, AllocError>
     requires { length ids.now ≤ max_names }
     ensures value { IfOk result (λ v. v.items ≡ ids_field ids.now) }
@@ -256,7 +259,7 @@ pub fn ids_field(alloc: Global, ids: &[i32]) -> Result<Vec<u8>, AllocError>
     Ok(field)
 }
 
-/// The bytes of a character's unit.
+/// Encodes an ASCII character as a UTF-16 unit of 2 bytes, little-endian.
 #[tactic(auto, unfolding(crate::specs::Replies::half_word))]
 fn unit_bytes(character: u8) -> [u8; 2]
     ensures { result ≡ half_word character }
@@ -264,7 +267,7 @@ fn unit_bytes(character: u8) -> [u8; 2]
     (character as u16).to_le_bytes()
 }
 
-/// Adds the units of a text.
+/// Appends a UTF-16 unit for each character of `text`.
 fn put_units(out: &mut Vec<u8>, text: &[u8]) -> Result<(), AllocError>
     ensures ok { OnOk result (out.new.items ≡ out.old.items ++ flat_map half_word text.now) }
     ensures front { OnErr result (take (length out.old.items) out.new.items ≡ out.old.items) }
@@ -275,7 +278,7 @@ fn put_units(out: &mut Vec<u8>, text: &[u8]) -> Result<(), AllocError>
     Ok(())
 }
 
-/// Adds a text as a string.
+/// Appends a string field. After Err, `out` may end with a part of it.
 fn add_string(out: &mut Vec<u8>, text: &[u8]) -> Result<(), AllocError>
     requires { length text.now ≤ 4294967295 }
     ensures ok { OnOk result (out.new.items ≡ out.old.items ++ string_field text.now) }
@@ -287,10 +290,10 @@ fn add_string(out: &mut Vec<u8>, text: &[u8]) -> Result<(), AllocError>
     Ok(())
 }
 
-/// Adds a text of ASCII characters as a string: u32 count, u32 reserved, a UTF-16 unit for each, zeros up to a multiple of 8. At Err `out` is
-/// as before.
+/// Appends a string field of ASCII characters: u32 count, u32 reserved, a UTF-16 unit for each, zeros up to a multiple of 8. After Err,
+/// `out` is unchanged.
 ///
-/// `TooLong` for a text of more than 4,294,967,295 characters, and for nothing else.
+/// Errors: `TooLong` if and only if the text has more than 4,294,967,295 characters; `Memory` if an allocation fails.
 fn put_string_field(out: &mut Vec<u8>, text: &[u8]) -> Result<(), FieldFault>
     ensures value { OnOk result (out.new.items ≡ out.old.items ++ string_field text.now) }
     ensures err { OnErr result (out.new.items ≡ out.old.items) }
@@ -305,10 +308,10 @@ fn put_string_field(out: &mut Vec<u8>, text: &[u8]) -> Result<(), FieldFault>
     Ok(())
 }
 
-/// A text of ASCII characters as a string of its own: u32 count of the characters at 0, u32 reserved at 4, from 8 on a UTF-16 unit of 2 bytes
-/// for each, zeros up to a multiple of 8.
+/// Returns a string field of ASCII characters: u32 count of the characters at 0, u32 reserved at 4, from 8 on a UTF-16 unit of 2 bytes for
+/// each, zeros up to a multiple of 8.
 ///
-/// `TooLong` for a text of more than 4,294,967,295 characters, and for nothing else; `Memory` where a block was refused.
+/// Errors: `TooLong` if and only if the text has more than 4,294,967,295 characters; `Memory` if an allocation fails.
 pub fn string_field(alloc: Global, text: &[u8]) -> Result<Vec<u8>, FieldFault>
     ensures value { IfOk result (λ v. v.items ≡ string_field text.now) }
     ensures long { IsErrOf result TooLong ↔ (4294967295 < length text.now) }

@@ -1,4 +1,4 @@
-//! The layout of a body, with the bytes of its variant fields.
+//! Parses the layout of a body. The fields of values stay encoded.
 ghost use Rattle.std.specs.Prelude.{◌≡◌, ◌≤◌, ◌+◌, map, length, None, Some, IfOk};
 ghost use Rattle.std.specs.Int.{cast_signed, w32};
 ghost use Rattle.std.specs.Option.{option_map};
@@ -46,10 +46,10 @@ use oa_ndr::{Ndr, Short};
 use std::alloc::Global;
 use uuid::Uuid;
 
-// How many bytes of an INVOKE stand before its lists.
+// The number of bytes of an INVOKE before its lists.
 const INVOKE_FRONT: usize = 64;
 
-/// A GUID in wire order.
+/// Reads a GUID in wire order.
 #[tactic(auto, unfolding(oa_ndr::specs::Reading::bind, oa_ndr::specs::Reading::give, crate::specs::Reading::guid_at))]
 fn guid(r: &mut Ndr<'_>) -> Result<Uuid, Short>
     ensures { ReadsFixed (λ x. x) result r.new (guid_at r.old) }
@@ -60,6 +60,7 @@ fn guid(r: &mut Ndr<'_>) -> Result<Uuid, Short>
     }
 }
 
+/// Reads a DISPID.
 #[tactic(auto, unfolding(oa_ndr::specs::Reading::bind, oa_ndr::specs::Reading::give, crate::specs::Reading::dispid_at))]
 fn dispid(r: &mut Ndr<'_>) -> Result<i32, Short>
     ensures { ReadsFixed (λ x. x) result r.new (dispid_at r.old) }
@@ -68,7 +69,7 @@ fn dispid(r: &mut Ndr<'_>) -> Result<i32, Short>
     Ok(number.cast_signed())
 }
 
-/// The bytes of a variant field.
+/// Reads a variant field and returns its bytes.
 #[inline(always)]
 #[tactic(auto, unfolding(oa_ndr::specs::Reading::bind, oa_ndr::specs::Reading::give, crate::specs::Reading::field_at))]
 fn field<'a>(r: &mut Ndr<'a>) -> Result<&'a [u8], Short>
@@ -81,6 +82,7 @@ fn field<'a>(r: &mut Ndr<'a>) -> Result<&'a [u8], Short>
     Ok(bytes)
 }
 
+/// Reads `count` DISPIDs.
 fn dispids(alloc: Global, count: u32, r: &mut Ndr<'_>) -> Result<Vec<i32>, RecordFault>
     ensures answers { ReadsBody (λ v. v.items) result r.new (many dispid_at count r.old) }
     ensures count { IfOk result (λ v. length v.items ≡ count) }
@@ -93,6 +95,7 @@ fn dispids(alloc: Global, count: u32, r: &mut Ndr<'_>) -> Result<Vec<i32>, Recor
     Ok(all)
 }
 
+/// Reads `count` variant fields.
 fn fields<'a>(alloc: Global, count: u32, r: &mut Ndr<'a>) -> Result<Vec<&'a [u8]>, RecordFault>
     ensures answers { ReadsBody (λ v. map (λ x. x.now) v.items) result r.new (many field_at count r.old) }
     ensures count { IfOk result (λ v. length v.items ≡ count) }
@@ -105,7 +108,7 @@ fn fields<'a>(alloc: Global, count: u32, r: &mut Ndr<'a>) -> Result<Vec<&'a [u8]
     Ok(all)
 }
 
-/// Object, DISPID, GUIDs, lcid and flags, and a reserved number.
+/// Reads the head of a call: object, DISPID, GUIDs, lcid, flags and a reserved number.
 #[inline(always)]
 #[tactic(auto, unfolding(oa_ndr::specs::Reading::steps, crate::specs::Reading::call_head_at))]
 fn call_head(r: &mut Ndr<'_>) -> Result<CallHead, Short>
@@ -128,7 +131,7 @@ fn call_head(r: &mut Ndr<'_>) -> Result<CallHead, Short>
     })
 }
 
-/// These, the counts, and the lists behind them.
+/// Reads the head of a call, its counts, and the lists after them. `Stub` if a count is above 32.
 #[tactic(auto, unfolding(oa_ndr::specs::Reading::steps, crate::specs::Reading::call_at, crate::specs::Reading::lists_at))]
 fn call<'a>(alloc: Global, r: &mut Ndr<'a>) -> Result<RawCall<'a>, RecordFault>
     ensures answers { ReadsBody (λ x. x) result r.new (call_at r.old) }
@@ -146,7 +149,7 @@ fn call<'a>(alloc: Global, r: &mut Ndr<'a>) -> Result<RawCall<'a>, RecordFault>
     Ok(RawCall::new(head, named, fields))
 }
 
-/// No lists behind counts of 0.
+/// Skips the padding of empty lists.
 #[tactic(auto, unfolding(oa_ndr::specs::Reading::steps, crate::specs::Reading::lists_at), using(crate::proofs::Bringing::many_none))]
 fn no_lists(head: CallHead, r: &mut Ndr<'_>) -> Result<(), Short>
     ensures { IfOk result (λ u. lists_at head 0 0 r.old ≡ Some (parts_bringing head None, r.new)) }
@@ -154,7 +157,7 @@ fn no_lists(head: CallHead, r: &mut Ndr<'_>) -> Result<(), Short>
     r.align(8)
 }
 
-/// The lists behind counts of 1: the name of a new value, and the bytes of its field.
+/// Reads lists of one entry each: the DISPID of the named argument, which must be DISPID_PROPERTYPUT, and the bytes of its field.
 #[inline(always)]
 #[tactic(auto, unfolding(oa_ndr::specs::Reading::steps, crate::specs::Reading::lists_at), using(crate::proofs::Bringing::many_one))]
 fn new_value<'a>(head: CallHead, r: &mut Ndr<'a>) -> Result<&'a [u8], Short>
@@ -167,7 +170,7 @@ fn new_value<'a>(head: CallHead, r: &mut Ndr<'a>) -> Result<&'a [u8], Short>
     field(r)
 }
 
-/// The number of 2 bytes at a place.
+/// Returns the u16 at an offset.
 #[inline(always)]
 fn u16_at(body: &[u8], place: usize) -> u16
     requires { place + 2 ≤ length body.now }
@@ -176,7 +179,7 @@ fn u16_at(body: &[u8], place: usize) -> u16
     LittleEndian::read_u16(&body[place..])
 }
 
-/// The number of 4 bytes at a place.
+/// Returns the u32 at an offset.
 #[inline(always)]
 fn u32_at(body: &[u8], place: usize) -> u32
     requires { place + 4 ≤ length body.now }
@@ -185,7 +188,7 @@ fn u32_at(body: &[u8], place: usize) -> u32
     LittleEndian::read_u32(&body[place..])
 }
 
-/// The DISPID at a place.
+/// Returns the DISPID at an offset.
 #[inline(always)]
 fn dispid_at(body: &[u8], place: usize) -> i32
     requires { place + 4 ≤ length body.now }
@@ -194,7 +197,7 @@ fn dispid_at(body: &[u8], place: usize) -> i32
     u32_at(body, place).cast_signed()
 }
 
-/// The GUID of the first 16 bytes, in wire order.
+/// Returns the GUID of the first 16 bytes, in wire order.
 #[inline(always)]
 fn first_guid(bytes: &[u8]) -> Uuid
     requires { 16 ≤ length bytes.now }
@@ -206,7 +209,7 @@ fn first_guid(bytes: &[u8]) -> Uuid
     }
 }
 
-/// The GUID at a place, in wire order.
+/// Returns the GUID at an offset, in wire order.
 #[inline(always)]
 fn guid_at(body: &[u8], place: usize) -> Uuid
     requires { place + 16 ≤ length body.now }
@@ -215,7 +218,7 @@ fn guid_at(body: &[u8], place: usize) -> Uuid
     first_guid(&body[place..])
 }
 
-/// The head of the call of an INVOKE.
+/// Returns the head of the call of an INVOKE.
 #[inline(always)]
 fn head_in(body: &[u8]) -> CallHead
     requires { invoke_front ≤ length body.now }
@@ -231,7 +234,7 @@ fn head_in(body: &[u8]) -> CallHead
     }
 }
 
-/// A call that brings no more than a new value, whose field has these bytes; the reader stands at its lists. Err of any other.
+/// Reads the lists of an INVOKE that has no arguments, or a new value only. `r` is at the start of the lists. Err for any other call.
 #[inline(always)]
 fn call_behind<'a>(body: &[u8], r: &mut Ndr<'a>) -> Result<ValueParts<'a>, Short>
     requires { invoke_front ≤ length body.now }
@@ -251,12 +254,12 @@ fn call_behind<'a>(body: &[u8], r: &mut Ndr<'a>) -> Result<ValueParts<'a>, Short
     Err(Short)
 }
 
-/// The head of an INVOKE that brings no more than a new value, and the bytes of that value's field. Err of any other body.
+/// Parses an INVOKE without arguments or with a property's new value only. Err for any other body.
 #[inline(always)]
 pub(crate) fn read_value_parts(body: &[u8]) -> Result<ValueParts<'_>, Short>
     ensures { IfOk result (λ c. whole layout_at body.now ≡ Some (Layout.CallBody by_call.Invoke (parts_bringing c.head (option_map (λ f. f.now) c.field)))) }
 {
-    // What stands before the lists has places of its own: the bytes are counted once, and not for each number.
+    // The fields before the lists have fixed offsets: the length is checked once and not for each field.
     if body.len() < INVOKE_FRONT || u16_at(body, 4) != Opcode::ByCall(ByCall::Invoke).number() {
         return Err(Short);
     }
@@ -272,7 +275,7 @@ pub(crate) fn read_value_parts(body: &[u8]) -> Result<ValueParts<'_>, Short>
     }
 }
 
-/// An index list.
+/// Reads an index list. `Stub` for more than 16 indices.
 #[tactic(auto, unfolding(oa_ndr::specs::Reading::steps, crate::specs::Reading::indices_at, crate::specs::Reading::index_list_at))]
 fn indices(alloc: Global, r: &mut Ndr<'_>) -> Result<Indices, RecordFault>
     ensures { ReadsBody (λ x. x) result r.new (indices_at r.old) }
@@ -287,7 +290,7 @@ fn indices(alloc: Global, r: &mut Ndr<'_>) -> Result<Indices, RecordFault>
     Ok(Indices::new(indices))
 }
 
-/// A call that names an array, and the index list of an element.
+/// Reads a call that names an array, and the index list of an element.
 #[tactic(auto, unfolding(oa_ndr::specs::Reading::steps, crate::specs::Reading::element_at))]
 fn element<'a>(alloc: Global, r: &mut Ndr<'a>) -> Result<(RawCall<'a>, Indices), RecordFault>
     ensures answers { ReadsBody (λ x. parts_of_element x.0 x.1) result r.new (element_at r.old) }
@@ -298,7 +301,7 @@ fn element<'a>(alloc: Global, r: &mut Ndr<'a>) -> Result<(RawCall<'a>, Indices),
     Ok((call, indices))
 }
 
-/// A new first listed bound.
+/// Reads a new first listed bound.
 #[tactic(auto, unfolding(oa_ndr::specs::Reading::steps, oa_wire_array::specs::ArrayReading::bound_at, oa_wire_array::specs::Reading::signed_at))]
 fn bound(r: &mut Ndr<'_>) -> Result<Bound, Short>
     ensures { ReadsFixed (λ x. x) result r.new (bound_at r.old) }
@@ -311,6 +314,7 @@ fn bound(r: &mut Ndr<'_>) -> Result<Bound, Short>
     })
 }
 
+/// Reads `count` UTF-16 units.
 fn units(alloc: Global, count: u32, r: &mut Ndr<'_>) -> Result<Vec<u16>, RecordFault>
     ensures { ReadsBody (λ v. v.items) result r.new (many (unit_at 2) count r.old) }
 {
@@ -322,7 +326,7 @@ fn units(alloc: Global, count: u32, r: &mut Ndr<'_>) -> Result<Vec<u16>, RecordF
     Ok(all)
 }
 
-/// The units of a string.
+/// Reads a string and returns its UTF-16 units.
 #[tactic(auto, unfolding(oa_ndr::specs::Reading::bind, oa_ndr::specs::Reading::give, crate::specs::Reading::string_at))]
 fn string(alloc: Global, r: &mut Ndr<'_>) -> Result<Vec<u16>, RecordFault>
     ensures { ReadsBody (λ v. v.items) result r.new (string_at r.old) }
@@ -334,6 +338,7 @@ fn string(alloc: Global, r: &mut Ndr<'_>) -> Result<Vec<u16>, RecordFault>
     Ok(units)
 }
 
+/// Reads `count` strings.
 #[tactic(auto, using(oa_ndr::proofs::Loop::many_done, oa_ndr::proofs::Loop::many_goes_on, oa_ndr::proofs::Loop::many_ends, std::proofs::lemmas::List::map_push))]
 fn strings(alloc: Global, count: u32, r: &mut Ndr<'_>) -> Result<Vec<Vec<u16>>, RecordFault>
     ensures answers { ReadsBody (λ v. map (λ x. x.items) v.items) result r.new (many string_at count r.old) }
@@ -347,7 +352,7 @@ fn strings(alloc: Global, count: u32, r: &mut Ndr<'_>) -> Result<Vec<Vec<u16>>, 
     Ok(all)
 }
 
-/// Object, GUIDs and lcid, the count, and the names behind it.
+/// Reads a look-up of names: object, GUIDs, lcid, count and the names after it. `Stub` unless there are 1 to 17 names.
 #[tactic(auto, unfolding(oa_ndr::specs::Reading::steps, crate::specs::Reading::get_ids_at, crate::specs::Reading::names_at))]
 fn get_ids(alloc: Global, r: &mut Ndr<'_>) -> Result<GetIds, RecordFault>
     ensures answers { ReadsBody (λ x. x) result r.new (get_ids_at r.old) }
@@ -372,7 +377,7 @@ fn get_ids(alloc: Global, r: &mut Ndr<'_>) -> Result<GetIds, RecordFault>
     })
 }
 
-/// A number and a reserved one.
+/// Reads a number and a reserved one.
 #[tactic(auto, unfolding(oa_ndr::specs::Reading::bind, oa_ndr::specs::Reading::give, crate::specs::Reading::number_at))]
 fn number(r: &mut Ndr<'_>) -> Result<u32, Short>
     ensures { ReadsFixed (λ x. x) result r.new (number_at r.old) }
@@ -382,7 +387,7 @@ fn number(r: &mut Ndr<'_>) -> Result<u32, Short>
     Ok(number)
 }
 
-/// A call that names an array, and an element of it.
+/// Reads the fields of GETELEM: a call that names an array, and the indices of an element.
 #[tactic(auto, unfolding(oa_ndr::specs::Reading::bind, oa_ndr::specs::Reading::give, crate::specs::Reading::fields_at))]
 fn get_element<'a>(alloc: Global, r: &mut Ndr<'a>) -> Result<Parts<'a>, RecordFault>
     ensures answers { ReadsBody shown result r.new (fields_at opcodes.GetElement r.old) }
@@ -392,7 +397,7 @@ fn get_element<'a>(alloc: Global, r: &mut Ndr<'a>) -> Result<Parts<'a>, RecordFa
     Ok(Parts::GetElement(call, indices))
 }
 
-/// The same, and a new value.
+/// Reads the fields of PUTELEM: a call that names an array, the indices of an element, and its new value.
 #[tactic(auto, unfolding(oa_ndr::specs::Reading::steps, crate::specs::Reading::fields_at, crate::specs::Reading::put_at))]
 fn put_element<'a>(alloc: Global, r: &mut Ndr<'a>) -> Result<Parts<'a>, RecordFault>
     ensures answers { ReadsBody shown result r.new (fields_at opcodes.PutElement r.old) }
@@ -402,7 +407,7 @@ fn put_element<'a>(alloc: Global, r: &mut Ndr<'a>) -> Result<Parts<'a>, RecordFa
     Ok(Parts::PutElement(call, indices, field(r)?))
 }
 
-/// A call that names an array, and its new first listed bound.
+/// Reads the fields of REDIM: a call that names an array, and its new first listed bound.
 #[tactic(auto, unfolding(oa_ndr::specs::Reading::steps, crate::specs::Reading::fields_at, crate::specs::Reading::redim_at))]
 fn redimension<'a>(alloc: Global, r: &mut Ndr<'a>) -> Result<Parts<'a>, RecordFault>
     ensures answers { ReadsBody shown result r.new (fields_at opcodes.Redimension r.old) }
@@ -413,7 +418,7 @@ fn redimension<'a>(alloc: Global, r: &mut Ndr<'a>) -> Result<Parts<'a>, RecordFa
     Ok(Parts::Redimension(call, bound))
 }
 
-/// The fields of an opcode.
+/// Reads the fields of an opcode. REPLACE LIBRARY has none that are read here.
 #[tactic(auto, unfolding(oa_ndr::specs::Reading::bind, oa_ndr::specs::Reading::give, oa_ndr::specs::Reading::fail, crate::specs::Reading::fields_at))]
 fn fields_of<'a>(alloc: Global, opcode: Opcode, r: &mut Ndr<'a>) -> Result<Parts<'a>, RecordFault>
     ensures answers { ReadsBody shown result r.new (fields_at opcode r.old) }
@@ -432,7 +437,7 @@ fn fields_of<'a>(alloc: Global, opcode: Opcode, r: &mut Ndr<'a>) -> Result<Parts
     }
 }
 
-/// The parts of a whole body. Want of memory comes only where the opcode's body takes some, behind the bytes before it.
+/// Parses a whole body. `Memory` only if the opcode's fields need memory and the body has the bytes before the first allocation.
 #[tactic(auto, unfolding(oa_ndr::specs::Reading::steps, crate::specs::Reading::layout_at, crate::specs::Reading::named_at))]
 pub(crate) fn read_parts(alloc: Global, body: &[u8]) -> Result<Parts<'_>, RecordFault>
     ensures all { ReadsBodyToItsEnd shown result (whole layout_at body.now) }

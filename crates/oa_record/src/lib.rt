@@ -1,10 +1,10 @@
-//! Records: bodies as requests, and replies as bytes.
+//! Records: decodes the bodies of requests and encodes replies.
 //!
-//! Its contract: `read_request` answers a request exactly where the body asks it (`Asks`), and else its one
-//! refusal; a reply is its head and the bytes of its fields.
+//! Contract: `read_request` returns `Ok(request)` if and only if the body encodes this request (`Asks`), and otherwise the one error of the
+//! body. A reply is its 16-byte head followed by the bytes of its fields.
 //!
-//! What stands on it: oa_decision and oa_turn, which answer what a body asks; oa_server, for its
-//! replies; oa_description, for the fields of a description.
+//! Used by oa_decision and oa_turn, which execute requests, by oa_server to write replies, and by oa_description for the fields of a type
+//! description.
 #![tactic(auto)]
 
 mod arguments;

@@ -22,7 +22,7 @@ impl Model for Names {
 }
 
 impl Names {
-    /// A list of 1 to 17 names.
+    /// Makes a list of 1 to 17 names.
     pub fn new(names: Vec<Vec<u16>>) -> Names
         requires some { 1 ≤ length names.items }
         requires few { length names.items ≤ max_names }
@@ -31,7 +31,7 @@ impl Names {
         Names { names }
     }
 
-    /// The names in order, from 1 to 17.
+    /// Returns the names in order, from 1 to 17.
     pub fn as_slice(&self) -> &[Vec<u16>]
         ensures value { map (λ name. name.items) result.now ≡ self.now }
         ensures some { 1 ≤ length result.now }

@@ -1,62 +1,64 @@
-//! Opcodes.
+//! Opcodes of requests.
 ghost use Rattle.std.specs.Prelude.{◌≡◌};
 ghost use Rattle.oa_record.specs.Opcodes.{opcode_number, opcode_named, opcode_in};
 
 use byteorder::{ByteOrder, LittleEndian};
 
-/// What a body asks for, as the number at its offset 4 says, by the fields behind it (this project's choice).
+/// The operation of a request, from the u16 at offset 4 of its body. Operations with the same fields share a variant (this project's
+/// choice).
 #[derive(Clone, Copy, Debug, PartialEq, Eq)]
 pub enum Opcode {
-    /// 1: a new object of a coclass, which a GUID names.
+    /// 1: create an object of a coclass, which a GUID names.
     Create,
-    /// Those with one number.
+    /// The operations whose only field is a number.
     ByNumber(ByNumber),
-    /// 3: the DISPIDs of a member and of its parameters.
+    /// 3: look up the DISPIDs of a member and of its parameters.
     GetIds,
-    /// Those with a call.
+    /// The operations whose fields are a call.
     ByCall(ByCall),
-    /// 5: an element of an array that a property holds.
+    /// 5: read an element of an array that is the value of a property.
     GetElement,
-    /// 6: sets an element of such an array.
+    /// 6: set an element of such an array.
     PutElement,
-    /// 7: changes the first listed bound of such an array.
+    /// 7: change the first listed bound of such an array.
     Redimension,
-    /// Those without fields.
+    /// The operations without fields.
     Query(Query),
-    /// 12: another library in the place of the server's, by a text. It is no request, since its text is borrowed (`is_replacement`).
+    /// 12: replace the server's library by that of a text. `Request` has no variant for it, since its text is borrowed (see
+    /// `is_replacement`).
     Replace,
 }
 
-/// What is asked by one number.
+/// An operation whose only field is a number.
 #[derive(Clone, Copy, Debug, PartialEq, Eq)]
 pub enum ByNumber {
-    /// 2: the object of this number ends.
+    /// 2: release the object with this number.
     Release,
-    /// 10: what the library says of an interface or a coclass: the number counts the interfaces in the order of the library's text, from 0
-    /// on, and then the coclasses.
+    /// 10: describe an interface or a coclass of the library. The number counts from 0 the interfaces in the order of the library's text,
+    /// and after them the coclasses.
     TypeInfo,
 }
 
-/// What is asked by a call of a member.
+/// An operation whose fields are a call of a member.
 #[derive(Clone, Copy, Debug, PartialEq, Eq)]
 pub enum ByCall {
-    /// 4: the call.
+    /// 4: call the member.
     Invoke,
-    /// 8: locks the array that a property holds.
+    /// 8: lock the array that is the value of a property.
     Lock,
-    /// 9: takes back a lock of such an array.
+    /// 9: release a lock of such an array.
     Unlock,
 }
 
-/// What is asked without fields: it is answered at any time, and changes nothing.
+/// An operation without fields. It is allowed at any time and changes nothing.
 #[derive(Clone, Copy, Debug, PartialEq, Eq)]
 pub enum Query {
-    /// 11: the live objects.
+    /// 11: list the live objects.
     Objects,
 }
 
 impl Opcode {
-    /// Its number, from 1 to 12.
+    /// Returns the number of the opcode, from 1 to 12.
     pub fn number(self) -> u16
         ensures { result ≡ opcode_number self }
     {
@@ -76,7 +78,7 @@ impl Opcode {
         }
     }
 
-    /// The opcode of a number; None for a number that is none.
+    /// Returns the opcode with a number, or None if no opcode has it.
     pub fn from_number(number: u16) -> Option<Opcode>
         ensures { result ≡ opcode_named number }
     {
@@ -98,7 +100,7 @@ impl Opcode {
     }
 }
 
-/// The opcode that stands in a body, at 4; None for a body under 8 bytes, and for a number that is none.
+/// Returns the opcode at offset 4 of a body. None if the body has fewer than 8 bytes, or if no opcode has this number.
 pub fn opcode_of(body: &[u8]) -> Option<Opcode>
     ensures { result ≡ opcode_in body.now }
 {

@@ -1,4 +1,4 @@
-//! A call as its body has it, with the bytes of the arguments.
+//! A call as its body contains it, with its arguments still encoded.
 ghost use Rattle.std.specs.Prelude.{◌≡◌, ◌≤◌, map, length};
 ghost use Rattle.oa_model.specs.Limits.{max_arguments};
 
@@ -6,7 +6,7 @@ use crate::{Arguments, Call, CallHead, Dispids};
 use oa_variant::Variant;
 use std::marker::Model;
 
-/// The head of a call, with the bytes of the arguments' fields.
+/// The head of a call and the bytes of the arguments' fields.
 #[derive(Drop)]
 pub(crate) struct RawCall<'a> {
     head: CallHead,
@@ -14,7 +14,7 @@ pub(crate) struct RawCall<'a> {
     fields: Vec<&'a [u8]>,
 }
 
-/// The head of a call that brings no more than a new value, with the bytes of that value's field.
+/// The head of a call whose only argument, if any, is a property's new value, and the bytes of that value's field.
 #[derive(Drop)]
 pub(crate) struct ValueParts<'a> {
     pub head: CallHead,
@@ -34,7 +34,7 @@ impl<'a> Model for RawCall<'a> {
 }
 
 impl<'a> RawCall<'a> {
-    /// A call of at most 32 arguments and as many named ones.
+    /// Makes a call of at most 32 arguments and at most 32 named ones.
     pub(crate) fn new(head: CallHead, named: Vec<i32>, fields: Vec<&'a [u8]>) -> RawCall<'a>
         requires few_named { length named.items ≤ max_arguments }
         requires few { length fields.items ≤ max_arguments }
@@ -47,7 +47,7 @@ impl<'a> RawCall<'a> {
         }
     }
 
-    /// The bytes of the arguments' fields.
+    /// Returns the bytes of the arguments' fields.
     pub(crate) fn fields(&self) -> &[&'a [u8]]
         ensures value { map (λ f. f.now) result.now ≡ self.now.fields }
         ensures few { length result.now ≤ max_arguments }
@@ -55,7 +55,7 @@ impl<'a> RawCall<'a> {
         self.fields.as_slice()
     }
 
-    /// The call with the values of the arguments.
+    /// Returns the call with decoded arguments.
     pub(crate) fn with(self, values: Vec<Variant>) -> Call
         requires { length values.items ≤ max_arguments }
         ensures { result ≡ record { head = self.entry.head; named = self.entry.named; arguments = values.items } }

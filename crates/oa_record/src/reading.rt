@@ -1,4 +1,4 @@
-//! Bodies as requests.
+//! Decodes the bodies of requests.
 ghost use Rattle.std.specs.Prelude.{◌≡◌, ◌≤◌, ◌+◌, ◌++◌, ◌∷◌, [], map, length, IfOk, IfErr, IfSome};
 ghost use Rattle.oa_model.specs.Limits.{max_arguments};
 ghost use Rattle.oa_record.specs.Asks.{Asks, IsRequest, call_of, tag_at};
@@ -23,7 +23,7 @@ use oa_variant::Variant;
 use oa_wire_variant::{WireFault, read_variant};
 use std::alloc::Global;
 
-/// The tag of a body: its bytes 0 to 3 as a number; 0 for a body under 8 bytes.
+/// Returns the tag of a body, which is the u32 at its offset 0, or 0 if the body has fewer than 8 bytes.
 pub fn tag_of(body: &[u8]) -> u32
     ensures { result ≡ tag_at body.now }
 {
@@ -34,7 +34,7 @@ pub fn tag_of(body: &[u8]) -> u32
     }
 }
 
-/// Looks at one field.
+/// Checks one field. A type outside the profile is no error here; `Stub` if the field is broken, `Memory` if an allocation fails.
 fn unbroken(alloc: Global, field: &[u8]) -> Result<(), RecordFault>
     ensures { TestsField field.now result }
 {
@@ -45,7 +45,7 @@ fn unbroken(alloc: Global, field: &[u8]) -> Result<(), RecordFault>
     }
 }
 
-/// Looks for a broken field.
+/// Checks each field as `unbroken` does and returns the first error.
 fn sound(alloc: Global, fields: &[&[u8]]) -> Result<(), RecordFault>
     ensures { TestsFields (map (λ f. f.now) fields.now) result }
 {
@@ -55,7 +55,7 @@ fn sound(alloc: Global, fields: &[&[u8]]) -> Result<(), RecordFault>
     Ok(())
 }
 
-/// The values of all fields; a bad type is told by its place among them.
+/// Decodes all fields. `BadVarType` contains the position of the field, counted from 0.
 fn values(alloc: Global, fields: &[&[u8]]) -> Result<Vec<Variant>, RecordFault>
     requires { length fields.now ≤ max_arguments + 1 }
     ensures judged { AnswersFields (λ v. v.items) (map (λ f. f.now) fields.now) result }
@@ -77,7 +77,7 @@ fn values(alloc: Global, fields: &[&[u8]]) -> Result<Vec<Variant>, RecordFault>
     Ok(values)
 }
 
-/// A call with the values of its arguments.
+/// Decodes the arguments of a call.
 fn called(alloc: Global, call: RawCall<'_>) -> Result<Call, RecordFault>
     ensures judged { AnswersFields (λ q. q.arguments) call.entry.fields result }
     ensures is { IfOk result (λ q. q ≡ call_of call.entry q.arguments) }
@@ -86,7 +86,7 @@ fn called(alloc: Global, call: RawCall<'_>) -> Result<Call, RecordFault>
     Ok(call.with(values))
 }
 
-/// The bytes of the arguments' fields, and behind them those of an element's new value.
+/// Returns the bytes of the arguments' fields followed by those of an element's new value. Err: `Memory`.
 fn with_value<'a>(
     alloc: Global,
     call: &RawCall<'a>,
@@ -101,7 +101,8 @@ fn with_value<'a>(
     Ok(fields)
 }
 
-/// The refusal of a PUTELEM of so many arguments: the new value, which stands behind these, has no index.
+/// Drops the index of the error of a PUTELEM with `count` arguments if it is that of the new value, which follows the arguments and has no
+/// index in rgvarg.
 fn without_index(count: usize, fault: RecordFault) -> RecordFault
     ensures { result ≡ put_fault count fault }
 {
@@ -113,7 +114,7 @@ fn without_index(count: usize, fault: RecordFault) -> RecordFault
     }
 }
 
-/// A PUTELEM with its values.
+/// Decodes the arguments and the new value of a PUTELEM.
 fn put_element(
     alloc: Global,
     call: RawCall<'_>,
@@ -138,7 +139,7 @@ fn put_element(
     })
 }
 
-/// The request of a body, with its values.
+/// Decodes the values in the parts of a body and returns the request.
 fn request(alloc: Global, parts: Parts<'_>) -> Result<Request, RecordFault>
     ensures { Requests (shown parts.entry) result }
 {
@@ -160,13 +161,15 @@ fn request(alloc: Global, parts: Parts<'_>) -> Result<Request, RecordFault>
     }
 }
 
-/// The request that a body asks: the tag at its first byte, which `tag_of` reads, the opcode at 4, its fields from 8 to the end (this
-/// project's choice).
+/// Decodes a request: the tag at offset 0, which `tag_of` reads, the opcode at 4, the fields from 8 to the end (this project's choice).
 ///
-/// `Stub` where the body is laid out as no request, has more than `MAX_REQUEST_BYTES`, more than 32 arguments or named ones,
-/// no name or more than 17, or more than 16 indices, and where the field of a value is broken; else `BadVarType` for the first value with a
-/// type outside the profile: with its index in rgvarg, or None for the new value of an element. `Memory` only for an opcode whose bodies
-/// take memory to be read, in a body of `MAX_REQUEST_BYTES` at most and of 64 at least, or 56 for a look-up of names.
+/// Errors:
+/// - `Stub`: the body has the layout of no request; it has more than `MAX_REQUEST_BYTES`, more than 32 arguments or named arguments, no
+///   name or more than 17, or more than 16 indices; or the field of some value is broken.
+/// - `BadVarType`: otherwise, some value has a type outside the profile. It contains the index of the first of these in rgvarg, or None if
+///   it is the new value of an element.
+/// - `Memory`: an allocation fails. Only an opcode whose bodies need memory to be decoded can fail so, and only in a body of at most
+///   `MAX_REQUEST_BYTES` and at least 64 bytes, or 56 for a look-up of names.
 pub fn read_request(alloc: Global, body: &[u8]) -> Result<Request, RecordFault>
     ensures { IsRequest body.now result }
 {
@@ -177,7 +180,7 @@ pub fn read_request(alloc: Global, body: &[u8]) -> Result<Request, RecordFault>
     request(alloc, parts)
 }
 
-/// The call of these parts, with the value of the field where it has one.
+/// Decodes the field of the new value, if there is one. Returns None if that fails.
 fn value_call(alloc: Global, parts: ValueParts<'_>) -> Option<ValueCall>
     ensures { IfSome result (λ call. (call.head ≡ parts.entry.head) × SpellsNew (option_map (λ f. f.now) parts.entry.field) call.value) }
 {
@@ -194,8 +197,8 @@ fn value_call(alloc: Global, parts: ValueParts<'_>) -> Option<ValueCall>
     }
 }
 
-/// The call of an INVOKE that brings no more than a put's new value, read without a list. None of any other body, of one that
-/// `read_request` refuses, and where the value gets no block.
+/// Decodes an INVOKE without arguments or with a property's new value only. It allocates no lists. Returns None for any other body, for one
+/// that `read_request` refuses, and if the allocation of the value fails; the caller then calls `read_request`.
 pub fn read_value_call(alloc: Global, body: &[u8]) -> Option<ValueCall>
     ensures { IfSome result (λ call. Asks body.now (ByCall Invoke (bringing call.head call.value))) }
 {

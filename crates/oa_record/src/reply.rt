@@ -6,8 +6,8 @@ use oa_model::HResult;
 use std::alloc::Global;
 use std::marker::Model;
 
-/// A reply: the tag of its request, a code, the index in rgvarg of the argument that the code is about, and its fields, which are at most
-/// 4,294,967,275 bytes.
+/// A reply: the tag of its request, a code, the index in rgvarg of the argument that the code is about, and at most 4,294,967,275 bytes of
+/// fields.
 #[derive(Debug, Drop)]
 pub struct Reply {
     tag: u32,
@@ -28,7 +28,7 @@ impl Model for Reply {
 }
 
 impl Reply {
-    /// A reply with these fields.
+    /// Makes a reply with these fields, at most 4,294,967,275 bytes.
     pub fn new(tag: u32, code: HResult, index: Option<u32>, body: Vec<u8>) -> Reply
         requires { length body.items ≤ max_fields_bytes }
         ensures { result ≡ record { tag = tag; code = code; index = index; body = body.items } }
@@ -41,35 +41,35 @@ impl Reply {
         }
     }
 
-    /// A reply without fields, as a refusal is. Takes no memory.
+    /// Makes a reply without fields, such as a refusal. Allocates nothing.
     pub fn bare(alloc: Global, tag: u32, code: HResult, index: Option<u32>) -> Reply
         ensures { result ≡ record { tag = tag; code = code; index = index; body = [] } }
     {
         Reply::new(tag, code, index, Vec::new(alloc))
     }
 
-    /// The tag of its request.
+    /// Returns the tag of the request.
     pub fn tag(&self) -> u32
         ensures { result ≡ self.now.tag }
     {
         self.tag
     }
 
-    /// Its code.
+    /// Returns the code.
     pub fn code(&self) -> HResult
         ensures { result ≡ self.now.code }
     {
         self.code
     }
 
-    /// The index in rgvarg of the argument that the code is about.
+    /// Returns the index in rgvarg of the argument that the code is about.
     pub fn index(&self) -> Option<u32>
         ensures { result ≡ self.now.index }
     {
         self.index
     }
 
-    /// Its fields, at most 4,294,967,275 bytes.
+    /// Returns the fields, at most 4,294,967,275 bytes.
     pub fn body(&self) -> &[u8]
         ensures value { result.now ≡ self.now.body }
         ensures small { length result.now ≤ max_fields_bytes }
@@ -77,7 +77,7 @@ impl Reply {
         self.body.as_slice()
     }
 
-    /// The 16 bytes before its fields: tag, code, index (0xFFFFFFFF for none), reserved, each a u32.
+    /// Returns the 16 bytes before the fields: tag, code, index (0xFFFFFFFF for None), reserved, each a u32.
     #[tactic(auto, unfolding(crate::specs::Replies::word))]
     pub fn head(&self) -> [u8; 16]
         ensures { result ≡ reply_head self.now }

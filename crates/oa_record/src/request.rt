@@ -1,48 +1,48 @@
-//! Requests.
+//! Requests as Rust types.
 use crate::{Arguments, ByCall, ByNumber, Dispids, Names, Query};
 use oa_array::Indices;
 use oa_model::Bound;
 use oa_variant::Variant;
 use uuid::Uuid;
 
-/// What a body asks for (this project's choice).
+/// A request, as a body encodes it (this project's choice).
 #[derive(Debug, Drop)]
 pub enum Request {
-    /// A new object of a coclass.
+    /// Creates an object of a coclass.
     Create {
         /// The GUID of the coclass.
         class: Uuid,
     },
-    /// What is asked by a number.
+    /// A request whose only field is a number.
     ByNumber(ByNumber, u32),
-    /// The DISPIDs of a member and of its parameters.
+    /// Looks up the DISPIDs of a member and of its parameters.
     GetIds(GetIds),
-    /// What is asked by a call of a member of an object.
+    /// A request whose fields are a call of a member of an object.
     ByCall(ByCall, Call),
-    /// An element of an array that a property holds.
+    /// Reads an element of an array that is the value of a property.
     GetElement {
-        /// The property.
+        /// The call that names the property.
         call: Call,
         /// The indices of the element, at most 16: one for each bound, in the order of the bounds.
         indices: Indices,
     },
-    /// A new value of an element of an array that a property holds.
+    /// Sets an element of an array that is the value of a property.
     PutElement {
-        /// The property.
+        /// The call that names the property.
         call: Call,
         /// The indices of the element, at most 16: one for each bound, in the order of the bounds.
         indices: Indices,
-        /// The new value, which is no argument of the call.
+        /// The new value, which is not an argument of the call.
         value: Variant,
     },
-    /// Another first listed bound of an array that a property holds.
+    /// Replaces the first listed bound of an array that is the value of a property.
     Redimension {
-        /// The property.
+        /// The call that names the property.
         call: Call,
-        /// What replaces the first listed bound (SAFEARRAYBOUND, MS-OAUT section 2.2.30.1).
+        /// The new first listed bound (SAFEARRAYBOUND, MS-OAUT section 2.2.30.1).
         bound: Bound,
     },
-    /// What is asked without fields.
+    /// A request without fields.
     Query(Query),
 }
 
@@ -51,50 +51,51 @@ pub enum Request {
 pub struct GetIds {
     /// The number of the object.
     pub object: u32,
-    /// The interface; the zero GUID stands for the default interface.
+    /// The interface; the zero GUID means the default interface.
     pub interface: Uuid,
-    /// The reserved riid.
+    /// The riid, which is reserved.
     pub riid: Uuid,
-    /// The locale, which may be any.
+    /// The locale; any value is allowed.
     pub lcid: u32,
-    /// The names that are looked up.
+    /// The names to look up.
     pub names: Names,
 }
 
-/// What is called, and how: the fields at the start of a call's head (IDispatch::Invoke, MS-OAUT section 3.1.4.4).
+/// The fields at the start of a call's head: the object, the member and how it is called (IDispatch::Invoke, MS-OAUT section 3.1.4.4).
 #[derive(Clone, Copy, Debug, PartialEq, Eq)]
 pub struct CallHead {
     /// The number of the object.
     pub object: u32,
-    /// The member.
+    /// The DISPID of the member.
     pub dispid: i32,
-    /// The interface; the zero GUID stands for the default interface.
+    /// The interface; the zero GUID means the default interface.
     pub interface: Uuid,
-    /// The reserved riid.
+    /// The riid, which is reserved.
     pub riid: Uuid,
-    /// The locale, which may be any.
+    /// The locale; any value is allowed.
     pub lcid: u32,
-    /// How the member is called: 1 as a method, 2 as a property that is read, 4 as one that is put, 8 as one that is put by reference.
+    /// How the member is called: 1 calls a method, 2 reads a property, 4 puts a property, 8 puts a property by reference.
     pub flags: u16,
 }
 
-/// A call of a member (IDispatch::Invoke, MS-OAUT section 3.1.4.4). Requests on elements and locks name the array's property by one.
+/// A call of a member (IDispatch::Invoke, MS-OAUT section 3.1.4.4). Requests on elements, bounds and locks of an array name its property by
+/// a call.
 #[derive(Debug, Drop)]
 pub struct Call {
-    /// What is called, and how.
+    /// The object, the member and how it is called.
     pub head: CallHead,
-    /// The DISPIDs of the named arguments, which stand first in `arguments`; there may be more of them than of these.
+    /// The DISPIDs of the named arguments, which come first in `arguments`. A body may have more DISPIDs than arguments.
     pub named: Dispids,
     /// The arguments.
     pub arguments: Arguments,
 }
 
-/// An INVOKE that brings no more than a put's new value: without arguments, or with one alone, which is named DISPID_PROPERTYPUT (MS-OAUT
-/// section 2.2.32.1). So it takes no list.
+/// An INVOKE without arguments, or with one argument that is named DISPID_PROPERTYPUT (MS-OAUT section 2.2.32.1). It needs no lists, so
+/// that no memory is allocated for them.
 #[derive(Debug, Drop)]
 pub struct ValueCall {
-    /// What is called, and how.
+    /// The object, the member and how it is called.
     pub head: CallHead,
-    /// The new value; None without arguments.
+    /// The new value; None if there are no arguments.
     pub value: Option<Variant>,
 }

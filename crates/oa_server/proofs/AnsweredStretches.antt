@@ -16,7 +16,7 @@ use Rattle.oa_server.specs.SharedTalks.{AsksIn, TakesOver, asked_written}
 use Rattle.oa_server.specs.Sharing.{ClientReply, Shared, failed, shared, tagged}
 use Rattle.oa_server.specs.Stretches.{AnswersStretches, IsLateFor, ServesStretch, ServesStretches, Stretch, all_told, bodies_of, cut_at_now, told_in}
 use Rattle.oa_server.specs.declared.desk.Desk.{Desk}
-use Rattle.oa_server.specs.declared.shared_engine.SharedEngine.{SharedEngine}
+use Rattle.oa_server.specs.declared.engine.Engine.{Engine}
 use Rattle.oa_server.specs.declared.storage.Storage.{Storage}
 use Rattle.oa_server.specs.declared.storage.Storage.TheVariants.{Disk, Memory}
 use Rattle.oa_share.specs.Marks.{Owned, Of, Now}
@@ -129,7 +129,7 @@ module _ {D : Type 0} {g : Ghosts D} (only : (d : D) (c : List ℕ) → IsTrue (
   SoFarIn start first (Memory disk) state desk front out = ⊥
   SoFarIn start first (Disk store) state desk front out = (desk.open_group.size ≡ size) × SoFar start first (desk_grouping store state desk) front out
 
-  record Answered (start : Store D g) (first : Shared) (front : List (List ℕ)) (out : List ClientReply) (asks : List (Owned Brought)) (frames : List (ℕ × List ℕ)) (new : SharedEngine D g) : Type 0 where
+  record Answered (start : Store D g) (first : Shared) (front : List (List ℕ)) (out : List ClientReply) (asks : List (Owned Brought)) (frames : List (ℕ × List ℕ)) (new : Engine D g) : Type 0 where
     stretches : List Stretch
     are : cut_at_now front asks ≡ map bodies_of stretches
     told : all_frames out ++ frames ≡ all_frames (told_in stretches)
@@ -174,7 +174,7 @@ module _ {D : Type 0} {g : Ghosts D} (only : (d : D) (c : List ℕ) → IsTrue (
   }
 
   -- the last of them is *now*
-  answered : (start : Store D g) (first : Shared) (old new : SharedEngine D g) (front : List (List ℕ)) (out : List ClientReply) (asks : List (Owned Brought)) (tolds : List (List (ℕ × List ℕ)))
+  answered : (start : Store D g) (first : Shared) (old new : Engine D g) (front : List (List ℕ)) (out : List ClientReply) (asks : List (Owned Brought)) (tolds : List (List (ℕ × List ℕ)))
       → SoFarIn start first old.storage old.host old.desk front out → AllTurned asked_written old (asks ++ Now ∷ []) tolds new → Answered start first front out (asks ++ Now ∷ []) (all_told tolds) new
   answered start first old new front out [] (told ∷ []) was run =
       let one = ended_in start first old.storage run.0.storage old.host run.0.host old.desk run.0.desk front out told was run.1 in
@@ -184,8 +184,8 @@ module _ {D : Type 0} {g : Ghosts D} (only : (d : D) (c : List ℕ) → IsTrue (
         told = ap (λ (l : List (ℕ × List ℕ)). all_frames out ++ l) (handed_first told [] ∙ ap (λ (l : List (ℕ × List ℕ)). told ++ l) handed_none ∙ append-nil told ∙ one.are) ∙ sym (frames_both out one.told)
             ∙ ap all_frames (sym (append-nil (out ++ one.told)) ∙ ap (λ (l : List ClientReply). (out ++ one.told) ++ l) (sym told_nothing) ∙ sym (told_first (record { bodies = front; told = out ++ one.told }) []));
         last = one.mid;
-        last_is = ap (λ (e : SharedEngine D g). e.storage) run.2 ∙ one.mid_is;
-        serves = (one.mid, shared run.0.host run.0.desk.owners, one.serves, (refl, ap (λ (e : SharedEngine D g). shared e.host e.desk.owners) run.2));
+        last_is = ap (λ (e : Engine D g). e.storage) run.2 ∙ one.mid_is;
+        serves = (one.mid, shared run.0.host run.0.desk.owners, one.serves, (refl, ap (λ (e : Engine D g). shared e.host e.desk.owners) run.2));
       }
   answered start first old new front out [] [] was run = absurd run
   answered start first old new front out [] (told ∷ (more ∷ tolds)) was run = absurd run.2

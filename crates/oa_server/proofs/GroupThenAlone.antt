@@ -119,7 +119,7 @@ module _ {D : Type 0} {g : Ghosts D} where
   -- so a step at any body is what is taken at it
   taken_by : (b : Bool) (old new : Engine D g) (body : List ℕ) (replies : List (List ℕ)) → is_replacement body ≡ b → sessions.step_by b taken_written ended_written old body replies new → taken_written old body replies new
   taken_by true old new body replies is s =
-      ended_then old.storage s.between.storage new.storage old.host s.between.host new.host old.open_group s.between.open_group new.open_group body s.held s.own replies is s.ended s.turned s.are
+      ended_then old.storage s.between.storage new.storage old.host s.between.host new.host old.desk.open_group s.between.desk.open_group new.desk.open_group body s.held s.own replies is s.ended s.turned s.are
   taken_by false old new body replies is s = s
 
   run_taken : (old new : Engine D g) (bodies : List (List ℕ)) (handed : List (List (List ℕ))) → sessions.BodiesTurned (sessions.step is_replacement taken_written ended_written) old bodies handed new → sessions.BodiesTurned taken_written old bodies handed new

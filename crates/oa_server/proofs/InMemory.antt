@@ -38,7 +38,7 @@ module _ {D : Type 0} {g : Ghosts D} where
   run_in_memory : (old new : Engine D g) (bodies : List (List ℕ)) (handed : List (List (List ℕ))) → InMemory old.storage → sessions.BodiesTurned taken_written old bodies handed new → RunsInMemory old new bodies handed
   run_in_memory old new [] [] here run = record { run = ap (λ (s : Engine D g). s.host) run; memory = subst (λ (s : Engine D g). InMemory s.storage) (sym run) here }
   run_in_memory old new (body ∷ bodies) (replies ∷ handed) here run =
-      let one = in_memory old.storage run.0.storage old.host run.0.host old.open_group run.0.open_group body replies here run.1 in
+      let one = in_memory old.storage run.0.storage old.host run.0.host old.desk.open_group run.0.desk.open_group body replies here run.1 in
       let rest = run_in_memory run.0 new bodies handed one.memory run.2 in
       record { run = (run.0.host, one.turn, rest.run); memory = rest.memory }
   run_in_memory old new [] (replies ∷ handed) here run = absurd run
@@ -48,5 +48,5 @@ module _ {D : Type 0} {g : Ghosts D} where
       → sessions.Session f is_replacement taken_written ended_written last input input' out out' old new served → sessions.Session f is_replacement turn_written none_held last input input' out out' old.host new.host served
   session_in_memory f last input input' out out' old new served here is =
       let runs = run_in_memory old is.mid is.bodies is.handed here is.run in
-      let ended = ended_in_memory is.mid.storage new.storage is.mid.host new.host is.mid.open_group new.open_group is.held runs.memory is.ended in
+      let ended = ended_in_memory is.mid.storage new.storage is.mid.host new.host is.mid.desk.open_group new.desk.open_group is.held runs.memory is.ended in
       session_as taken_written turn_written ended_written none_held f is_replacement last input input' out out' old new old.host is.mid.host new.host served is runs.run ended

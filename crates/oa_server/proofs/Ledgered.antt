@@ -22,10 +22,9 @@ use Rattle.oa_model.specs.declared.bound.Bound.{Bound}
 use Rattle.oa_model.specs.declared.hresult.HResult.{HResult}
 use Rattle.oa_model.specs.declared.var_type.ValueType.{ValueType}
 use Rattle.oa_model.specs.declared.var_type.ValueType.TheVariants as kinds
-use Rattle.oa_owners.specs.ClientLocks.{cells_of, of_others, without_one}
+use Rattle.oa_owners.specs.ClientLocks.{ClientLock, cells_of, of_others, with_one, without_one}
 use Rattle.oa_owners.specs.Counts.{HasLocks, IsLedger, name_of}
-use Rattle.oa_owners.specs.declared.owners.ClientLock.{ClientLock}
-use Rattle.oa_owners.proofs.Counted.{can_unlock, count_last, count_none, count_of_none, count_owned, count_without, event_ordered, event_stays, has_same, lock_counted, object_ordered, own_last, own_without, redim_same, unlock_counted}
+use Rattle.oa_owners.proofs.Counted.{can_unlock, count_more_of, count_none, count_of_none, count_owned, count_without, event_ordered, event_stays, has_same, lock_counted, object_ordered, own_one_more, own_without, redim_same, unlock_counted}
 use Rattle.oa_record.specs.Asks.{Asks, IsStub, tag_at}
 use Rattle.oa_record.specs.Replacement.{is_replacement}
 use Rattle.oa_record.specs.Replies.{ReplyValue, number_field}
@@ -33,7 +32,7 @@ use Rattle.oa_record.specs.declared.request.Request.{Request}
 use Rattle.oa_record.specs.declared.request.Request.TheVariants as requests
 use Rattle.oa_record.specs.declared.opcode.ByCall.TheVariants as by_call
 use Rattle.oa_record.specs.declared.opcode.ByNumber.TheVariants as by_number
-use Rattle.oa_server.specs.Ledgers.{EndUnlocksAll, HasLedger, IsRunOfOne, IsTurnOfOne, OpeningHasLedger, OwnsAll, RunsKeepLedger, TurnsKeepLedger}
+use Rattle.oa_server.specs.Ledgers.{ClientsKeepLedger, EndUnlocksAll, HasLedger, IsRunOfOne, IsTurnOfOne, OpeningHasLedger, OwnsAll, RunsKeepLedger, TurnsKeepLedger}
 use Rattle.oa_server.specs.Sharing.{ClientReply, HasOwners, IsSharedTurn, MayChange, RefusesUnlock, Replies, Shared, TakesTurn, TurnOf, TurnsFor, behind_end, brought_by, client_in, relocked_by, shared, tagged, taken_back}
 use Rattle.oa_server.proofs.LockTurns.{OneRequest, apart_asks_none, not_apart}
 use Rattle.oa_share.specs.Readers.{Body, Brought, Ends}
@@ -143,7 +142,7 @@ shaped state (requests.ByNumber by_number.TypeInfo index) = then_shaped false (k
 shaped state (requests.Query query) = tt
 
 -- what is decided of a body that asks for a lock
-relock_of : (state : State) (request : Request) (change : LockChange) → lock_asked_by state request ≡ Some change → (fields : List ℕ) × (decided state request ≡ Ok (Relock change fields)) × (changes_lock request ≡ true)
+pub relock_of : (state : State) (request : Request) (change : LockChange) → lock_asked_by state request ≡ Some change → (fields : List ℕ) × (decided state request ≡ Ok (Relock change fields)) × (changes_lock request ≡ true)
 relock_of state request change e = by (changes_lock request) refl e
   where
     on : (due : Result Decision Refusal) → decided state request ≡ due → lock_decided due ≡ Some change → (fields : List ℕ) × (decided state request ≡ Ok (Relock change fields))
@@ -257,7 +256,7 @@ keeps_plain state locks request (Ok (Change event fields)) is shape none has = k
 keeps_plain state locks request (Ok (Relock change fields)) is shape none has =
     absurd (not_none change (sym (ap (λ (b : Bool). if b then lock_decided (decided state request) else None) shape ∙ ap lock_decided is) ∙ none))
 
-fault_told : (tag : ℕ) (change : LockChange) (fields : List ℕ) (fault : TableFault) → is_done (reply_with tag (relocking change fields (Err fault))) ≡ false
+pub fault_told : (tag : ℕ) (change : LockChange) (fields : List ℕ) (fault : TableFault) → is_done (reply_with tag (relocking change fields (Err fault))) ≡ false
 fault_told tag change fields faults.NoObject = refl
 fault_told tag change fields faults.WrongNumber = refl
 fault_told tag change fields faults.NotArray = refl
@@ -283,7 +282,7 @@ keeps_relock client tag state locks locks' (Lock name) fields (Ok new) is done m
       numbered = stays.numbered;
       ledger = record {
         ordered = stays.ordered;
-        counted = has_same (name ∷ map name_of locks) (map name_of (locks ++ record { client = client; name = name } ∷ [])) new (λ other. count_last other locks (record { client = client; name = name })) (lock_counted name (map name_of locks) state.table new is has.ledger.counted);
+        counted = has_same (name ∷ map name_of locks) (map name_of (with_one client name locks)) new (λ other. count_more_of other locks client name) (lock_counted name (map name_of locks) state.table new is has.ledger.counted);
       };
     }))
 keeps_relock client tag state locks locks' (Unlock name) fields (Ok new) is done may same has =
@@ -380,12 +379,12 @@ module _ (one_request : OneRequest) (is_stub : (body : List ℕ) → is_replacem
       (all_taken_back (map name_of old.locks) [] old.state (record { numbered = has.numbered; ordered = has.ledger.ordered })
       (subst (λ (names : List CellName). HasLocks names old.state.table) (sym (append-nil (map name_of old.locks))) has.ledger.counted)).counted name ∙ count_none name
 
+  pub clients_keep : ClientsKeepLedger
+  clients_keep client (Body body) told old new has turn = for_keeps client body turn.reply old new has turn.turn
+  clients_keep client (Ends why) told old new has turn = subst (λ (s : Shared). HasLedger s) (sym turn.behind) (end_keeps_ledger client old has)
+
   pub turns_keep : TurnsKeepLedger
-  turns_keep asked old new has one = by one.brought one.turn
-    where
-      by : (brought : Brought) → TurnOf one.client brought asked.reply old new → HasLedger new
-      by (Body body) turn = for_keeps one.client body turn.reply old new has turn.turn
-      by (Ends why) turn = subst (λ (s : Shared). HasLedger s) (sym turn.behind) (end_keeps_ledger one.client old has)
+  turns_keep asked old new has one = clients_keep one.client one.brought asked.reply old new has one.turn
 
   pub runs_keep : RunsKeepLedger
   runs_keep old new [] has run = subst (λ (s : Shared). HasLedger s) run has
@@ -425,8 +424,8 @@ module _ (one_request : OneRequest) (is_stub : (body : List ℕ) → is_replacem
       is_outcome = ap (λ (d : Result Decision Refusal). outcome_of old.state d) due.1 ∙ ap (λ (r : Result TableValue TableFault). relocking (Unlock refused.name) due.0 r) none
 
   owns_on : (client : ℕ) (change : LockChange) (locks locks' : List ClientLock) → MayChange client change locks → locks' ≡ relocked_by client change locks → of_others client locks ≡ [] → of_others client locks' ≡ []
-  owns_on client (Lock name) locks locks' may same own = ap (λ (l : List ClientLock). of_others client l) same ∙ own_last client name locks own
-  owns_on client (Unlock name) locks locks' may same own = ap (λ (l : List ClientLock). of_others client l) same ∙ own_without client name locks may own
+  owns_on client (Lock name) locks locks' may same own = ap (λ (l : List ClientLock). of_others client l) same ∙ own_one_more client name locks own
+  owns_on client (Unlock name) locks locks' may same own = ap (λ (l : List ClientLock). of_others client l) same ∙ own_without client name locks own
 
   still_own : (client : ℕ) (body : List ℕ) (reply : ReplyValue) (old new : Shared) → OwnsAll client old → TakesTurn client body reply old new → OwnsAll client new
   still_own client body reply old new own one = by (is_done reply) refl

@@ -24,5 +24,6 @@ mod HeldForMany
 mod AnsweredStretches
 mod SharedParts
 mod Ledgered
+mod LocksBack
 mod OneClientAlone
 mod PutFrames

@@ -8,7 +8,7 @@ use Rattle.oa_groups.specs.Groupings.{FailsAtCheckpoint, Grouping, IsAfterFault,
 use Rattle.oa_groups.specs.Runs.{MakesEvent}
 use Rattle.oa_groups.specs.Turns.{exchange}
 use Rattle.oa_groups.proofs.Entries.{either}
-use Rattle.oa_owners.specs.declared.owners.ClientLock.{ClientLock}
+use Rattle.oa_owners.specs.ClientLocks.{ClientLock}
 use Rattle.oa_record.specs.Replacement.{is_replacement}
 use Rattle.oa_record.specs.Replies.{ReplyValue}
 use Rattle.oa_store.specs.declared.store.Store.{Store}

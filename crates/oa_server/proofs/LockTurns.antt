@@ -1,16 +1,14 @@
 -- Bodies that ask for a lock to be changed.
-use Rattle.std.proofs.Common.{◌≡◌, ◌⊎◌, if◌then◌else◌, inl, inr, ℕ, ◌+◌, ◌<◌, ◌≤◌, ◌==◌, drop, get_or, length, ◌++◌, map, Bool, true, false, true≢false, List, [], ◌∷◌, Option, Some, None, Result, Ok, Err, IsOk, refl, sym, ap, ◌∙◌, subst}
-use Rattle.std.proofs.lemmas.List.{drop_all, drop_more}
+use Rattle.std.proofs.Common.{◌≡◌, ◌⊎◌, if◌then◌else◌, inl, inr, ℕ, Bool, true, false, true≢false, List, [], Option, Some, None, Result, Ok, Err, IsOk, refl, sym, ap, ◌∙◌, subst}
 use Rattle.oa_model.specs.Codes.{e_outofmemory}
-use Rattle.oa_owners.specs.ClientLocks.{cells_of, owns, without_one}
-use Rattle.oa_owners.specs.declared.owners.ClientLock.{ClientLock}
+use Rattle.oa_owners.specs.ClientLocks.{ClientLock, owns, with_one, without_one}
 use Rattle.oa_record.specs.Asks.{Asks, IsStub, MayStarve, tag_at}
 use Rattle.oa_record.specs.Replacement.{is_replacement}
 use Rattle.oa_record.specs.Replies.{ReplyValue}
 use Rattle.oa_record.specs.declared.request.Request.{Request}
 use Rattle.oa_record.specs.declared.request.Request.TheVariants as requests
 use Rattle.oa_record.specs.declared.opcode.ByCall.TheVariants as by_call
-use Rattle.oa_server.specs.Sharing.{HasOwners, IsLockTurn, MayChange, TurnsFor, relocked_by, shared, taken_back, taken_one}
+use Rattle.oa_server.specs.Sharing.{HasOwners, IsLockTurn, MayChange, TurnsFor, relocked_by, shared}
 use Rattle.oa_table.specs.declared.name.CellName.{CellName}
 use Rattle.oa_decision.specs.Decided.{RequestTakesMemory, decided, refusal}
 use Rattle.oa_decision.specs.Lock.{locking}
@@ -27,7 +25,6 @@ use Rattle.oa_turn.proofs.SameLibrary.{ordinary_bank}
 use Rattle.oa_turn.specs.Events.{HasEvent, is_done}
 use Rattle.oa_turn.specs.Locking.{AsksLock, changes_lock, lock_asked_by, lock_decided}
 use Rattle.oa_turn.specs.Plans.{HoldsSame, IsPlanned}
-use Rattle.oa_turn.specs.Steps.{after_locks}
 use Rattle.oa_turn.specs.Turns.{MayLack, Ordinary, Turn}
 
 abbrev pub OneRequest : Type 0
@@ -132,53 +129,13 @@ pub apart_asks_none : ((body : List ℕ) → is_replacement body ≡ true → Is
     → (body : List ℕ) (state : State) (change : LockChange) → is_replacement body ≡ true → AsksLock state body change → ⊥
 apart_asks_none is_stub asks_nothing body state change kind asks = asks_nothing body asks.request (is_stub body kind) asks.asked
 
--- ---- locks that are taken back, one after another
-cells_at : (client : ℕ) (lock : ClientLock) (locks : List ClientLock) (b : Bool) → (lock.client == client) ≡ b
-    → cells_of client (lock ∷ locks) ≡ (if b then lock.name ∷ cells_of client locks else cells_of client locks)
-unfolding cells_of
-cells_at client lock locks b e = ap (λ (c : Bool). if c then lock.name ∷ cells_of client locks else cells_of client locks) e
-
-no_cells : (client : ℕ) → cells_of client [] ≡ []
-unfolding cells_of
-no_cells client = refl
-
-one_taken : (client : ℕ) (lock : ClientLock) (locks : List ClientLock) (state : State) → taken_back (cells_of client (lock ∷ locks)) state ≡ taken_back (cells_of client locks) (taken_one client lock state)
-one_taken client lock locks state = by (lock.client == client) refl
-  where
-    by : (b : Bool) → (lock.client == client) ≡ b → taken_back (cells_of client (lock ∷ locks)) state ≡ taken_back (cells_of client locks) (if b then after_locks state (Some (Unlock lock.name)) else state)
-    by true e = ap (λ (names : List CellName). taken_back names state) (cells_at client lock locks true e)
-    by false e = ap (λ (names : List CellName). taken_back names state) (cells_at client lock locks false e)
-
-pub next_back : (client : ℕ) (all : List ClientLock) (i : ℕ) (lock : ClientLock) (state after first : State) → i < length all → get_or all i lock ≡ lock → after ≡ taken_one client lock state
-    → taken_back (cells_of client (drop i all)) state ≡ taken_back (cells_of client all) first → taken_back (cells_of client (drop (i + 1) all)) after ≡ taken_back (cells_of client all) first
-next_back client all i lock state after first within here is so_far =
-    let next : drop i all ≡ lock ∷ drop (i + 1) all = rw here at (drop_more all i lock within) in
-    ap (λ (s : State). taken_back (cells_of client (drop (i + 1) all)) s) is ∙ sym (one_taken client lock (drop (i + 1) all) state)
-    ∙ sym (ap (λ (l : List ClientLock). taken_back (cells_of client l) state) next) ∙ so_far
-
-pub all_taken : (client : ℕ) (all : List ClientLock) (i : ℕ) (state first : State) → length all ≤ i → taken_back (cells_of client (drop i all)) state ≡ taken_back (cells_of client all) first → state ≡ taken_back (cells_of client all) first
-all_taken client all i state first over so_far = sym (ap (λ (names : List CellName). taken_back names state) (ap (λ (l : List ClientLock). cells_of client l) (drop_all i all over) ∙ no_cells client)) ∙ so_far
-
--- whoever has them
-pub each_back : (all : List ClientLock) (i : ℕ) (lock : ClientLock) (state after first : State) → i < length all → get_or all i lock ≡ lock → after ≡ after_locks state (Some (Unlock lock.name))
-    → taken_back (map (λ (l : ClientLock). l.name) (drop i all)) state ≡ taken_back (map (λ (l : ClientLock). l.name) all) first
-    → taken_back (map (λ (l : ClientLock). l.name) (drop (i + 1) all)) after ≡ taken_back (map (λ (l : ClientLock). l.name) all) first
-each_back all i lock state after first within here is so_far =
-    let next : drop i all ≡ lock ∷ drop (i + 1) all = rw here at (drop_more all i lock within) in
-    ap (λ (s : State). taken_back (map (λ (l : ClientLock). l.name) (drop (i + 1) all)) s) is
-    ∙ sym (ap (λ (l : List ClientLock). taken_back (map (λ (x : ClientLock). x.name) l) state) next) ∙ so_far
-
-pub each_taken : (all : List ClientLock) (i : ℕ) (state first : State) → length all ≤ i
-    → taken_back (map (λ (l : ClientLock). l.name) (drop i all)) state ≡ taken_back (map (λ (l : ClientLock). l.name) all) first → state ≡ taken_back (map (λ (l : ClientLock). l.name) all) first
-each_taken all i state first over so_far = sym (ap (λ (l : List ClientLock). taken_back (map (λ (x : ClientLock). x.name) l) state) (drop_all i all over)) ∙ so_far
-
 -- ---- LOCK and UNLOCK
-pub locked_turn : OneRequest → (client : ℕ) (before after : State) (body : List ℕ) (name : CellName) (reply : ReplyValue) (locks mid locks' : List ClientLock) → is_replacement body ≡ false → AsksLock before body (Lock name)
-    → Ordinary before body reply after → HasEvent before body reply [] → HoldsSame before after → mid ≡ locks ++ record { client = client; name = name } ∷ []
-    → (is_done reply ≡ true → locks' ≡ mid) → (is_done reply ≡ false → (front : List ClientLock) (last : ClientLock) → mid ≡ front ++ last ∷ [] → locks' ≡ front)
+pub locked_turn : OneRequest → (client : ℕ) (before after : State) (body : List ℕ) (name : CellName) (reply : ReplyValue) (locks locks' : List ClientLock) → is_replacement body ≡ false → AsksLock before body (Lock name)
+    → Ordinary before body reply after → HasEvent before body reply [] → HoldsSame before after
+    → (is_done reply ≡ true → locks' ≡ with_one client name locks) → (is_done reply ≡ false → locks' ≡ locks)
     → IsLockTurn client body reply (shared before locks) (shared after locks')
-locked_turn one_request client before after body name reply locks mid locks' plain asks turn made same added kept dropped =
-    is_turn one_request client before after body (Lock name) reply locks locks' plain asks turn made same tt (λ done. kept done ∙ added) (λ undone. dropped undone locks (record { client = client; name = name }) added)
+locked_turn one_request client before after body name reply locks locks' plain asks turn made same added kept =
+    is_turn one_request client before after body (Lock name) reply locks locks' plain asks turn made same tt added kept
 
 pub given_turn : OneRequest → (client : ℕ) (before after : State) (body : List ℕ) (name : CellName) (reply : ReplyValue) (locks locks' : List ClientLock) → is_replacement body ≡ false → AsksLock before body (Unlock name)
     → Ordinary before body reply after → HasEvent before body reply [] → HoldsSame before after → owns client name locks ≡ true

@@ -7,7 +7,7 @@ use Rattle.oa_groups.specs.Runs.{TurnsOver}
 use Rattle.oa_groups.specs.Served.{IsServed}
 use Rattle.oa_groups.specs.Turns.{Exchange, body_of, reply_of}
 use Rattle.oa_groups.proofs.Entries.{run_append}
-use Rattle.oa_owners.specs.declared.owners.ClientLock.{ClientLock}
+use Rattle.oa_owners.specs.ClientLocks.{ClientLock}
 use Rattle.oa_record.specs.Asks.{Asks, IsStub}
 use Rattle.oa_record.specs.Replacement.{is_replacement}
 use Rattle.oa_record.specs.Replies.{ReplyValue, reply_record}
@@ -21,7 +21,7 @@ use Rattle.oa_server.specs.SharedTalks.{AsksIn, asked_written}
 use Rattle.oa_server.specs.Sharing.{AnswersBody, ClientReply, IsSharedTurn, Replies, Shared, TurnOf, TurnsFor, brought_by, client_in, shared, tagged}
 use Rattle.oa_server.specs.Stretches.{AnswersStretches, ServesStretch, ServesStretches, Stretch, all_told, bodies_of, cut_at_now, told_in}
 use Rattle.oa_server.specs.declared.desk.Desk.{Desk}
-use Rattle.oa_server.specs.declared.shared_engine.SharedEngine.{SharedEngine}
+use Rattle.oa_server.specs.declared.engine.Engine.{Engine}
 use Rattle.oa_server.specs.declared.storage.Storage.{Storage}
 use Rattle.oa_server.specs.declared.storage.Storage.TheVariants.{Memory}
 use Rattle.oa_server.proofs.LockTurns.{OneRequest}
@@ -83,7 +83,7 @@ module _ (one_request : OneRequest) (is_stub : (body : List ℕ) → is_replacem
   -- ---- in memory
   module _ {D : Type 0} {g : Ghosts D} where
     in_memory : OneClientInMemory g
-    in_memory client disk old new [] [] [] is has own asks run = record { replies = []; run = ap (λ (e : SharedEngine D g). e.host) run; are = none_first }
+    in_memory client disk old new [] [] [] is has own asks run = record { replies = []; run = ap (λ (e : Engine D g). e.host) run; are = none_first }
     in_memory client disk old new [] [] (told ∷ tolds) is has own asks run = absurd run
     in_memory client disk old new [] (body ∷ bodies) tolds is has own asks run = absurd asks
     in_memory client disk old new (Of other (Ends why) ∷ rest) bodies tolds is has own asks run = absurd asks

@@ -16,7 +16,7 @@ use Rattle.oa_server.specs.SharedSessions.{HasServedClients}
 use Rattle.oa_server.specs.SharedTalks.{asked_written}
 use Rattle.oa_server.specs.Sharing.{ClientReply, Shared, shared}
 use Rattle.oa_server.specs.Stretches.{AnswersStretches, ServesStretch, ServesStretches, Stretch, all_told}
-use Rattle.oa_server.specs.declared.shared_engine.SharedEngine.{SharedEngine}
+use Rattle.oa_server.specs.declared.engine.Engine.{Engine}
 use Rattle.oa_server.specs.declared.storage.Storage.{Storage}
 use Rattle.oa_server.specs.declared.storage.Storage.TheVariants.{Disk}
 use Rattle.oa_server.proofs.Parting.{BeginsWith, begins_more}
@@ -121,17 +121,17 @@ module _ {D : Type 0} {g : Ghosts D} where
 -- ---- a whole session
 module _ {D : Type 0} {g : Ghosts D} (only : (d : D) (c : List ℕ) → IsTrue (g.is_honest d) → g.image_since d (g.moment d) c → g.image d c) where
   -- what was asked and its ends, up to the last *now*
-  served_to_the_end : (size : ℕ) (old new begun left : SharedEngine D g) (start : Store D g) (asks ends : List (Owned Brought)) (tolds : List (List (ℕ × List ℕ)))
+  served_to_the_end : (size : ℕ) (old new begun left : Engine D g) (start : Store D g) (asks ends : List (Owned Brought)) (tolds : List (List (ℕ × List ℕ)))
       → begun.storage ≡ Disk start → begun.desk.open_group.size ≡ size → begun.desk.open_group.replies.items ≡ [] → begun.desk.open_group.batch ≡ []
-      → shared begun.host begun.desk.owners ≡ shared old.host old.desk.owners → new.storage ≡ left.storage
+      → shared begun.host begun.desk.owners ≡ shared old.host [] → new.storage ≡ left.storage
       → AllTurned asked_written begun (asks ++ (ends ++ Now ∷ [])) tolds left
-      → (end : Store D g) × (new.storage ≡ Disk end) × AnswersStretches size start end (shared old.host old.desk.owners) (asks ++ (ends ++ Now ∷ [])) (all_told tolds) (shared left.host left.desk.owners)
+      → (end : Store D g) × (new.storage ≡ Disk end) × AnswersStretches size start end (shared old.host []) (asks ++ (ends ++ Now ∷ [])) (all_told tolds) (shared left.host left.desk.owners)
   served_to_the_end size old new begun left start asks ends tolds is sized none empty state kept run =
       let same : (asks ++ ends) ++ Now ∷ [] ≡ asks ++ (ends ++ Now ∷ []) = append_assoc asks ends (Now ∷ []) in
       let all = stretches_served {g = g} only begun left start (asks ++ ends) tolds is none empty (subst (λ (l : List (Owned Brought)). AllTurned asked_written begun l tolds left) (sym same) run) in (
         all.0,
         kept ∙ all.1,
-        subst (λ (n : ℕ). AnswersStretches n start all.0 (shared old.host old.desk.owners) (asks ++ (ends ++ Now ∷ [])) (all_told tolds) (shared left.host left.desk.owners)) sized
+        subst (λ (n : ℕ). AnswersStretches n start all.0 (shared old.host []) (asks ++ (ends ++ Now ∷ [])) (all_told tolds) (shared left.host left.desk.owners)) sized
             (subst (λ (s : Shared). AnswersStretches begun.desk.open_group.size start all.0 s (asks ++ (ends ++ Now ∷ [])) (all_told tolds) (shared left.host left.desk.owners)) state
             (subst (λ (l : List (Owned Brought)). AnswersStretches begun.desk.open_group.size start all.0 (shared begun.host begun.desk.owners) l (all_told tolds) (shared left.host left.desk.owners)) same all.2)),
       )
@@ -139,19 +139,19 @@ module _ {D : Type 0} {g : Ghosts D} (only : (d : D) (c : List ℕ) → IsTrue (
   pub sessions_are_calls : SessionsAreCalls g
   sessions_are_calls input input' out out' size old new start why is session = by session.serves.done
     where
-      state : shared session.begun.host session.begun.desk.owners ≡ shared old.host old.desk.owners
+      state : shared session.begun.host session.begun.desk.owners ≡ shared old.host []
       state = rw (session.host, session.owners) refl
 
       asks : List (Owned Brought)
       asks = parted is_replacement session.serves.asked
 
       to_the_end : (ends : List (Owned Brought)) (tolds : List (List (ℕ × List ℕ))) → AllTurned asked_written session.begun (asks ++ (ends ++ Now ∷ [])) tolds session.left
-          → (end : Store D g) × (new.storage ≡ Disk end) × AnswersStretches size start end (shared old.host old.desk.owners) (asks ++ (ends ++ Now ∷ [])) (all_told tolds) (shared session.left.host session.left.desk.owners)
+          → (end : Store D g) × (new.storage ≡ Disk end) × AnswersStretches size start end (shared old.host []) (asks ++ (ends ++ Now ∷ [])) (all_told tolds) (shared session.left.host session.left.desk.owners)
       to_the_end ends tolds run = served_to_the_end size old new session.begun session.left start asks ends tolds (session.storage ∙ is) session.size_is session.no_replies session.no_events state session.kept run
 
       by : TellsAll asked_written asks why session.serves.streams (session.serves.calls + length session.serves.taken) input' out out' session.begun session.left
           ⊎ FailsToTell asked_written asks why session.serves.streams.clients out out' session.begun session.left
-          → (end : Store D g) × (new.storage ≡ Disk end) × IsCallsOf session.serves.asked out out' size start end (shared old.host old.desk.owners) (shared new.host new.desk.owners)
+          → (end : Store D g) × (new.storage ≡ Disk end) × IsCallsOf session.serves.asked out out' size start end (shared old.host []) (shared new.host new.desk.owners)
       by (inl tells) =
           let ends = ends_at why session.serves.streams.clients in
           let all = to_the_end ends tells.told.tolds tells.told.run in (
@@ -162,7 +162,7 @@ module _ {D : Type 0} {g : Ghosts D} (only : (d : D) (c : List ℕ) → IsTrue (
               heard = tells.told.tolds;
               unheard = [];
               last = shared session.left.host session.left.desk.owners;
-              answers = subst (λ (l : List (List (ℕ × List ℕ))). AnswersStretches size start all.0 (shared old.host old.desk.owners) (asks ++ (ends ++ Now ∷ [])) (all_told l) (shared session.left.host session.left.desk.owners)) (sym (append-nil tells.told.tolds)) all.2;
+              answers = subst (λ (l : List (List (ℕ × List ℕ))). AnswersStretches size start all.0 (shared old.host []) (asks ++ (ends ++ Now ∷ [])) (all_told l) (shared session.left.host session.left.desk.owners)) (sym (append-nil tells.told.tolds)) all.2;
               written = inl (tells.told.written, refl);
               behind = session.behind;
             },

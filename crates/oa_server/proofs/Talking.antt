@@ -125,19 +125,19 @@ module _ {D : Type 0} {g : Ghosts D} (only : (d : D) (c : List ℕ) → IsTrue (
   record Went (start : Storage D g) (first : State) (now : Engine D g) (bodies : List (List ℕ)) (out : List ReplyValue) (handed : List (List (List ℕ))) : Type 0 where
     told : List ReplyValue
     are : sessions.joined handed ≡ map reply_record told
-    so_far : SoFar size start first now.storage now.host now.open_group bodies (out ++ told)
+    so_far : SoFar size start first now.storage now.host now.desk.open_group bodies (out ++ told)
 
   went : (start : Storage D g) (first : State) (old new : Engine D g) (front bodies : List (List ℕ)) (out : List ReplyValue) (handed : List (List (List ℕ)))
-      → SoFar size start first old.storage old.host old.open_group front out → sessions.BodiesTurned taken_written old bodies handed new → Went start first new (front ++ bodies) out handed
+      → SoFar size start first old.storage old.host old.desk.open_group front out → sessions.BodiesTurned taken_written old bodies handed new → Went start first new (front ++ bodies) out handed
   went start first old new front [] out [] was run = record {
     told = [];
     are = joined_none;
     so_far =
-        subst (λ (c : Engine D g). SoFar size start first c.storage c.host c.open_group (front ++ []) (out ++ [])) (sym run)
+        subst (λ (c : Engine D g). SoFar size start first c.storage c.host c.desk.open_group (front ++ []) (out ++ [])) (sym run)
         (rw (append-nil front, append-nil out) was);
   }
   went start first old new front (body ∷ bodies) out (replies ∷ handed) was run =
-      let one = taken_more start old.storage run.0.storage first old.host run.0.host old.open_group run.0.open_group front out body replies was run.1 in
+      let one = taken_more start old.storage run.0.storage first old.host run.0.host old.desk.open_group run.0.desk.open_group front out body replies was run.1 in
       let rest = went start first run.0 new (front ++ body ∷ []) bodies (out ++ one.told) handed one.so_far run.2 in
       record {
         told = one.told ++ rest.told;
@@ -326,10 +326,10 @@ module _ {D : Type 0} {g : Ghosts D} (only : (d : D) (c : List ℕ) → IsTrue (
       bodies_are : bodies ≡ bodies_of_parts parts ++ open_bodies
       handed_are : handed ≡ handed_of parts ++ silent open_bodies
       served : Parts size start mid first parts state
-      in_part : InPart mid state now.storage now.host now.open_group open_bodies
+      in_part : InPart mid state now.storage now.host now.desk.open_group open_bodies
 
     in_parts : (start : Storage D g) (first : State) (old new : Engine D g) (front bodies : List (List ℕ)) (handed : List (List (List ℕ)))
-        → InPart start first old.storage old.host old.open_group front → sessions.BodiesTurned taken_written old bodies handed new → InPartsSoFar start first new (front ++ bodies) (silent front ++ handed)
+        → InPart start first old.storage old.host old.desk.open_group front → sessions.BodiesTurned taken_written old bodies handed new → InPartsSoFar start first new (front ++ bodies) (silent front ++ handed)
     in_parts start first old new front [] [] was run = record {
       parts = [];
       open_bodies = front;
@@ -338,15 +338,15 @@ module _ {D : Type 0} {g : Ghosts D} (only : (d : D) (c : List ℕ) → IsTrue (
       bodies_are = append-nil front;
       handed_are = append-nil (silent front);
       served = (refl, refl);
-      in_part = subst (λ (c : Engine D g). InPart start first c.storage c.host c.open_group front) (sym run) was;
+      in_part = subst (λ (c : Engine D g). InPart start first c.storage c.host c.desk.open_group front) (sym run) was;
     }
     in_parts start first old new front (body ∷ bodies) (replies ∷ handed) was run =
-        by (next_in_part start old.storage run.0.storage first old.host run.0.host old.open_group run.0.open_group front body replies was run.1)
+        by (next_in_part start old.storage run.0.storage first old.host run.0.host old.desk.open_group run.0.desk.open_group front body replies was run.1)
         (λ keeps. in_parts start first run.0 new (front ++ body ∷ []) bodies handed keeps.in_part run.2) (λ ends. in_parts run.0.storage run.0.host run.0 new [] bodies handed ends.in_part run.2)
       where
-        by : Steps start first run.0.storage run.0.host run.0.open_group (front ++ body ∷ []) replies
-            → (KeepsOn start first run.0.storage run.0.host run.0.open_group (front ++ body ∷ []) replies → InPartsSoFar start first new ((front ++ body ∷ []) ++ bodies) (silent (front ++ body ∷ []) ++ handed))
-            → (EndsPart start first run.0.storage run.0.host run.0.open_group (front ++ body ∷ []) replies → InPartsSoFar run.0.storage run.0.host new bodies handed)
+        by : Steps start first run.0.storage run.0.host run.0.desk.open_group (front ++ body ∷ []) replies
+            → (KeepsOn start first run.0.storage run.0.host run.0.desk.open_group (front ++ body ∷ []) replies → InPartsSoFar start first new ((front ++ body ∷ []) ++ bodies) (silent (front ++ body ∷ []) ++ handed))
+            → (EndsPart start first run.0.storage run.0.host run.0.desk.open_group (front ++ body ∷ []) replies → InPartsSoFar run.0.storage run.0.host new bodies handed)
             → InPartsSoFar start first new (front ++ body ∷ bodies) (silent front ++ replies ∷ handed)
         by (inl keeps) on others =
             let rest = on keeps in
@@ -395,7 +395,7 @@ module _ {D : Type 0} {g : Ghosts D} (only : (d : D) (c : List ℕ) → IsTrue (
     parts_end : (old mid new : Engine D g) (bodies : List (List ℕ)) (handed : List (List (List ℕ))) (held : List (List ℕ)) → InPartsSoFar old.storage old.host mid bodies handed → ended_written mid held new
         → InParts size old.storage new.storage old.host new.host bodies handed held
     parts_end old mid new bodies handed held was is =
-        let last = ended_at was.mid mid.storage new.storage was.state mid.host new.host mid.open_group new.open_group was.open_bodies [] held was.in_part.so_far is in
+        let last = ended_at was.mid mid.storage new.storage was.state mid.host new.host mid.desk.open_group new.desk.open_group was.open_bodies [] held was.in_part.so_far is in
         record {
           parts = was.parts;
           open_bodies = was.open_bodies;
@@ -406,8 +406,8 @@ module _ {D : Type 0} {g : Ghosts D} (only : (d : D) (c : List ℕ) → IsTrue (
           handed_are = was.handed_are;
           held_are = last.are;
           served = was.served;
-          few = few_open was.mid mid.storage was.state mid.host mid.open_group was.open_bodies was.in_part;
-          rest = rest_at was.mid mid.storage new.storage was.state mid.host new.host mid.open_group new.open_group was.open_bodies held was.in_part is;
+          few = few_open was.mid mid.storage was.state mid.host mid.desk.open_group was.open_bodies was.in_part;
+          rest = rest_at was.mid mid.storage new.storage was.state mid.host new.host mid.desk.open_group new.desk.open_group was.open_bodies held was.in_part is;
           ends = last.serves;
         }
 
@@ -420,11 +420,11 @@ module _ {D : Type 0} {g : Ghosts D} (only : (d : D) (c : List ℕ) → IsTrue (
     }
 
   -- the whole session
-  pub serves_session : (f : Frames) (last : List ℕ) (input input' : Input) (out out' : Output) (old new : Engine D g) (served : Served) → 1 ≤ size → old.open_group.replies.items ≡ [] → old.open_group.batch ≡ []
-      → SoFar size old.storage old.host old.storage old.host old.open_group [] [] → sessions.Session f is_replacement taken_written ended_written last input input' out out' old new served → ServesSession f last input input' out out' size old.storage new.storage old.host new.host served
+  pub serves_session : (f : Frames) (last : List ℕ) (input input' : Input) (out out' : Output) (old new : Engine D g) (served : Served) → 1 ≤ size → old.desk.open_group.replies.items ≡ [] → old.desk.open_group.batch ≡ []
+      → SoFar size old.storage old.host old.storage old.host old.desk.open_group [] [] → sessions.Session f is_replacement taken_written ended_written last input input' out out' old new served → ServesSession f last input input' out out' size old.storage new.storage old.host new.host served
   serves_session f last input input' out out' old new served some none empty begin is =
       let runs = went old.storage old.host old is.mid [] is.bodies [] is.handed begin is.run in
-      let ends = ended_at old.storage is.mid.storage new.storage old.host is.mid.host new.host is.mid.open_group new.open_group is.bodies runs.told is.held runs.so_far is.ended in
+      let ends = ended_at old.storage is.mid.storage new.storage old.host is.mid.host new.host is.mid.desk.open_group new.desk.open_group is.bodies runs.told is.held runs.so_far is.ended in
       record {
         io = session_as taken_written any_turn ended_written any_end f is_replacement last input input' out out' old new tt tt tt served is (any_run old is.mid is.bodies is.handed is.run) tt;
         told = runs.told ++ ends.told;
@@ -432,5 +432,5 @@ module _ {D : Type 0} {g : Ghosts D} (only : (d : D) (c : List ℕ) → IsTrue (
         serves = ends.serves;
         in_parts =
             parts_end some old is.mid new is.bodies is.handed is.held
-            (in_parts some old.storage old.host old is.mid [] is.bodies is.handed (part_at_start some old.storage old.host old.open_group none empty begin) is.run) is.ended;
+            (in_parts some old.storage old.host old is.mid [] is.bodies is.handed (part_at_start some old.storage old.host old.desk.open_group none empty begin) is.run) is.ended;
       }

@@ -1,4 +1,4 @@
--- What one body is answered over a store, and what a stop at any moment of that leaves. (This project's choice.)
+-- The reply to one body over a store, and what a crash at any point in time of it leaves. (This project's choice.)
 use Rattle.std.specs.Prelude.{◌≡◌, ◌⊎◌, ℕ, ◌+◌, ◌*◌, ◌≤◌, IsTrue, true, false, List, [], ◌∷◌, map}
 use Rattle.oa_canonical.specs.Canonical.{canonical}
 use Rattle.oa_disk.specs.declared.disk.Disk.{Ghosts}
@@ -21,27 +21,27 @@ use Rattle.oa_decision.specs.States.{State}
 use Rattle.oa_turn.specs.Steps.{outcome}
 use Rattle.oa_turn.specs.Turns.{Turn}
 
--- whatever the body asks, no event comes of it
+-- the body's request makes no event
 abbrev pub MakesNoEvent : State → List ℕ → Type 0
 MakesNoEvent state body = (request : Request) → Asks body request → change_bytes (outcome state request).event ≡ []
 
--- A body that keeps the library makes four calls of the device at most, and where a checkpoint is due before its event
--- those of one beside them.
+-- A body that does not replace the library makes at most four calls of the device, and those of a checkpoint if one
+-- is due before its event.
 abbrev pub CallsForOne : {D : Type 0} {g : Ghosts D} → Store D g → Store D g → State → List ℕ → Type 0
 CallsForOne {D} {g} old new before body =
     (g.moment new.disk ≤ g.moment old.disk + 8)
     ⊎ (IsDueFor old before [] body
     × (g.moment new.disk ≤ g.moment old.disk + (2 * checkpoint_calls old.library.items before.table + 8)))
 
--- One that asks for another library makes those of a checkpoint of it at most.
+-- A body that replaces the library makes at most the calls of a checkpoint with that library.
 abbrev pub CallsForLibrary : {D : Type 0} {g : Ghosts D} → Store D g → Store D g → State → Type 0
 CallsForLibrary {D} {g} old new after =
     IsTrue (g.is_honest old.disk)
     → g.moment new.disk ≤ g.moment old.disk + 2 * checkpoint_calls (canonical after.library) after.table
 
--- After a fault of the device a body is answered that the store has failed, and nothing is done. Before one it is
--- answered by a turn, or a call of the device fails in it: then the reply says that, and the state is the one after
--- some turn of the body.
+-- After a fault of the device, the reply is that the store has failed, and nothing is done. Before a fault, the body
+-- is answered by a turn, or a call of the device fails in it: then the reply reports that, and the state is the one
+-- after some turn of the body.
 pub record IsAnswered {D : Type 0} {g : Ghosts D} (old new : Store D g) (before after : State) (body : List ℕ)
     (reply : ReplyValue) : Type 0 where
   pub late : old.stopped ≡ true
@@ -49,18 +49,18 @@ pub record IsAnswered {D : Type 0} {g : Ghosts D} (old new : Store D g) (before 
   pub going : old.stopped ≡ false → new.stopped ≡ false → Turn before body reply after
   pub doubt : old.stopped ≡ false → new.stopped ≡ true
       → (reply ≡ faulted body) × ((due : ReplyValue) × Turn before body due after)
-  -- where it fails in a replacement, that is one which is done: the state is the one with the other library
+  -- if it fails in a replacement, that turn is one that is done: the state has the new library
   pub replaced : old.stopped ≡ false → new.stopped ≡ true → is_replacement body ≡ true
       → (due : ReplyValue) × Turn before body due after × (is_done due ≡ true)
-  -- at every moment each image holds the library and the table before, or those after
+  -- at every point in time each image is a store of the library and the table before, or of those after
   pub any_moment : old.stopped ≡ false → AllHoldState requests old before
       → LeavesState old new (λ c. HoldsState requests before c ⊎ HoldsState requests after c)
-  -- and without a fault, at the end, those after
+  -- and at the end, without a fault, of those after
   pub each : old.stopped ≡ false → new.stopped ≡ false → AllHoldState requests old before
       → AllHoldState requests new after
   pub goes : Goes old new
-  -- A body that makes no event makes no call of the device, and so none fails; nor does one of which no other library
-  -- comes.
+  -- A body that makes no event makes no call of the device, so none fails; the same is true of a refused replacement
+  -- of the library.
   pub quiet : old.stopped ≡ false → is_replacement body ≡ false → MakesNoEvent before body
       → (new.disk ≡ old.disk) × (new.stopped ≡ false)
   pub refused : old.stopped ≡ false → new.stopped ≡ false → is_replacement body ≡ true → is_done reply ≡ false
@@ -68,13 +68,13 @@ pub record IsAnswered {D : Type 0} {g : Ghosts D} (old new : Store D g) (before 
   pub calls : old.stopped ≡ false → is_replacement body ≡ false → IsTrue (g.is_honest old.disk)
       → CallsForOne old new before body
   pub library_calls : old.stopped ≡ false → is_replacement body ≡ true → CallsForLibrary old new after
-  -- it is a group of one, with its moments
+  -- it is a group of one, with its points in time
   pub served : old.stopped ≡ false → IsServed requests 1 old new before after (body ∷ []) (reply ∷ [])
 
--- What a turn of opcode 12 over a store leaves, whether it is told or in doubt.
+-- What a turn of opcode 12 over a store leaves, whether it is acknowledged or in doubt.
 pub record ReplacesInStore {D : Type 0} {g : Ghosts D} (old new : Store D g) (before after : State) : Type 0 where
   pub same : unlocked_table after.table ≡ unlocked_table before.table
-  -- A stop at any moment leaves the old library or the new, with the table.
+  -- a crash at any point in time leaves the old library or the new one, with the table
   pub any_moment : AllHoldState requests old before
       → LeavesState old new (λ c. HoldsState requests before c ⊎ HoldsState requests after c)
   pub each : new.stopped ≡ false → AllHoldState requests old before → AllHoldState requests new after
@@ -82,7 +82,7 @@ pub record ReplacesInStore {D : Type 0} {g : Ghosts D} (old new : Store D g) (be
   pub once : CallsForOneCheckpoint old new
   pub goes : Goes old new
 
--- A body that asks for another library is answered, where no group is open: as a group of its own.
+-- A body that replaces the library is answered as a group of its own, while no group is open.
 pub record IsReplacedOver {D : Type 0} {g : Ghosts D} (old new : Store D g) (before after : State) (body : List ℕ)
     (reply : ReplyValue) : Type 0 where
   pub due : ReplyValue
@@ -96,7 +96,7 @@ IsReplacedOrLate old new before after body reply =
     (old.stopped ≡ false → IsReplacedOver old new before after body reply)
     × (old.stopped ≡ true → (reply ≡ failed body) × (new ≡ old) × (after ≡ before))
 
--- The device has failed before: all bodies are answered that, and nothing is done.
+-- The device has failed before: all bodies get this reply, and nothing is done.
 pub record AnswersAfterFault {D : Type 0} {g : Ghosts D} (old new : Store D g) (before after : State)
     (bodies : List (List ℕ))
     (replies : List ReplyValue) : Type 0 where

@@ -1,11 +1,11 @@
--- The open group of many clients: its replies, and whose each of them is. (This project's choice.)
+-- The open group of many clients: its replies, each with its client. (This project's choice.)
 use Rattle.std.specs.Prelude.{◌≡◌, ℕ, ◌≤◌, false, List, [], ◌∷◌, ◌++◌, length, map, Option, Some, None, vec_capacity}
 use Rattle.oa_disk.specs.declared.disk.Disk.{Ghosts}
 use Rattle.oa_frame.specs.Sessions.{last_reply}
 use Rattle.oa_frame.specs.declared.ends.End.{End}
 use Rattle.oa_groups.specs.Groupings.{Grouping, IsTaken}
 use Rattle.oa_groups.specs.Turns.{exchange}
-use Rattle.oa_owners.specs.declared.owners.ClientLock.{ClientLock}
+use Rattle.oa_owners.specs.ClientLocks.{ClientLock}
 use Rattle.oa_record.specs.Replies.{ReplyValue, reply_record}
 use Rattle.oa_server.specs.OpenGroups.{CanTake, CanTakeCleared}
 use Rattle.oa_server.specs.Serving.{last_written}
@@ -17,19 +17,19 @@ use Rattle.oa_store.specs.declared.store.Store.{Store}
 use Rattle.oa_decision.specs.States.{State}
 use Rattle.oa_turn.specs.Events.{held_of}
 
--- what one is told: the reply, or, where it has ended, that
+-- what one client receives: the reply, or its end
 abbrev pub told_with : ℕ → Option End → ReplyValue → ClientReply
 told_with client None reply = Replies client reply
 told_with client (Some why) reply = Leaves client why
 
--- replies in the order in which they were asked for
+-- the replies in the order of the requests
 abbrev pub told_to : List Asker → List ReplyValue → List ClientReply
 told_to [] replies = []
 told_to (asker ∷ askers) [] = []
 told_to (asker ∷ askers) (reply ∷ replies) = told_with asker.client asker.why reply ∷ told_to askers replies
 
--- the frames of what a client is told: a reply; behind its end the stub, where it has one, and then that it has had its
--- last
+-- the frames that a client receives: a reply; at its end bad stub data, if it has that reply, and then the frame that
+-- ends its replies
 abbrev pub frames_with : ℕ → List (List ℕ) → List (ℕ × List ℕ)
 frames_with client replies = map (λ bytes. (client, bytes)) replies
 
@@ -41,7 +41,7 @@ unfoldable pub all_frames : List ClientReply → List (ℕ × List ℕ)
 all_frames [] = []
 all_frames (told ∷ tolds) = frames_of told ++ all_frames tolds
 
--- the store, the state, what is held back, and the events that are not committed yet
+-- the store, the state, the held replies, and the events that are not committed
 abbrev pub shared_grouping : {D : Type 0} {g : Ghosts D} → Store D g → State → List ClientLock → List Asker
     → List ReplyValue → List ℕ → Grouping Shared ClientReply D g
 shared_grouping store state locks askers pending events =
@@ -51,32 +51,32 @@ abbrev pub desk_grouping : {D : Type 0} {g : Ghosts D} → Store D g → State �
 desk_grouping store state desk =
     shared_grouping store state desk.owners desk.askers.items desk.open_group.replies.items desk.open_group.batch
 
--- where what is held back was handed out
+-- after the held replies were sent
 abbrev pub cleared_desk : {D : Type 0} {g : Ghosts D} → Store D g → State → Desk → Grouping Shared ClientReply D g
 cleared_desk store state desk = shared_grouping store state desk.owners desk.askers.items [] desk.open_group.batch
 
 abbrev pub told_at : Desk → List ClientReply
 told_at desk = told_to desk.askers.items desk.open_group.replies.items
 
--- One request more can be taken, and each reply has one to whom it goes.
+-- One more request can be executed, and each reply has its client.
 pub record DeskIsReady {D : Type 0} {g : Ghosts D} (store : Store D g) (desk : Desk) : Type 0 where
   pub ready : CanTake store desk.open_group
   pub each : length desk.askers.items ≡ length desk.open_group.replies.items
   pub places : desk.open_group.size ≤ vec_capacity desk.askers
 
--- the same where the replies that it has were handed out
+-- the same after its replies were sent
 pub record DeskIsReadyCleared {D : Type 0} {g : Ghosts D} (store : Store D g) (desk : Desk) : Type 0 where
   pub ready : CanTakeCleared store desk.open_group
   pub each : length desk.askers.items ≡ length desk.open_group.replies.items
   pub places : desk.open_group.size ≤ vec_capacity desk.askers
 
--- A turn that makes no event, changes nothing that images hold, and is no group of its own.
+-- A turn that makes no event, changes nothing in images, and is not a group of its own.
 pub record IsEventless (body : List ℕ) (told : ClientReply) (before after : Shared) : Type 0 where
   pub turn : IsSharedTurn (exchange body told []) before after
   pub plain : shared_requests.alone body ≡ false
   pub same : held_of after.state ≡ held_of before.state
 
--- Whatever such a turn has led to this state, it is taken by what follows.
+-- Whichever such turn has led to this state, what follows executes it.
 abbrev pub HoldsFrom : {D : Type 0} {g : Ghosts D} → Store D g → Desk → ClientReply → Shared → List ClientReply
     → Grouping Shared ClientReply D g → Type 0
 HoldsFrom {D} {g} store desk reply after told new =
@@ -84,7 +84,7 @@ HoldsFrom {D} {g} store desk reply after told new =
     → IsTaken shared_requests desk.open_group.size body told
     (record { store = store; state = before; pending = told_at desk; events = desk.open_group.batch }) new
 
--- What is held is let go of; all else stays.
+-- The held replies are dropped; everything else stays.
 pub record ClearsDesk (old new : Desk) : Type 0 where
   pub askers : new.askers.items ≡ []
   pub replies : new.open_group.replies.items ≡ []

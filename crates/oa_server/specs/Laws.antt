@@ -1,4 +1,4 @@
--- Laws of sessions of a server over a store, beside those of any groups. (This project's choice.)
+-- Theorems about sessions of a server over a store, besides those of any groups. (This project's choice.)
 use Rattle.std.specs.Prelude.{◌≡◌, ◌≤◌, ℕ, IsTrue, false, List, [], ◌++◌, map}
 use Rattle.oa_disk.specs.Disk.{NothingPending}
 use Rattle.oa_disk.specs.declared.disk.Disk.{Ghosts}
@@ -24,8 +24,7 @@ use Rattle.oa_server.specs.Talks.{Part, Parts, calls_of}
 use Rattle.oa_turn.specs.Turns.{Run}
 use Rattle.oa_server.specs.declared.storage.Storage.TheVariants.{Disk}
 
--- Where a crash leaves nothing but the contents of the disk, an opening begins a session with the table that it has
--- found.
+-- If a crash may leave only the contents of the disk, an opening begins a session with the table that it finds.
 abbrev pub OpenedBegins : {D : Type 0} → Ghosts D → Type 0
 OpenedBegins {D} g =
     (disk : D) (library : TreeValue) (store : Store D g) (table : TableValue) → IsOpened g disk library store table
@@ -33,8 +32,8 @@ OpenedBegins {D} g =
     → Sitting requests disk store (state_of (body_bytes store.bank.shape) library table)
     (state_of (body_bytes store.bank.shape) library table) []
 
--- Where something was pending too, an opening goes on with what came before: a stop at the end of that may leave what
--- the disk holds once it is opened, and what a stop within the opening leaves. With it, which has the table that was
+-- If something was pending, an opening continues what came before: a crash at the end of that may leave the contents
+-- of the opened disk, and what a crash during the opening leaves. With these contents, which have the table that was
 -- found, a session begins.
 abbrev pub OpenedJoins : {D : Type 0} → Ghosts D → Type 0
 OpenedJoins {D} g =
@@ -46,8 +45,8 @@ OpenedJoins {D} g =
     × HoldsState requests (state_of (body_bytes store.bank.shape) library table) (g.contents store.disk)
     × ((m : ℕ) (c : List ℕ) → g.moment disk ≤ m → MayBeLeft g store.disk m c → MayBeLeft g disk (g.moment disk) c)
 
--- What an opening finds in an image that a stop may leave is the state that the image holds, without locks: its banks,
--- its library and its table.
+-- What recovery finds in an image that a crash may leave is the state of that store, without locks: its banks, its
+-- library and its table.
 abbrev pub FoundIsKept : Type 0
 FoundIsKept =
     (bank : ℕ) (library : TreeValue) (first : State) (count : ℕ) (groups : List (List (Exchange ReplyValue)))
@@ -56,7 +55,7 @@ FoundIsKept =
     → IsStoreIn (Two bank) image (canonical library) table → unlocked_table table ≡ table
     → opened after.state ≡ state_of bank library table
 
--- The parts of a session over streams go on with a session over the store, call by call.
+-- The parts of a session over streams belong to a session over the store, call by call.
 abbrev pub PartsGoOn : {D : Type 0} → Ghosts D → Type 0
 PartsGoOn {D} g =
     (start : D) (mid new : Store D g) (first last after : State) (calls : List (AnsweredCall ReplyValue)) (size : ℕ)
@@ -64,8 +63,8 @@ PartsGoOn {D} g =
     → Parts size (Disk mid) (Disk new) last parts after
     → new.stopped ≡ false → Sitting requests start new first after (calls ++ calls_of size parts)
 
--- They are calls of the session also where the device fails in one of them: from its start on all counts that was
--- answered before them.
+-- They are calls of the session also if the device fails in one of them: from its start on, everything answered
+-- before them counts.
 abbrev pub PartsCount : {D : Type 0} → Ghosts D → Type 0
 PartsCount {D} g =
     (start : D) (mid new : Store D g) (first last after : State) (calls : List (AnsweredCall ReplyValue)) (size : ℕ)
@@ -76,8 +75,8 @@ PartsCount {D} g =
     × (session.stopped ≡ new.stopped)
     × ((m : ℕ) → g.moment mid.disk ≤ m → was.session.count ≤ answered_by m session.moments)
 
--- Of a call on a store the bodies of the groups that were answered have the replies of one run of turns; without a
--- fault of the device all have.
+-- In a call on a store, the bodies of the answered groups have the replies of one run of turns; without a fault of
+-- the device all bodies have.
 abbrev pub AnsweredAreRun : {D : Type 0} → Ghosts D → Type 0
 AnsweredAreRun {D} g =
     (size : ℕ) (old new : Store D g) (before after : State) (bodies : List (List ℕ)) (replies : List ReplyValue)

@@ -1,4 +1,4 @@
--- Whose locks the table of a server of many clients has. (This project's choice.)
+-- The owners of the locks in the table of a server of many clients. (This project's choice.)
 use Rattle.std.specs.Prelude.{◌≡◌, ℕ, true, List, [], map}
 use Rattle.std.specs.List.Sorted.{IsStrictlySortedBy}
 use Rattle.std.specs.Map.{keys_of}
@@ -10,13 +10,13 @@ use Rattle.oa_owners.specs.ClientLocks.{of_others}
 use Rattle.oa_owners.specs.Counts.{IsLedger}
 use Rattle.oa_record.specs.Replies.{ReplyValue}
 use Rattle.oa_server.specs.SharedRequests.{opened, shared_requests}
-use Rattle.oa_server.specs.Sharing.{ClientReply, IsSharedTurn, Replies, Shared, TurnsFor, behind_all, tagged}
-use Rattle.oa_share.specs.Readers.{Body}
+use Rattle.oa_server.specs.Sharing.{ClientReply, IsSharedTurn, Replies, Shared, TurnOf, TurnsFor, behind_all, tagged}
+use Rattle.oa_share.specs.Readers.{Body, Brought}
 use Rattle.oa_table.specs.Locks.{locks_at}
 use Rattle.oa_table.specs.declared.name.CellName.{CellName}
 use Rattle.oa_turn.specs.Turns.{Run, Turn}
 
--- Each array of the table has as many locks as clients have taken of it; its objects are numbered, in the order of
+-- Each array of the table has as many locks as clients have on it; the table's objects are numbered, in the order of
 -- their numbers.
 pub record HasLedger (one : Shared) : Type 0 where
   pub numbered : is_numbered one.state.table ≡ true
@@ -26,26 +26,32 @@ pub record HasLedger (one : Shared) : Type 0 where
 abbrev pub OwnsAll : ℕ → Shared → Type 0
 OwnsAll client one = of_others client one.locks ≡ []
 
--- so is every state behind a turn, and so behind many
+-- so is the state after each turn, and after many
 abbrev pub TurnsKeepLedger : Type 0
 TurnsKeepLedger =
     (asked : Exchange ClientReply) (old new : Shared) → HasLedger old → IsSharedTurn asked old new → HasLedger new
+
+-- whatever a client sends, in memory and over a store
+abbrev pub ClientsKeepLedger : Type 0
+ClientsKeepLedger =
+    (client : ℕ) (brought : Brought) (told : ClientReply) (old new : Shared) → HasLedger old
+    → TurnOf client brought told old new → HasLedger new
 
 abbrev pub RunsKeepLedger : Type 0
 RunsKeepLedger = (old new : Shared) (entries : List (Exchange ClientReply)) → HasLedger old
     → TurnsOver shared_requests old entries new → HasLedger new
 
--- and at the start of a session, at which no lock is held
+-- and at the start of a session, when there are no locks
 abbrev pub OpeningHasLedger : Type 0
 OpeningHasLedger =
     (one : Shared) → is_numbered one.state.table ≡ true → IsStrictlySortedBy nat_cmp (keys_of one.state.table.objects)
     → HasLedger (opened one)
 
--- behind the end of a session no array has a lock
+-- after the end of a session no array is locked
 abbrev pub EndUnlocksAll : Type 0
 EndUnlocksAll = (old : Shared) (name : CellName) → HasLedger old → locks_at name (behind_all old).state.table ≡ 0
 
--- what one client alone is answered is what a server of one client answers
+-- a single client gets the replies of a server of one client
 abbrev pub IsTurnOfOne : Type 0
 IsTurnOfOne =
     (client : ℕ) (old new : Shared) (body : List ℕ) (reply : ReplyValue) → HasLedger old → OwnsAll client old

@@ -1,4 +1,4 @@
--- What opening a disk answers. (This project's choice.)
+-- The result of opening a disk. (This project's choice.)
 use Rattle.std.specs.Prelude.{◌≡◌, ◌≢◌, ◌⊎◌, ◌+◌, ◌≤◌, ℕ, List, length, Some, IsTrue, false, true}
 use Rattle.oa_disk.specs.declared.disk.Disk.{Ghosts}
 use Rattle.oa_groups.specs.Runs.{HoldsState}
@@ -22,27 +22,27 @@ use Rattle.oa_decision.specs.States.{State}
 
 -- ---- one of two states, as a stop leaves them
 
--- each image holds the one state or the other
+-- each image is a store of one of two states
 abbrev pub EachOneOf : (List ℕ → Type 0) → State → State → Type 0
 EachOneOf image one two = (c : List ℕ) → image c → HoldsState requests one c ⊎ HoldsState requests two c
 
--- what was found is what an image holds of the state
+-- what was found is what an image contains of the state
 pub record FindsState (bank : ℕ) (library : TreeValue) (table : TableValue) (state : State) : Type 0 where
   pub bank_is : bank ≡ state.bank
   pub text : canonical library ≡ canonical state.library
   pub table_is : table ≡ held_of state
 
--- where a stop has left one of two states, it is the one or the other
+-- if a crash has left one of two states, it is one of them
 abbrev pub FindsOneOf : (List ℕ → Type 0) → ℕ → TreeValue → TableValue → Type 0
 FindsOneOf image bank library table =
     (one two : State) → EachOneOf image one two → FindsState bank library table one ⊎ FindsState bank library table two
 
--- the contents hold a state of another library than this
+-- the contents are a store of a state with another library
 abbrev pub HoldsOther : List ℕ → TreeValue → State → Type 0
 HoldsOther contents library state = HoldsState requests state contents × (canonical state.library ≢ canonical library)
 
--- Where a stop has left one of two states with which a server can begin, what is refused is the library: the contents
--- hold that of another one.
+-- If a crash has left one of two states with which a server may begin, only the library can be refused: the contents
+-- are a store of another one.
 abbrev pub RefusesOneOf : (List ℕ → Type 0) → List ℕ → TreeValue → OpenFault → Type 0
 RefusesOneOf image contents library fault =
     (one two : State) → EachOneOf image one two → CanBegin one → CanBegin two
@@ -50,7 +50,7 @@ RefusesOneOf image contents library fault =
 
 -- ---- what an opening answers
 
--- the contents are a store of the library and of a table with which no server of it begins
+-- the contents are a store of the library and of a table with which no server of it may begin
 pub record IsUnfit (library : TreeValue) (contents : List ℕ) (fault : OpenFault) : Type 0 where
   pub told : fault ≡ Damaged 0
   pub bank : ℕ
@@ -80,33 +80,33 @@ pub record IsOpened {D : Type 0} (g : Ghosts D) (disk : D) (library : TreeValue)
   pub goes_on : store.stopped ≡ false
   pub size : g.size_of store.disk ≡ g.size_of disk
   pub unfailed : g.failures_of store.disk ≡ g.failures_of disk
-  -- at most ten calls, and one for two bytes of snapshot and groups
+  -- at most ten calls, and one for every two bytes of snapshot and groups
   pub calls : IsTrue (g.is_honest store.disk)
       → g.moment store.disk + length (canonical library) ≤ g.moment disk + (20 + store.bank.gate)
   pub found : IsTrue (g.is_honest store.disk) → IsFound g disk library store table
 
--- What a refusal says of an honest disk: it is true of the contents at the start, and nothing was written.
+-- What an error implies for an honest disk: it is true of the contents at the start, and nothing was written.
 pub record IsTold {D : Type 0} (g : Ghosts D) (disk back : D) (library : TreeValue) (fault : OpenFault) : Type 0 where
   pub honest : IsTrue (g.is_honest disk)
   pub reads : WritesNothing g.image g.moment g.image_since disk back
   pub says : RefusalSays (Some (canonical library)) (g.size_of disk) (g.contents disk) fault
       ⊎ IsUnfit library (g.contents disk) fault
-  -- a disk that is too small or not formatted is found to be that before memory is taken
+  -- a disk that is too small or not formatted is found to be so before memory is allocated
   pub early : IsForeign (g.size_of disk) (g.contents disk) → ComesOfForeign fault
-  -- where the contents hold another library, that is told, unless memory or the device is wanting
+  -- if the contents are a store of another library, the error is that, unless an allocation or the device fails
   pub differs : (state : State) → HoldsOther (g.contents disk) library state → SpeaksOfContents fault
       → fault ≡ LibraryDiffers
-  -- where a stop has left one of two states, nothing else is
+  -- if a crash has left one of two states, no other error is possible
   pub late : SpeaksOfContents fault → RefusesOneOf (g.image disk) (g.contents disk) library fault
-  -- Read is told once all that was written is on the device, and Write where the sync at the start failed.
+  -- Read is returned after everything written is on the device, and Write if the first sync failed
   pub tells : DeviceTells (g.contents disk) (g.image disk) (g.image back) fault
 
--- nothing was opened, and the disk is handed back
+-- nothing was opened, and the disk is returned
 pub record IsNotOpened {D : Type 0} (g : Ghosts D) (disk back : D) (library : TreeValue)
     (fault : OpenFault) : Type 0 where
   pub size : g.size_of back ≡ g.size_of disk
   pub cause : IsCaused (g.failures_of disk) (g.failures_of back) fault
-  -- at most twelve calls, and one for two bytes of the disk; two where it is no store, four for its format, six for its
-  -- library
+  -- at most twelve calls, and one for every two bytes of the disk; two if it is no store, four for its format, six
+  -- for its library
   pub calls : IsTrue (g.is_honest back) → g.moment back ≤ g.moment disk + moments_until (24 + g.size_of disk) fault
   pub told : IsTrue (g.is_honest back) → IsTold g disk back library fault

@@ -1,4 +1,4 @@
--- The requests of a server, as the theory of groups sees them. (This project's choice.)
+-- The requests of a server as a state machine of the theory of groups. (This project's choice.)
 use Rattle.std.specs.Prelude.{◌≡◌, ℕ, ◌≤◌, ◌++◌, List, [], length, None}
 use Rattle.std.proofs.Common.{ap, refl}
 use Rattle.oa_model.specs.Limits.{max_event_bytes}
@@ -19,7 +19,8 @@ use Rattle.oa_decision.specs.Decided.{refusal}
 use Rattle.oa_turn.proofs.SameLibrary.{plain_library, turn_bank}
 use Rattle.oa_turn.specs.Turns.{Turn}
 
--- A turn, with the bytes of the event that it made: they make of what images hold before it what they hold after it.
+-- A turn, with the bytes of its event, which turn what images contain of the old state into what they contain of the
+-- new one.
 pub record IsAsked (asked : Exchange ReplyValue) (old new : State) : Type 0 where
   pub turn : Turn old asked.body asked.reply new
   pub made : HasEvent old asked.body asked.reply asked.event
@@ -32,20 +33,20 @@ pub record IsHeldBack (body : List ℕ) (reply : ReplyValue) (events events' : L
   pub added : events' ≡ events ++ event
   pub small : length event ≤ max_event_bytes
 
--- some turn of the body that leaves what images hold
+-- some turn of the body that changes nothing in images
 pub record HasTurn (body : List ℕ) (old new : State) : Type 0 where
   pub reply : ReplyValue
   pub asked : IsAsked (exchange body reply []) old new
   pub same : held_of new ≡ held_of old
 
--- the reply to a body in whose group the device has failed, and to one behind that group
+-- the reply to a body in the group in which the device failed, and to one after that group
 abbrev pub faulted : List ℕ → ReplyValue
 faulted body = refusal (tag_at body) stg_e_writefault None
 
 abbrev pub failed : List ℕ → ReplyValue
 failed body = refusal (tag_at body) e_fail None
 
--- a reply that is taken back
+-- the reply that replaces another one if its group could not be committed
 abbrev pub withdrawn : ReplyValue → ReplyValue
 withdrawn reply = refusal reply.tag stg_e_writefault None
 

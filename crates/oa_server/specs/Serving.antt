@@ -6,8 +6,7 @@ use Rattle.oa_decision.specs.States.{State}
 use Rattle.oa_decision.specs.Decided.{refusal}
 use Rattle.oa_turn.specs.Turns.{Turn}
 
--- a turn, with the bytes of its reply, which have no length before them: every body has one reply, handed out at that
--- body
+-- a turn, with the bytes of its reply without a length: every body has one reply, sent at that body
 abbrev pub turn_written : State → List ℕ → List (List ℕ) → State → Type 0
 turn_written old body replies new = (reply : ReplyValue) × (replies ≡ reply_record reply ∷ []) × Turn old body reply new
 

@@ -1,4 +1,4 @@
--- A session of many clients over a store, as calls of a session over the store. (This project's choice.)
+-- A session of many clients over a store, as calls of a session over that store. (This project's choice.)
 use Rattle.std.specs.Prelude.{◌≡◌, ◌⊎◌, ◌≤◌, ℕ, false, List, [], ◌∷◌, ◌++◌}
 use Rattle.oa_disk.specs.declared.disk.Disk.{Ghosts}
 use Rattle.oa_groups.specs.Sessions.{AnsweredCall, IsSessionOn, Sitting, answered_by}
@@ -10,7 +10,7 @@ use Rattle.oa_server.specs.SharedRequests.{shared_requests}
 use Rattle.oa_server.specs.SharedSessions.{HasServedClients}
 use Rattle.oa_server.specs.Sharing.{ClientReply, Shared, behind_all, shared}
 use Rattle.oa_server.specs.Stretches.{AnswersStretches, ServesStretches, Stretch, all_told}
-use Rattle.oa_server.specs.declared.shared_engine.SharedEngine.{SharedEngine}
+use Rattle.oa_server.specs.declared.engine.Engine.{Engine}
 use Rattle.oa_server.specs.declared.storage.Storage.TheVariants.{Disk}
 use Rattle.oa_share.specs.Marks.{Now, Owned}
 use Rattle.oa_share.specs.Outgoing.{spelled_told}
@@ -18,9 +18,9 @@ use Rattle.oa_share.specs.Readers.{Brought}
 use Rattle.oa_share.specs.Talking.{parted}
 use Rattle.oa_share.specs.declared.session_end.SessionEnd.{SessionEnd}
 
--- A whole session: what was asked, some ends, and a last *now* were answered by calls that were served, one for each
--- *now*. The frames of their replies were written, but for those that nobody heard since the writer had failed. Behind
--- them all locks are taken back.
+-- A whole session: the requests, some ends, and a last *now* were answered by calls that were served, one for each
+-- *now*. The frames of their replies were written, except those that were lost because the writer had failed. After
+-- that all locks are released.
 pub record IsCallsOf {D : Type 0} {g : Ghosts D} (asked : List (Owned Brought)) (out out' : Output) (size : ℕ)
     (old new : Store D g)
     (before after : Shared) : Type 0 where
@@ -36,11 +36,11 @@ pub record IsCallsOf {D : Type 0} {g : Ghosts D} (asked : List (Owned Brought)) 
 -- So is each session of many clients over a store.
 abbrev pub SessionsAreCalls : {D : Type 0} → Ghosts D → Type 0
 SessionsAreCalls {D} g =
-    (input input' : Input) (out out' : Output) (size : ℕ) (old new : SharedEngine D g) (start : Store D g)
+    (input input' : Input) (out out' : Output) (size : ℕ) (old new : Engine D g) (start : Store D g)
     (why : SessionEnd)
     → old.storage ≡ Disk start → (session : HasServedClients input input' out out' size old new why)
     → (end : Store D g) × (new.storage ≡ Disk end)
-    × IsCallsOf session.serves.asked out out' size start end (shared old.host old.desk.owners)
+    × IsCallsOf session.serves.asked out out' size start end (shared old.host [])
     (shared new.host new.desk.owners)
 
 abbrev pub stretch_calls : ℕ → List Stretch → List (AnsweredCall ClientReply)
@@ -48,7 +48,7 @@ stretch_calls size [] = []
 stretch_calls size (stretch ∷ stretches) =
     record { size = size; bodies = stretch.bodies; replies = stretch.told } ∷ stretch_calls size stretches
 
--- These calls go on with a session over the store.
+-- These calls belong to a session over the store.
 abbrev pub StretchesGoOn : {D : Type 0} → Ghosts D → Type 0
 StretchesGoOn {D} g =
     (start : D) (mid new : Store D g) (first last after : Shared) (calls : List (AnsweredCall ClientReply)) (size : ℕ)
@@ -56,8 +56,8 @@ StretchesGoOn {D} g =
     → ServesStretches size mid new last stretches after
     → new.stopped ≡ false → Sitting shared_requests start new first after (calls ++ stretch_calls size stretches)
 
--- They are calls of it also where the device fails in one of them: from its start on all counts that was answered
--- before them.
+-- They are calls of it also if the device fails in one of them: from its start on, everything answered before them
+-- counts.
 abbrev pub StretchesCount : {D : Type 0} → Ghosts D → Type 0
 StretchesCount {D} g =
     (start : D) (mid new : Store D g) (first last after : Shared) (calls : List (AnsweredCall ClientReply)) (size : ℕ)

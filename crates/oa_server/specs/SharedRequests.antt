@@ -1,12 +1,11 @@
--- The requests of many clients, as the theory of groups sees them. (This project's choice.)
+-- The requests of many clients as a state machine of the theory of groups. (This project's choice.)
 use Rattle.std.proofs.Common.{◌≡◌, inl, inr, ℕ, Bool, false, true≢false, List, [], ◌∷◌, map, Some, None, Result, Ok}
 use Rattle.std.proofs.Common.{Err, refl, sym, ap, ◌∙◌}
 use Rattle.oa_canonical.specs.Canonical.{canonical}
 use Rattle.oa_frame.specs.declared.ends.End.TheVariants.{Closed, Cut, TooLong, BadHex, ReadFault, WriteFault}
 use Rattle.oa_groups.specs.Turns.{Turns}
 use Rattle.oa_model.specs.Codes.{stg_e_writefault}
-use Rattle.oa_owners.specs.ClientLocks.{cells_of}
-use Rattle.oa_owners.specs.declared.owners.ClientLock.{ClientLock}
+use Rattle.oa_owners.specs.ClientLocks.{ClientLock, cells_of}
 use Rattle.oa_record.specs.Replies.{ReplyValue}
 use Rattle.oa_server.specs.Requests as one_client
 use Rattle.oa_server.specs.Sharing.{ClientReply, IsSharedTurn, Replies, Shared, TurnOf, TurnsFor}

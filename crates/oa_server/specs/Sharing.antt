@@ -1,14 +1,13 @@
--- A server of many clients: its state with the owners of its locks, and what becomes of it at what a client brings.
--- (This project's choice.)
-use Rattle.std.specs.Prelude.{◌≡◌, ◌⊎◌, ℕ, ◌==◌, Bool, true, false, if◌then◌else◌, List, [], ◌∷◌, ◌++◌, map, Some, None}
+-- A server of many clients: its state with the owners of its locks, and its turns for what a client sends. (This
+-- project's choice.)
+use Rattle.std.specs.Prelude.{◌≡◌, ◌⊎◌, ℕ, ◌==◌, Bool, true, false, if◌then◌else◌, List, [], ◌∷◌, map, Some, None}
 use Rattle.std.specs.Prelude.{⊤}
 use Rattle.oa_frame.specs.declared.ends.End.{End}
 use Rattle.oa_frame.specs.declared.ends.End.TheVariants.{Closed, Cut, TooLong, BadHex, ReadFault, WriteFault}
 use Rattle.oa_groups.specs.Turns.{Exchange}
 use Rattle.oa_journal.specs.Replays.{Replays}
 use Rattle.oa_model.specs.Codes.{e_unexpected}
-use Rattle.oa_owners.specs.ClientLocks.{cells_of, of_others, owns, without_one}
-use Rattle.oa_owners.specs.declared.owners.ClientLock.{ClientLock}
+use Rattle.oa_owners.specs.ClientLocks.{ClientLock, cells_of, of_others, owns, with_one, without_one}
 use Rattle.oa_record.specs.Asks.{tag_at}
 use Rattle.oa_record.specs.Replacement.{is_replacement}
 use Rattle.oa_record.specs.Replies.{ReplyValue}
@@ -25,7 +24,7 @@ use Rattle.oa_turn.specs.Locking.{AsksLock}
 use Rattle.oa_turn.specs.Steps.{after_locks}
 use Rattle.oa_turn.specs.Turns.{Turn}
 
--- what answers depend on, and whose lock is whose
+-- the state on which replies depend, and the owners of locks
 pub record Shared : Type 0 where
   pub state : State
   pub locks : List ClientLock
@@ -33,9 +32,10 @@ pub record Shared : Type 0 where
 abbrev pub shared : State → List ClientLock → Shared
 shared state locks = record { state = state; locks = locks }
 
--- ---- what a client brings, and what it is told
+-- ---- what a client sends, and what it receives
 
--- As one list of numbers, as groups have requests: the client, 0 and its body; or the client and which end it is.
+-- As one list of numbers, as the theory of groups has requests: the client, 0 and its body; or the client and the
+-- kind of its end.
 abbrev pub spoken : Brought → List ℕ
 spoken (Body body) = 0 ∷ body
 spoken (Ends Closed) = 1 ∷ []
@@ -71,8 +71,7 @@ brought_by [] = Body []
 brought_by (client ∷ []) = Body []
 brought_by (client ∷ (kind ∷ rest)) = meant kind rest
 
--- what a client is told: the reply to a body; or that it has ended, with a stub where its last record was cut or too
--- long
+-- what a client receives: the reply to a body; or its end, with bad stub data if its last record was cut or too long
 pub data ClientReply : Type 0 where
   Replies : ℕ → ReplyValue → ClientReply
   Leaves : ℕ → End → ClientReply
@@ -101,16 +100,16 @@ is_apart (Ends why) = false
 
 -- ---- whose lock is whose
 
--- A client may take a lock of any array, and give back one of its own.
+-- A client may lock any array, and release its own locks.
 abbrev pub MayChange : ℕ → LockChange → List ClientLock → Type 0
 MayChange client (Lock name) locks = ⊤
 MayChange client (Unlock name) locks = owns client name locks ≡ true
 
 abbrev pub relocked_by : ℕ → LockChange → List ClientLock → List ClientLock
-relocked_by client (Lock name) locks = locks ++ record { client = client; name = name } ∷ []
+relocked_by client (Lock name) locks = with_one client name locks
 relocked_by client (Unlock name) locks = without_one client name locks
 
--- Locks change their owners by a LOCK and an UNLOCK that are done, and by no other body.
+-- Only a LOCK and an UNLOCK that are done change the owners of locks.
 pub record HasOwners (client : ℕ) (old : Shared) (body : List ℕ) (reply : ReplyValue)
     (locks : List ClientLock) : Type 0 where
   pub done : (change : LockChange) → AsksLock old.state body change → turns.is_done reply ≡ true
@@ -118,32 +117,28 @@ pub record HasOwners (client : ℕ) (old : Shared) (body : List ℕ) (reply : Re
   pub others : ((change : LockChange) → AsksLock old.state body change → ⊥) → locks ≡ old.locks
   pub undone : turns.is_done reply ≡ false → locks ≡ old.locks
 
--- a lock is taken back, where it is this client's
-abbrev pub taken_one : ℕ → ClientLock → State → State
-taken_one client lock state = if lock.client == client then after_locks state (Some (Unlock lock.name)) else state
-
--- the cells' locks are taken back, one for each name, where there is one
+-- the cells' locks are released, one for each name if there is one
 abbrev pub taken_back : List CellName → State → State
 taken_back [] state = state
 taken_back (name ∷ names) state = taken_back names (after_locks state (Some (Unlock name)))
 
--- behind a client's end: all of its locks are taken back
+-- after a client's end: all of its locks are released
 abbrev pub behind_end : ℕ → Shared → Shared
 behind_end client old =
     record { state = taken_back (cells_of client old.locks) old.state; locks = of_others client old.locks }
 
--- behind the end of a session: all locks that clients still have are taken back
+-- after the end of a session: all locks that clients still have are released
 abbrev pub behind_all : Shared → Shared
 behind_all old = record { state = taken_back (map (λ lock. lock.name) old.locks) old.state; locks = [] }
 
 -- ---- turns
 
--- a turn as one client alone has it
+-- a turn as in a server of one client
 pub record TakesTurn (client : ℕ) (body : List ℕ) (reply : ReplyValue) (old new : Shared) : Type 0 where
   pub turn : Turn old.state body reply new.state
   pub owners : HasOwners client old body reply new.locks
 
--- an UNLOCK of an array on which the client has no lock, whatever locks others have there; nothing changes
+-- an UNLOCK of an array on which the client has no lock, whatever locks others have on it; nothing changes
 pub record RefusesUnlock (client : ℕ) (body : List ℕ) (reply : ReplyValue) (old new : Shared) : Type 0 where
   pub name : CellName
   pub asked : AsksLock old.state body (Unlock name)
@@ -160,7 +155,7 @@ pub record AnswersBody (client : ℕ) (body : List ℕ) (told : ClientReply) (ol
   pub told_is : told ≡ Replies client reply
   pub turn : TurnsFor client body reply old new
 
--- a client ends, which it is told, and all of its locks are taken back
+-- a client ends: it receives its end, and all of its locks are released
 pub record AnswersEnd (client : ℕ) (why : End) (told : ClientReply) (old new : Shared) : Type 0 where
   pub told_is : told ≡ Leaves client why
   pub behind : new ≡ behind_end client old
@@ -175,7 +170,7 @@ EventOf old (Body body) (Replies client reply) event = HasEvent old body reply e
 EventOf old (Body body) (Leaves client why) event = event ≡ []
 EventOf old (Ends why) told event = event ≡ []
 
--- the same as groups see it
+-- the same for the theory of groups
 pub record IsSharedTurn (asked : Exchange ClientReply) (old new : Shared) : Type 0 where
   pub client : ℕ
   pub brought : Brought
@@ -184,7 +179,7 @@ pub record IsSharedTurn (asked : Exchange ClientReply) (old new : Shared) : Type
   pub made : EventOf old.state brought asked.reply asked.event
   pub replays : Replays asked.event (turns.held_of old.state) (turns.held_of new.state)
 
--- A body was answered as a change of a lock, or as want of memory is: it made no event.
+-- A body was answered as a change of a lock, or as out of memory: it made no event.
 pub record IsLockTurn (client : ℕ) (body : List ℕ) (reply : ReplyValue) (old new : Shared) : Type 0 where
   pub turn : TurnsFor client body reply old new
   pub made : HasEvent old.state body reply []

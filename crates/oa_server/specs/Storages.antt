@@ -1,4 +1,4 @@
--- Where a server keeps its table beside its memory, and what it answers there. (This project's choice.)
+-- The storage of a server's table, and the replies over it. (This project's choice.)
 use Rattle.std.specs.Prelude.{◌≡◌, ℕ, false, true, List, ⊤}
 use Rattle.oa_disk.specs.declared.disk.Disk.{Ghosts}
 use Rattle.oa_groups.specs.Served.{IsServed}
@@ -12,7 +12,7 @@ use Rattle.oa_server.specs.Requests.{requests}
 use Rattle.oa_decision.specs.States.{State}
 use Rattle.oa_turn.specs.Turns.{Run, Turn}
 
--- the table is in memory alone
+-- the table is only in memory
 abbrev pub InMemory : {D : Type 0} {g : Ghosts D} → Storage D g → Type 0
 InMemory (Memory disk) = ⊤
 InMemory (Disk store) = ⊥
@@ -22,12 +22,12 @@ abbrev pub disk_of : {D : Type 0} {g : Ghosts D} → Storage D g → D
 disk_of (Memory disk) = disk
 disk_of (Disk store) = store.disk
 
--- how many bytes the body of a bank has that the table has to fit
+-- the size in bytes of a bank's body, into which the table must fit
 abbrev pub bank_of : {D : Type 0} {g : Ghosts D} → Storage D g → ℕ
 bank_of (Memory disk) = default_bank_bytes
 bank_of (Disk store) = body_bytes store.bank.shape
 
--- One body is answered: by a turn in memory, where no call of the disk is made, or over a store.
+-- One body is answered: by a turn in memory, without a call of the disk, or over a store.
 abbrev pub AnswersOne : {D : Type 0} {g : Ghosts D} → Storage D g → Storage D g → State → List ℕ → ReplyValue → State
     → Type 0
 AnswersOne (Memory old) (Memory new) before body reply after = (new ≡ old) × Turn before body reply after
@@ -35,8 +35,8 @@ AnswersOne (Disk old) (Disk new) before body reply after = IsAnswered old new be
 AnswersOne (Memory old) (Disk new) before body reply after = ⊥
 AnswersOne (Disk old) (Memory new) before body reply after = ⊥
 
--- Bodies are answered in groups of a size: by a run in memory; over a store by a run with its moments, up to a fault of
--- the device; after a fault all are answered that.
+-- Bodies are answered in groups of a size: by a run in memory; over a store by a run with its points in time, up to a
+-- fault of the device; after a fault all get that reply.
 pub record ServesStore {D : Type 0} {g : Ghosts D} (size : ℕ) (old new : Store D g) (before : State)
     (bodies : List (List ℕ))
     (replies : List ReplyValue) (after : State) : Type 0 where
@@ -50,7 +50,7 @@ Serves size (Disk old) (Disk new) before bodies replies after = ServesStore size
 Serves size (Memory old) (Disk new) before bodies replies after = ⊥
 Serves size (Disk old) (Memory new) before bodies replies after = ⊥
 
--- what holds of its store: the server is over one
+-- a property of its store, if the server has one
 abbrev pub OverStore : {D : Type 0} {g : Ghosts D} → Storage D g → (Store D g → Type 0) → Type 0
 OverStore (Memory disk) P = ⊥
 OverStore (Disk store) P = P store

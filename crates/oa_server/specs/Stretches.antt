@@ -1,4 +1,4 @@
--- What many clients were answered from one *now* to the next. (This project's choice.)
+-- The replies to many clients from one *now* to the next. (This project's choice.)
 use Rattle.std.specs.Prelude.{◌≡◌, ℕ, true, false, List, [], ◌∷◌, ◌++◌, map}
 use Rattle.oa_disk.specs.declared.disk.Disk.{Ghosts}
 use Rattle.oa_groups.specs.Served.{IsServed}
@@ -9,12 +9,12 @@ use Rattle.oa_server.specs.Sharing.{ClientReply, Shared, failed, tagged}
 use Rattle.oa_share.specs.Marks.{Owned, Of, Now}
 use Rattle.oa_share.specs.Readers.{Brought}
 
--- requests of all clients in their order, and what was told of them, in the same order
+-- the requests of all clients in their order, and the replies in the same order
 pub record Stretch : Type 0 where
   pub bodies : List (List ℕ)
   pub told : List ClientReply
 
--- After a fault of the device all are told that, and nothing is done.
+-- After a fault of the device all get that reply, and nothing is done.
 pub record IsLateFor {D : Type 0} {g : Ghosts D} (old new : Store D g) (before after : Shared) (bodies : List (List ℕ))
     (told : List ClientReply) : Type 0 where
   pub told_is : told ≡ map failed bodies
@@ -29,7 +29,7 @@ pub record ServesStretch {D : Type 0} {g : Ghosts D} (size : ℕ) (old new : Sto
   pub served : old.stopped ≡ false → IsServed shared_requests size old new before after stretch.bodies stretch.told
   pub late : old.stopped ≡ true → IsLateFor old new before after stretch.bodies stretch.told
 
--- one behind the other
+-- one after the other
 abbrev pub ServesStretches : {D : Type 0} {g : Ghosts D} → ℕ → Store D g → Store D g → Shared → List Stretch → Shared
     → Type 0
 ServesStretches size old new before [] after = (new ≡ old) × (after ≡ before)
@@ -37,7 +37,7 @@ ServesStretches {D} {g} size old new before (stretch ∷ stretches) after =
     (mid : Store D g) × (state : Shared) × ServesStretch size old mid before stretch state
     × ServesStretches size mid new state stretches after
 
--- what was asked, cut behind each *now*; what no *now* follows is left out
+-- the requests, divided after each *now*; those that no *now* follows are left out
 unfoldable pub cut_at_now : List (List ℕ) → List (Owned Brought) → List (List (List ℕ))
 cut_at_now front [] = []
 cut_at_now front (Of client brought ∷ asks) = cut_at_now (front ++ tagged client brought ∷ []) asks
@@ -54,7 +54,7 @@ unfoldable pub all_told : List (List (ℕ × List ℕ)) → List (ℕ × List �
 all_told [] = []
 all_told (told ∷ tolds) = told ++ all_told tolds
 
--- Over a store: what was asked up to each *now* is a call that was served, and the frames are those of the replies of
+-- Over a store: the requests up to each *now* are a call that was served, and the frames are those of the replies of
 -- these calls, in order.
 pub record AnswersStretches {D : Type 0} {g : Ghosts D} (size : ℕ) (old new : Store D g) (before : Shared)
     (asks : List (Owned Brought))

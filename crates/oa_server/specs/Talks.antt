@@ -25,12 +25,12 @@ use Rattle.oa_server.specs.Serving.{last_written, none_held, turn_written}
 use Rattle.oa_decision.specs.States.{State}
 use Rattle.oa_server.specs.Storages.{Serves}
 
--- the open group can take one request more
+-- one more request fits into the open group
 abbrev pub OpenGroupIsReady : {D : Type 0} {g : Ghosts D} → Storage D g → OpenGroup → Type 0
 OpenGroupIsReady (Memory disk) open_group = ⊤
 OpenGroupIsReady (Disk store) open_group = CanTake store open_group
 
--- One body is taken into the open group, and these replies are handed out.
+-- One body is executed in the open group, and these replies are sent.
 abbrev pub TakenIn : {D : Type 0} {g : Ghosts D} → Storage D g → State → OpenGroup → List ℕ → List ReplyValue
     → Storage D g → State → OpenGroup → Type 0
 TakenIn (Disk old) before open_group body told (Disk new) after open_group' =
@@ -45,7 +45,7 @@ EndedIn (Disk old) before open_group told (Disk new) after open_group' =
 EndedIn (Disk old) before open_group told (Memory new) after open_group' = ⊥
 EndedIn (Memory old) before open_group told new after open_group' = ⊥
 
--- the same, with the bytes of the replies, which have no length before them
+-- the same, with the bytes of the replies without lengths
 pub record IsTakenOver {D : Type 0} {g : Ghosts D} (old : Storage D g) (before : State) (open_group : OpenGroup)
     (body : List ℕ)
     (replies : List (List ℕ)) (new : Storage D g) (after : State) (open_group' : OpenGroup) : Type 0 where
@@ -63,7 +63,7 @@ pub record IsEndedOver {D : Type 0} {g : Ghosts D} (old : Storage D g) (before :
   pub none : open_group'.replies.items ≡ []
   pub ended : EndedIn old before open_group told new after open_group'
 
--- In memory every body has one reply, handed out at that body. Over a store the open group takes it.
+-- In memory every body has one reply, sent at that body. Over a store it is executed in the open group.
 abbrev pub Taken : {D : Type 0} {g : Ghosts D} → Storage D g → State → OpenGroup → List ℕ → List (List ℕ) → Storage D g
     → State → OpenGroup → Type 0
 Taken (Memory old) before open_group body replies new after open_group' =
@@ -71,7 +71,7 @@ Taken (Memory old) before open_group body replies new after open_group' =
 Taken (Disk old) before open_group body replies new after open_group' =
     IsTakenOver (Disk old) before open_group body replies new after open_group'
 
--- So none is held when the input ends. Over a store the open group ends, and its replies are handed out.
+-- So none is held when the input ends. Over a store the open group ends, and its replies are sent.
 abbrev pub InputEnds : {D : Type 0} {g : Ghosts D} → Storage D g → State → OpenGroup → List (List ℕ) → Storage D g
     → State → OpenGroup → Type 0
 InputEnds (Memory old) before open_group replies new after open_group' =
@@ -79,26 +79,26 @@ InputEnds (Memory old) before open_group replies new after open_group' =
 InputEnds (Disk old) before open_group replies new after open_group' =
     IsEndedOver (Disk old) before open_group replies new after open_group'
 
--- what holds of a server between two bodies
+-- the invariant of a server between two bodies
 abbrev pub TakesBodies : {D : Type 0} {g : Ghosts D} → Engine D g → Type 0
-TakesBodies engine = OpenGroupIsReady engine.storage engine.open_group
+TakesBodies engine = OpenGroupIsReady engine.storage engine.desk.open_group
 
 abbrev pub taken_written : {D : Type 0} {g : Ghosts D} → Engine D g → List ℕ → List (List ℕ) → Engine D g → Type 0
 taken_written old body replies new =
-    Taken old.storage old.host old.open_group body replies new.storage new.host new.open_group
+    Taken old.storage old.host old.desk.open_group body replies new.storage new.host new.desk.open_group
 
 abbrev pub ended_written : {D : Type 0} {g : Ghosts D} → Engine D g → List (List ℕ) → Engine D g → Type 0
 ended_written old replies new =
-    InputEnds old.storage old.host old.open_group replies new.storage new.host new.open_group
+    InputEnds old.storage old.host old.desk.open_group replies new.storage new.host new.desk.open_group
 
--- what was read and written, whatever the server does
+-- what was read and written, for any server
 abbrev pub any_turn : Unit {0} → List ℕ → List (List ℕ) → Unit {0} → Type 0
 any_turn old body replies new = Unit {0}
 
 abbrev pub any_end : Unit {0} → List (List ℕ) → Unit {0} → Type 0
 any_end old replies new = Unit {0}
 
--- part of a session: some bodies, and the replies that were handed out at the last of them
+-- a part of a session: some bodies, and the replies that were sent at the last of them
 pub record Part : Type 0 where
   pub bodies : List (List ℕ)
   pub told : List ReplyValue
@@ -121,8 +121,8 @@ abbrev pub handed_of : List Part → List (List (List ℕ))
 handed_of [] = []
 handed_of (part ∷ parts) = at_last part.bodies (map reply_record part.told) ++ handed_of parts
 
--- The last of these bodies ends a group: it fills it, or the checkpoint before its event, the group's first, has
--- failed. Before it no group is whole, and none of them is a group of its own.
+-- The last of these bodies ends a group: it fills the group, or the checkpoint before its event, the group's first,
+-- has failed. Before it no group is whole, and none of them is a group of its own.
 pub record IsWholeGroup {D : Type 0} {g : Ghosts D} (size : ℕ) (new : Store D g) (before : State)
     (bodies : List (List ℕ))
     (told : List ReplyValue) (after : State) : Type 0 where
@@ -135,7 +135,7 @@ pub record IsWholeGroup {D : Type 0} {g : Ghosts D} (size : ℕ) (new : Store D 
   pub ends : IsWhole requests size before group
   pub whole : new.stopped ≡ false → (is_full size group ≡ true) × (told ≡ map reply_of group)
 
--- These bodies are no group yet: another request could have come to them. None of them is a group of its own.
+-- These bodies are not yet a group: another request could have followed. None of them is a group of its own.
 pub record IsNoGroupYet {D : Type 0} {g : Ghosts D} (size : ℕ) (new : Store D g) (before : State)
     (bodies : List (List ℕ))
     (told : List ReplyValue) (after : State) : Type 0 where
@@ -146,8 +146,8 @@ pub record IsNoGroupYet {D : Type 0} {g : Ghosts D} (size : ℕ) (new : Store D 
   pub short : is_full size held ≡ false
   pub told_are : new.stopped ≡ false → told ≡ map reply_of held
 
--- The last of these bodies is a group of its own, and ends the group before it, whose replies are handed out at it too:
--- that was not whole yet, and none of its bodies is a group of its own.
+-- The last of these bodies is a group of its own, and ends the group before it, whose replies are sent then, too:
+-- that group was not whole, and none of its bodies is a group of its own.
 pub record EndsApart (size : ℕ) (before : State) (bodies : List (List ℕ)) : Type 0 where
   pub front : List (List ℕ)
   pub last : List ℕ
@@ -178,15 +178,15 @@ EndsBefore size (Disk old) (Disk new) before bodies told after =
 EndsBefore size (Disk old) (Memory new) before bodies told after = ⊥
 EndsBefore size (Memory old) new before bodies told after = bodies ≡ []
 
--- A part is a call of its own, of so many bodies at most, and one group, or the open one and its last body, which is a
--- group of its own.
+-- A part is a call of its own, with at most a group's number of bodies: one group, or the open group and a last body
+-- that is a group of its own.
 pub record IsPart {D : Type 0} {g : Ghosts D} (size : ℕ) (old new : Storage D g) (before : State) (part : Part)
     (after : State) : Type 0 where
   pub few : length part.bodies ≤ size
   pub ends : EndsGroup size old new before part.bodies part.told after
   pub serves : Serves size old new before part.bodies part.told after
 
--- Each part begins where the one before has ended.
+-- Each part begins in the state in which the one before ended.
 abbrev pub Parts : {D : Type 0} {g : Ghosts D} → ℕ → Storage D g → Storage D g → State → List Part → State → Type 0
 Parts size old new before [] after = (new ≡ old) × (after ≡ before)
 Parts {D} {g} size old new before (part ∷ parts) after =
@@ -197,9 +197,9 @@ abbrev pub calls_of : ℕ → List Part → List (AnsweredCall ReplyValue)
 calls_of size [] = []
 calls_of size (part ∷ parts) = record { size = size; bodies = part.bodies; replies = part.told } ∷ calls_of size parts
 
--- The bodies of a session part by part: the replies of each are handed out at its last body, that is, before the next
--- one is read, and are those of a call that is over by then. What the open group holds at the end is no group yet; it
--- is a call too, whose replies are handed out then.
+-- The bodies of a session part by part: the replies of each part are sent at its last body, before the next body is
+-- read, and are those of a call that has ended by then. The requests that the open group holds at the end are a call,
+-- too, whose replies are sent then.
 pub record InParts {D : Type 0} {g : Ghosts D} (size : ℕ) (old new : Storage D g) (before after : State)
     (bodies : List (List ℕ))
     (handed : List (List (List ℕ))) (held : List (List ℕ)) : Type 0 where
@@ -216,9 +216,9 @@ pub record InParts {D : Type 0} {g : Ghosts D} (size : ℕ) (old new : Storage D
   pub rest : EndsBefore size mid new state open_bodies told after
   pub ends : Serves size mid new state open_bodies told after
 
--- A whole session: what was read and written, and that these replies are what serving the bodies that were read and
--- answered in groups of this size makes. Where the writer failed before a body that is a group of its own, that body is
--- none of them.
+-- A whole session: what was read and written. The replies are those of serving the bodies that were read and
+-- answered, in groups of this size. If the writer failed before a body that is a group of its own, that body is not
+-- one of them.
 pub record ServesSession {D : Type 0} {g : Ghosts D} (f : Frames) (last : List ℕ) (input input' : Input)
     (out out' : Output)
     (size : ℕ) (old new : Storage D g) (before after : State) (served : Served) : Type 0 where
@@ -234,7 +234,7 @@ abbrev pub HasTalked : {D : Type 0} {g : Ghosts D} → Frames → Input → Inpu
 HasTalked f input input' out out' size old new served =
     ServesSession f last_written input input' out out' size old.storage new.storage old.host new.host served
 
--- in memory each reply is handed out at its body
+-- in memory each reply is sent at its body
 abbrev pub HasTalkedInMemory : Frames → Input → Input → Output → Output → State → State → Served → Type 0
 HasTalkedInMemory f input input' out out' old new served =
     Session f is_replacement turn_written none_held last_written input input' out out' old new served

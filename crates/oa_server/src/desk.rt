@@ -1,4 +1,4 @@
-//! The open group of many clients over a store: whose each of its replies is, and whose lock is whose.
+//! The open group of a session over a store, with the client of each reply and the owner of each lock.
 ghost use Rattle.std.specs.Prelude.{◌≡◌, ◌∷◌, [], ℕ, false, true};
 ghost use Rattle.oa_groups.specs.Groupings.{IsEnded, IsTaken};
 ghost use Rattle.oa_decision.specs.declared.decision.LockChange.{LockChange as AChange};
@@ -24,27 +24,41 @@ use oa_store::Store;
 use oa_turn::Host;
 use std::alloc::Global;
 
-/// Whose a reply is, and which end it is where the client has ended.
+/// The client of a reply, and how it ended if the reply is for its end.
 #[derive(Clone, Copy, Debug, PartialEq, Eq)]
 pub(crate) struct Asker {
     /// The client's number.
     pub client: u32,
-    /// Its end, in the place of a reply.
+    /// Its end, instead of a reply.
     pub why: Option<End>,
 }
 
-/// The open group of many clients.
+/// The open group of a session of one client, which gets each reply, or of many.
 #[derive(Drop)]
 pub(crate) struct Desk {
     /// Its events and its replies.
     pub open_group: OpenGroup,
-    /// Whose each reply is, in the same order.
+    /// In a session of many clients, the client of each reply, in the same order.
     pub askers: Vec<Asker>,
-    /// Whose lock is whose.
+    /// In a session of many clients, the owners of locks.
     pub owners: Owners,
 }
 
-/// Takes one body of a client that is no group of its own. True where the open group has ended: what it holds then is to be handed out.
+impl Desk {
+    /// Returns the open group of no session, without locks. Allocates nothing.
+    pub(crate) fn none(alloc: Global) -> Desk
+        ensures owners { result.owners ≡ [] }
+    {
+        Desk {
+            open_group: OpenGroup::none(alloc),
+            askers: Vec::new(alloc),
+            owners: Owners::new(alloc),
+        }
+    }
+}
+
+/// Executes one body of a client in the open group; the body is not a group of its own. Returns `true` if the group
+/// ended and its replies can be sent.
 pub(crate) fn ask_over<D: Disk>(
     alloc: Global,
     host: &mut Host,
@@ -74,7 +88,7 @@ pub(crate) fn ask_over<D: Disk>(
     }
 }
 
-/// The same of one that asks for no lock to be changed.
+/// Executes one body that changes no lock.
 fn take_for<D: Disk>(
     alloc: Global,
     host: &mut Host,
@@ -100,8 +114,8 @@ fn take_for<D: Disk>(
     take(alloc, host, store, &mut desk.open_group, body)
 }
 
-/// Takes one body that is a group of its own, whoever asks, where nothing is held: its reply may be handed out at once. No lock changes its
-/// owner.
+/// Executes one body of any client that is a group of its own, while nothing is held: its reply can be sent at once.
+/// No lock changes its owner.
 pub(crate) fn ask_alone<D: Disk>(
     alloc: Global,
     host: &mut Host,
@@ -124,7 +138,8 @@ pub(crate) fn ask_alone<D: Disk>(
     take_alone(alloc, host, store, &mut desk.open_group, body)
 }
 
-/// Holds the reply to what made no event, and ends the group where it fills that. True where the group has ended.
+/// Holds the reply to a body that made no event, and ends the group if that fills it. Returns `true` if the group
+/// ended.
 fn hold<D: Disk>(
     alloc: Global,
     host: &Host,
@@ -154,8 +169,8 @@ fn hold<D: Disk>(
     true
 }
 
-/// A client ends: it is told that behind all that it was told before, and its locks are taken back. After a fault of the device nothing is
-/// taken back.
+/// Ends a client: the frame for its end follows all of its replies, and its locks are released. After a fault of the
+/// device nothing is released.
 pub(crate) fn end_over<D: Disk>(
     alloc: Global,
     host: &mut Host,
@@ -189,7 +204,7 @@ pub(crate) fn end_over<D: Disk>(
     hold(alloc, host, store, desk, asker, reply)
 }
 
-/// The open group ends: what it holds is to be handed out.
+/// Ends the open group: its replies can be sent.
 pub(crate) fn finish_over<D: Disk>(
     alloc: Global,
     host: &Host,

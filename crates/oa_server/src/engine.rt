@@ -1,29 +1,30 @@
-//! A server at work.
+//! The state of a server.
 ghost use Rattle.std.specs.Prelude.{◌≡◌, ◌≤◌, map, IfOk, OnErr};
 ghost use Rattle.oa_server.specs.Storages.{AnswersOne, InMemory, Serves, bank_of, disk_of};
 ghost use Rattle.oa_turn.specs.Turns.{Run, Turn};
 
+use crate::desk::Desk;
 use crate::grouping::{answer_over, run_over};
-use crate::open_group::OpenGroup;
 use crate::storage::Storage;
 use oa_disk::Disk;
 use oa_record::Reply;
 use oa_turn::Host;
 use std::alloc::{AllocError, Global};
 
-/// A library and a table in memory, where the table is kept, and the open group.
+/// A library and a table in memory, the storage of the table, and the open group of a session of one client or of
+/// many.
 #[derive(Drop)]
 pub(crate) struct Engine<D: Disk> {
     pub alloc: Global,
     pub host: Host,
     pub storage: Storage<D>,
-    /// The open group of a session over a store.
-    pub open_group: OpenGroup,
+    /// The open group of a session over a store, and the owners of locks in one of many clients.
+    pub desk: Desk,
     ghost banks: { bank_of storage ≡ host.bank },
 }
 
 impl<D: Disk> Engine<D> {
-    /// A server of these parts.
+    /// Makes a server of these parts.
     pub(crate) fn new(alloc: Global, host: Host, storage: Storage<D>) -> Engine<D>
         requires banks { bank_of storage ≡ host.bank }
         ensures host { result.host ≡ host }
@@ -33,11 +34,11 @@ impl<D: Disk> Engine<D> {
             alloc,
             host,
             storage,
-            open_group: OpenGroup::none(alloc),
+            desk: Desk::none(alloc),
         }
     }
 
-    /// The disk as it is. This makes no call.
+    /// Closes it and returns the disk. Makes no call of it.
     pub(crate) fn into_disk(self) -> D
         ensures { result ≡ disk_of self.storage }
     {
@@ -64,7 +65,7 @@ pub(crate) fn answer_with<D: Disk>(
     }
 }
 
-/// Answers bodies in groups of so many. Err only where memory is refused before anything was done.
+/// Answers bodies in groups of this size. Err: an allocation failed before anything was done.
 pub(crate) fn run_with<D: Disk>(
     alloc: Global,
     host: &mut Host,

@@ -6,13 +6,14 @@ use oa_keeper::DeviceFailed;
 use std::alloc::AllocError;
 use thiserror::Error;
 
-/// Why a change was not made. The table and the batch are as they were, and images hold the table that they held before.
+/// Why a change was not made. The table and the batch have not changed, and images are stores of the same table as
+/// before.
 #[derive(Clone, Copy, Debug, PartialEq, Eq, Error)]
 pub(crate) enum HoldFault {
-    /// No memory was found.
+    /// An allocation failed.
     #[error("out of memory")]
     Memory,
-    /// A call of the device failed in a checkpoint, and the store has stopped.
+    /// A call of the device failed during a checkpoint, and the store has stopped.
     #[error("the device has failed")]
     Device,
 }

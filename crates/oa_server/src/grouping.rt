@@ -1,4 +1,4 @@
-//! A server over a store: groups of requests whose events go out under one gate, and whose replies are held back until then.
+//! Group commit: the events of a group of requests are committed together, and the replies are held back until then.
 ghost use Rattle.std.specs.Prelude.{◌≡◌, ◌≤◌, ◌<◌, ◌+◌, ◌++◌, ◌∷◌, [], IfOk, OnErr, false, length, map, true, vec_capacity};
 ghost use Rattle.oa_groups.specs.Groupings.{IsEnded, IsSettled, IsTaken};
 ghost use Rattle.oa_groups.specs.Served.{IsServed};
@@ -20,8 +20,8 @@ use oa_store::Store;
 use oa_turn::Host;
 use std::alloc::{AllocError, Global};
 
-/// Answers one body: a group of one, whose batch is its own. After a fault of the device the answer is that the store has failed, and
-/// nothing is done.
+/// Answers one body as a group of one, with a batch of its own. After a fault of the device the reply is that the
+/// store has failed, and nothing is done.
 pub(crate) fn answer_over<D: Disk>(
     alloc: Global,
     host: &mut Host,
@@ -48,7 +48,7 @@ pub(crate) fn answer_over<D: Disk>(
     reply
 }
 
-/// Answers one body that asks for another library, which is a group of its own.
+/// Answers one request to replace the library, which is a group of its own.
 fn replaced_over<D: Disk>(
     alloc: Global,
     host: &mut Host,
@@ -67,7 +67,7 @@ fn replaced_over<D: Disk>(
     }
 }
 
-/// Ends the open group: its events go out, and its replies may be handed out, or are taken back.
+/// Ends the open group: commits its events; its replies can then be sent, or have become faults.
 pub(crate) fn settle<D: Disk>(
     alloc: Global,
     host: &Host,
@@ -90,8 +90,8 @@ pub(crate) fn settle<D: Disk>(
     }
 }
 
-/// Takes one request that is no group of its own. True where the open group has ended: its replies are to be handed out, those that it holds
-/// then.
+/// Executes one request in the open group; the request is not a group of its own. Returns `true` if the group ended
+/// and the replies that it holds can be sent.
 pub(crate) fn take<D: Disk>(
     alloc: Global,
     host: &mut Host,
@@ -135,7 +135,8 @@ pub(crate) fn take<D: Disk>(
     }
 }
 
-/// Answers one body that asks for another library, behind the end of the group before it, which the device may have failed.
+/// Answers one request to replace the library, after the group before it has ended, in which the device may have
+/// failed.
 fn replaced_or_late<D: Disk>(
     alloc: Global,
     host: &mut Host,
@@ -153,7 +154,8 @@ fn replaced_or_late<D: Disk>(
     bare_reply(alloc, body, HResult::E_FAIL)
 }
 
-/// Takes a request that is a group of its own: first the open group ends. All replies that it holds are to be handed out then.
+/// Executes a request that is a group of its own, after ending the open group. All replies that are held can be sent
+/// then.
 fn take_apart<D: Disk>(
     alloc: Global,
     host: &mut Host,
@@ -177,7 +179,7 @@ fn take_apart<D: Disk>(
     open_group.replies.push_reserved(reply);
 }
 
-/// Takes a request that is a group of its own, where no reply is held: its own may be handed out at once.
+/// Executes a request that is a group of its own, while no reply is held: its own can be sent at once.
 pub(crate) fn take_alone<D: Disk>(
     alloc: Global,
     host: &mut Host,
@@ -200,7 +202,7 @@ pub(crate) fn take_alone<D: Disk>(
     replaced_or_late(alloc, host, store, body)
 }
 
-/// The input has ended: the open group has ended, whose replies are to be handed out.
+/// Ends the open group at the end of the input: its replies can be sent.
 pub(crate) fn finish<D: Disk>(
     alloc: Global,
     host: &Host,
@@ -221,7 +223,7 @@ pub(crate) fn finish<D: Disk>(
     settle(alloc, host, store, open_group);
 }
 
-/// Takes one request, and hands the replies of a group that has ended out.
+/// Executes one request, and returns the replies of a group that has ended.
 fn take_on<D: Disk>(
     alloc: Global,
     host: &mut Host,
@@ -251,7 +253,7 @@ fn take_on<D: Disk>(
     }
 }
 
-/// The input has ended: the replies of the open group are handed out too.
+/// Ends the open group at the end of the input, and returns its replies, too.
 fn finish_on<D: Disk>(
     alloc: Global,
     host: &Host,
@@ -269,7 +271,7 @@ fn finish_on<D: Disk>(
     hand_out(&mut open_group.replies, out);
 }
 
-/// Moves the replies to those that were handed out.
+/// Moves replies to those that are returned.
 fn hand_out(replies: &mut Vec<Reply>, out: &mut Vec<Reply>)
     requires { length out.old.items + length replies.old.items ≤ vec_capacity out.old }
     ensures out { out.new.items ≡ out.old.items ++ replies.old.items }
@@ -280,7 +282,7 @@ fn hand_out(replies: &mut Vec<Reply>, out: &mut Vec<Reply>)
     out.append(replies).unwrap();
 }
 
-/// Answers bodies in groups of so many. Err only where memory is refused before anything was done.
+/// Answers bodies in groups of this size. Err: an allocation failed before anything was done.
 pub(crate) fn run_over<D: Disk>(
     alloc: Global,
     host: &mut Host,

@@ -1,4 +1,4 @@
-//! A turn over a store: the event that it makes is held in a batch until its group ends.
+//! A turn over a store: its event is held in a batch until its group ends.
 ghost use Rattle.std.specs.Prelude.{◌≡◌, ◌++◌, List, ℕ, false, IfOk, IsErr, IsErrOf, OnErr, OnOk};
 ghost use Rattle.oa_image.specs.Events.{event_image};
 ghost use Rattle.oa_keeper.specs.Holding.{IsOpenFor};
@@ -23,8 +23,8 @@ use oa_store::Store;
 use oa_turn::{Host, Plan, Planned};
 use std::alloc::Global;
 
-/// One turn over a store. Its event is added to the batch; before the first one there a checkpoint is made, where one is due. At
-/// `Err` the checkpoint failed.
+/// Executes one turn over a store. Its event is added to the batch; before the first event of a batch, a checkpoint
+/// is made if one is due. Err: the checkpoint failed.
 pub(crate) fn turn_held<D: Disk>(
     alloc: Global,
     host: &mut Host,
@@ -37,7 +37,7 @@ pub(crate) fn turn_held<D: Disk>(
     requires banks { HasBanks store.old host.old }
     ensures turn { IfOk result (λ reply. IsHeldBack body.now reply batch.old batch.new host.old host.new) }
     ensures failed { OnErr result (IsCutOff store.old body.now batch.old batch.new host.old host.new) }
-    // The device is called for a checkpoint alone, where one is due before an event of the body.
+    // (the device is called only for a checkpoint, if one is due before an event of the body)
     ensures calls { CallsWhereDue store.old store.new host.old batch.old body.now }
     ensures once { CallsForCheckpoint store.old store.new host.old.table }
     ensures holds { HoldsOn batch.old batch.new (held_of host.old) store.old store.new result }
@@ -49,7 +49,7 @@ pub(crate) fn turn_held<D: Disk>(
     }
 }
 
-/// Makes a planned change in memory and holds its event, and tells it.
+/// Makes a planned change in memory, holds its event, and returns the reply.
 fn hold<D: Disk>(
     alloc: Global,
     host: &mut Host,
@@ -64,7 +64,7 @@ fn hold<D: Disk>(
         → IsHeldBack body reply batch.old batch.new host.old host.new) }
     ensures failed { OnErr result ((body : List ℕ) → is_replacement body ≡ false → IsPlanned host.old body planned
         → IsCutOff store.old body batch.old batch.new host.old host.new) }
-    // The device is called for a checkpoint alone, where one is due before the event.
+    // (the device is called only for a checkpoint, if one is due before the event)
     ensures calls { (body : List ℕ) → is_replacement body ≡ false → IsPlanned host.old body planned
         → CallsWhereDue store.old store.new host.old batch.old body }
     ensures once { CallsForCheckpoint store.old store.new host.old.table }
@@ -81,8 +81,9 @@ fn hold<D: Disk>(
     }
 }
 
-/// Makes a change that is allowed, and holds its event in a batch, behind a checkpoint where one is due: that has the table before the
-/// change. Then the growths of the event's bytes and of the table follow. At `Device` the checkpoint failed.
+/// Makes a change that is allowed, and holds its event in a batch, after a checkpoint if one is due: that has the
+/// table before the change. After it memory is allocated for the event's bytes and for the table. `Device`: the
+/// checkpoint failed.
 fn hold_change<D: Disk>(
     host: &mut Host,
     store: &mut Store<D>,
@@ -95,7 +96,7 @@ fn hold_change<D: Disk>(
     ensures change { MakesChange event host.old host.new result }
     ensures added { OnOk result (IsAdded event batch.old batch.new host.old host.new) }
     ensures same { OnErr result (batch.new ≡ batch.old) }
-    // It is the first event of a group before which the device is called, and no checkpoint is made that is not due.
+    // (the device is called only before the first event of a group, for a checkpoint that is due)
     ensures calls { CallsForRoom batch.old batch.new store.old store.new result }
     ensures once { CallsForCheckpoint store.old store.new host.old.table }
     ensures way { MakesWay batch.old (held_of host.old) store.old store.new result }
@@ -106,7 +107,8 @@ fn hold_change<D: Disk>(
     Ok(())
 }
 
-/// Makes a change that is allowed, and adds its event to the batch. The growths come in this order: the event's bytes, the table's.
+/// Makes a change that is allowed, and adds its event to the batch. It allocates first for the event's bytes, then
+/// for the table.
 fn add_change(host: &mut Host, batch: &mut Batch, event: SizedEvent) -> Result<(), HoldFault>
     requires { CanBeMade host.old event }
     ensures change { MakesChange event host.old host.new result }

@@ -1,10 +1,10 @@
 //! An automation object server: turns over a library and a table, in memory or over a store, and sessions over a
 //! reader and a writer.
 //!
-//! Its contract: `answer` is one turn of a table of objects (`Turn` of oa_turn) while no device fails, `serve` a
-//! session of such turns (`Session`), over a store in groups that a stop leaves whole (`IsServed`).
+//! Contract: `answer` is one turn of a table of objects (`Turn` of oa_turn) while no device fails, and `serve` a
+//! session of such turns (`Session`), over a store in groups that a crash leaves whole (`IsServed`).
 //!
-//! What stands on it: the program; oa_history, and the tests of sessions.
+//! Used by the program, by oa_history, and by the tests of sessions.
 #![tactic(auto)]
 
 mod desk;
@@ -18,8 +18,6 @@ mod open_group;
 mod replacement;
 mod server;
 mod serving;
-mod shared_engine;
-mod shared_server;
 mod sharing;
 mod starting;
 mod storage;
@@ -27,4 +25,3 @@ mod storage;
 pub use oa_frame::{End, Served};
 pub use oa_share::SessionEnd;
 pub use server::Server;
-pub use shared_server::SharedServer;

@@ -1,11 +1,13 @@
-//! Turns of bodies that ask for a lock to be changed, in a server of many clients.
-ghost use Rattle.std.specs.Prelude.{◌≡◌, ◌∷◌, ◌++◌, [], false, true, List, ℕ, IfNone, IfSome, map};
+//! Locks in a server of many clients.
+ghost use Rattle.std.specs.Prelude.{◌≡◌, [], false, true, List, ℕ, IfNone, IfSome, map};
 ghost use Rattle.oa_decision.specs.declared.decision.LockChange.{LockChange as AChange};
 ghost use Rattle.oa_decision.specs.declared.decision.LockChange.TheVariants.{Lock as ALock, Unlock as AnUnlock};
-ghost use Rattle.oa_owners.specs.ClientLocks.{cells_of, without_one};
-ghost use Rattle.oa_owners.specs.declared.owners.ClientLock.{ClientLock as AClientLock};
+ghost use Rattle.oa_owners.specs.ClientLocks.{without_one};
+ghost use Rattle.oa_owners.specs.Counts.{name_of};
+ghost use Rattle.oa_owners.specs.Kept.{copies};
+ghost use Rattle.oa_owners.specs.ClientLocks.{ClientLock as AClientLock};
 ghost use Rattle.oa_record.specs.Replacement.{is_replacement};
-ghost use Rattle.oa_server.specs.Sharing.{IsLockTurn, TurnsFor, behind_all, behind_end, shared, taken_back, taken_one};
+ghost use Rattle.oa_server.specs.Sharing.{IsLockTurn, TurnsFor, behind_all, behind_end, shared, taken_back};
 ghost use Rattle.oa_turn.specs.Events.{HasEvent, held_of, is_done};
 ghost use Rattle.oa_turn.specs.Locking.{AsksLock};
 ghost use Rattle.oa_turn.specs.Plans.{HoldsSame};
@@ -14,14 +16,14 @@ ghost use Rattle.oa_turn.specs.Turns.{Ordinary};
 use crate::open_group::bare_reply;
 use oa_decision::LockChange;
 use oa_model::HResult;
-use oa_owners::{ClientLock, Owners};
+use oa_owners::{CellKey, ClientCells, Owners};
 use oa_record::Reply;
 use oa_record::laws::{a_replacement_is_no_request, one_request, refused_asks_nothing};
 use oa_table::CellName;
 use oa_turn::{Host, Plan};
 use std::alloc::Global;
 
-/// One turn in memory of a client's body that keeps the library.
+/// Executes one turn in memory for a client's body that does not replace the library.
 pub(crate) fn turn_for(
     alloc: Global,
     host: &mut Host,
@@ -39,7 +41,7 @@ pub(crate) fn turn_for(
     }
 }
 
-/// The same of one that asks for another library, whoever asks: no lock changes its owner.
+/// Executes one turn in memory for a request of any client to replace the library: no lock changes its owner.
 pub(crate) fn replace_for(host: &mut Host, body: &[u8]) -> Reply
     requires kind { is_replacement body.now ≡ true }
     ensures turn { (client : ℕ) (locks : List AClientLock) → TurnsFor client body.now result (shared host.old locks) (shared host.new locks) }
@@ -50,8 +52,8 @@ pub(crate) fn replace_for(host: &mut Host, body: &[u8]) -> Reply
     host.replace(body)
 }
 
-/// The turn of a client's body that asks for a lock to be changed; None, and nothing done, for every other body. A client can give back the
-/// locks that it has, and no others.
+/// Executes the turn of a client's body that changes a lock; None, with nothing done, for any other body. A client
+/// can release only its own locks.
 pub(crate) fn lock_turn(
     alloc: Global,
     host: &mut Host,
@@ -67,13 +69,14 @@ pub(crate) fn lock_turn(
         Ok(None) => None,
         Ok(Some(LockChange::Lock(name))) => Some(lock_for(alloc, host, owners, client, name, body)),
         Ok(Some(LockChange::Unlock(name))) => {
-            Some(unlock_for(alloc, host, owners, client, &name, body))
+            let cell = CellKey::new(name);
+            Some(unlock_for(alloc, host, owners, client, &cell, body))
         }
         Err(_) => Some(bare_reply(alloc, body, HResult::E_OUTOFMEMORY)),
     }
 }
 
-/// The turn of a LOCK. The place for its owner is found first, so that a lock that is told has one.
+/// Executes a LOCK. If the allocation for its owner fails, the lock is released.
 fn lock_for(
     alloc: Global,
     host: &mut Host,
@@ -87,64 +90,58 @@ fn lock_for(
     ensures { IsLockTurn client body.now result (shared host.old owners.old) (shared host.new owners.new) }
 {
     one_request();
-    if let Err(_) = owners.add(client, name) {
-        return bare_reply(alloc, body, HResult::E_OUTOFMEMORY);
-    }
     let reply = relock(alloc, host, body);
-    keep_last(owners, is_done(&reply));
-    reply
+    if !is_done(&reply) {
+        return reply;
+    }
+    let cell = CellKey::new(name);
+    let Err(cell) = owners.add(client, cell) else {
+        return reply;
+    };
+    host.take_back(cell.name());
+    bare_reply(alloc, body, HResult::E_OUTOFMEMORY)
 }
 
-/// The turn of an UNLOCK.
+/// Executes an UNLOCK.
 fn unlock_for(
     alloc: Global,
     host: &mut Host,
     owners: &mut Owners,
     client: u32,
-    name: &CellName,
+    cell: &CellKey,
     body: &[u8],
 ) -> Reply
-    requires asked { AsksLock host.old body.now (AnUnlock name.now) }
+    requires asked { AsksLock host.old body.now (AnUnlock cell.now) }
     requires plain { is_replacement body.now ≡ false }
     ensures { IsLockTurn client body.now result (shared host.old owners.old) (shared host.new owners.new) }
 {
     one_request();
-    if !owners.owns(client, name) {
+    if !owners.owns(client, cell) {
         return bare_reply(alloc, body, HResult::E_UNEXPECTED);
     }
     let reply = relock(alloc, host, body);
-    give_back(owners, is_done(&reply), client, name);
+    give_back(owners, is_done(&reply), client, cell);
     reply
 }
 
-/// Whether a reply is one with S_OK.
+/// Returns whether a reply has S_OK.
 fn is_done(reply: &Reply) -> bool
     ensures { result ≡ is_done reply.now }
 {
     reply.code().0 == 0
 }
 
-/// A lock that was not taken has no owner.
-fn keep_last(owners: &mut Owners, done: bool)
-    ensures kept { done ≡ true → owners.new ≡ owners.old }
-    ensures dropped { done ≡ false → (locks : List AClientLock) (lock : AClientLock) → owners.old ≡ locks ++ lock ∷ [] → owners.new ≡ locks }
-{
-    if !done {
-        owners.drop_last();
-    }
-}
-
-/// A lock that was given back has none either.
-fn give_back(owners: &mut Owners, done: bool, client: u32, name: &CellName)
-    ensures given { done ≡ true → owners.new ≡ without_one client name.now owners.old }
+/// Removes the owner of a lock that was released.
+fn give_back(owners: &mut Owners, done: bool, client: u32, cell: &CellKey)
+    ensures given { done ≡ true → owners.new ≡ without_one client cell.now owners.old }
     ensures kept { done ≡ false → owners.new ≡ owners.old }
 {
     if done {
-        owners.take_one(client, name);
+        owners.take_one(client, cell);
     }
 }
 
-/// The turn of a body that asks for a lock to be changed, whoever asks.
+/// Executes the turn of a body that changes a lock, for any client.
 fn relock(alloc: Global, host: &mut Host, body: &[u8]) -> Reply
     ensures turn { (change : AChange) → AsksLock host.old body.now change → Ordinary host.old body.now result host.new }
     ensures made { (change : AChange) → AsksLock host.old body.now change → HasEvent host.old body.now result [] }
@@ -153,54 +150,54 @@ fn relock(alloc: Global, host: &mut Host, body: &[u8]) -> Reply
     one_request();
     match host.plan(body) {
         Plan::Answered(reply) => reply,
-        // It is not reached: what is planned for such a body is no change of the table.
+        // This is never reached: the plan for such a body is no change of the table.
         Plan::Change(_) => bare_reply(alloc, body, HResult::E_OUTOFMEMORY),
     }
 }
 
-/// A client ends: all of its locks are taken back.
+/// Releases all locks of a client that ends.
 pub(crate) fn let_go(host: &mut Host, owners: &mut Owners, client: u32)
     ensures state { shared host.new owners.new ≡ behind_end client (shared host.old owners.old) }
     ensures same { held_of host.new ≡ held_of host.old }
     ensures bank { host.new.bank ≡ host.old.bank }
 {
-    take_back_all(host, owners.locks(), client);
-    owners.take_all(client);
+    let cells = owners.take_all(client);
+    take_back_cells(host, &cells);
 }
 
-/// Takes back the locks of this client among these.
-fn take_back_all(host: &mut Host, locks: &[ClientLock], client: u32)
-    ensures { host.new ≡ taken_back (cells_of client locks.now) host.old }
+/// Releases a client's locks.
+fn take_back_cells(host: &mut Host, cells: &ClientCells)
+    ensures { host.new ≡ taken_back cells.now host.old }
 {
-    'locks: for lock in locks {
-        take_back_own(host, lock, client);
+    'cells: for (cell, count) in cells.counts() {
+        take_back_times(host, cell.name(), *count);
     }
 }
 
-/// Takes a lock back where it is this client's.
-fn take_back_own(host: &mut Host, lock: &ClientLock, client: u32)
-    ensures { host.new ≡ taken_one client lock.now host.old }
+/// Releases `count` locks of a cell.
+fn take_back_times(host: &mut Host, name: &CellName, count: u32)
+    ensures { host.new ≡ taken_back (copies count name.now []) host.old }
 {
-    if lock.client == client {
-        host.take_back(&lock.name);
+    'times: for _ in 0..count {
+        host.take_back(name);
     }
 }
 
-/// A session ends: all locks that clients still have are taken back.
+/// Releases all locks that clients still have when a session ends.
 pub(crate) fn let_all_go(alloc: Global, host: &mut Host, owners: &mut Owners)
     ensures state { shared host.new owners.new ≡ behind_all (shared host.old owners.old) }
     ensures none { owners.new ≡ [] }
     ensures bank { host.new.bank ≡ host.old.bank }
 {
-    take_back_each(host, owners.locks());
+    take_back_each(host, owners);
     *owners = Owners::new(alloc);
 }
 
-/// Takes these locks back.
-fn take_back_each(host: &mut Host, locks: &[ClientLock])
-    ensures { host.new ≡ taken_back (map (λ lock. lock.name) locks.now) host.old }
+/// Releases the locks of all clients.
+fn take_back_each(host: &mut Host, owners: &Owners)
+    ensures { host.new ≡ taken_back (map name_of owners.now) host.old }
 {
-    'locks: for lock in locks {
-        host.take_back(&lock.name);
+    'clients: for (_client, cells) in owners.clients() {
+        take_back_cells(host, cells);
     }
 }

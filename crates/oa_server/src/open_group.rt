@@ -19,12 +19,12 @@ pub(crate) struct OpenGroup {
     pub batch: Batch,
     /// The replies.
     pub replies: Vec<Reply>,
-    /// How many requests a group has at most.
+    /// The greatest number of requests of a group.
     pub size: usize,
 }
 
 impl OpenGroup {
-    /// A group without a request, with the places of a group's replies.
+    /// Makes an empty group, with capacity for its replies.
     pub(crate) fn new(alloc: Global, size: usize) -> Result<OpenGroup, AllocError>
         ensures replies { IfOk result (λ open_group. open_group.replies.items ≡ []) }
         ensures places { IfOk result (λ open_group. size ≤ vec_capacity open_group.replies) }
@@ -39,7 +39,7 @@ impl OpenGroup {
         })
     }
 
-    /// A group that takes no requests. Takes no memory.
+    /// Makes a group that accepts no requests. Allocates nothing.
     pub(crate) fn none(alloc: Global) -> OpenGroup
         ensures replies { result.replies.items ≡ [] }
         ensures batch { result.batch ≡ [] }
@@ -52,7 +52,7 @@ impl OpenGroup {
         }
     }
 
-    /// Whether the group is whole.
+    /// Returns whether the group is full.
     pub(crate) fn is_full(&self) -> bool
         ensures fills { result ≡ fills self.now.size (length self.now.replies.items) (length self.now.batch) }
         ensures few { result ≡ false → length self.now.batch < group_bytes }
@@ -62,14 +62,14 @@ impl OpenGroup {
     }
 }
 
-/// The reply to a body that tells a code alone. Takes no memory.
+/// Returns the reply to a body with only a code. Allocates nothing.
 pub(crate) fn bare_reply(alloc: Global, body: &[u8], code: HResult) -> Reply
     ensures { result ≡ refusal (tag_at body.now) code None }
 {
     Reply::bare(alloc, tag_of(body), code, None)
 }
 
-/// Takes back the replies of a group that could not be committed. Takes no memory.
+/// Turns the replies of a group that could not be committed into faults. Allocates nothing.
 pub(crate) fn withdraw(alloc: Global, replies: &mut Vec<Reply>)
     ensures items { replies.new.items ≡ map withdrawn replies.old.items }
     ensures len { length replies.new.items ≡ length replies.old.items }
@@ -78,7 +78,7 @@ pub(crate) fn withdraw(alloc: Global, replies: &mut Vec<Reply>)
     take_back(alloc, replies);
 }
 
-/// Puts in the place of each reply the one that takes it back.
+/// Replaces each reply by the fault.
 fn take_back(alloc: Global, replies: &mut [Reply])
     ensures { replies.new ≡ map withdrawn replies.old }
 {

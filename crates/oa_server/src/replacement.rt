@@ -16,9 +16,9 @@ use oa_store::{Store, WriteFault};
 use oa_turn::{Host, ReplacementPlan};
 use std::alloc::Global;
 
-/// The turn of a body of opcode 12 over a store, where no group is open: a group of its own. The store goes on in its other bank with the
-/// other library; where the body is refused, the device is not called. At `Err` the device has failed, and the turn is in doubt: the state
-/// is the one after it.
+/// Executes a body of opcode 12 over a store as a group of its own, while no group is open. The store switches to its
+/// other bank with the new library; if the body is refused, the device is not called. Err: the device has failed, and
+/// the store may have either library; the state in memory is the one after the turn.
 pub(crate) fn replace_over<D: Disk>(
     alloc: Global,
     host: &mut Host,
@@ -30,7 +30,7 @@ pub(crate) fn replace_over<D: Disk>(
     ensures turn { IfOk result (λ reply. Replacement host.old body.now reply host.new) }
     ensures failed { OnErr result ((reply : ReplyValue) × Replacement host.old body.now reply host.new × (is_done reply ≡ true)) }
     ensures replaced { ReplacesInStore store.old store.new host.old host.new }
-    // A body that is refused makes no call of the device.
+    // (a refused body makes no call of the device)
     ensures quiet { IfOk result (λ reply. is_done reply ≡ false → store.new.disk ≡ store.old.disk) }
     ensures going { OnOk result (store.new.stopped ≡ false) }
     ensures stops { OnErr result (store.new.stopped ≡ true) }

@@ -1,4 +1,4 @@
-//! The server: a library and a table in memory, and where the table is kept.
+//! The server: a library and a table in memory, and the storage of the table.
 ghost use Rattle.std.specs.Prelude.{◌≡◌, ◌≤◌, map, IfOk, OnErr};
 ghost use Rattle.oa_model.specs.Limits.{max_group};
 ghost use Rattle.oa_canonical.specs.Canonical.{canonical};
@@ -20,14 +20,14 @@ use oa_turn::Host;
 use oa_typelib::Library;
 use std::alloc::{AllocError, Global};
 
-/// An automation object server: in memory, or over a disk that keeps its table.
+/// An automation object server: in memory, or over a store.
 #[derive(Drop)]
 pub struct Server<D: Disk> {
     pub(crate) engine: Engine<D>,
 }
 
 impl Server<NoDisk> {
-    /// A server of this library in memory, with no objects. It makes no call of a disk.
+    /// Makes a server of this library in memory, with no objects. It makes no call of a disk.
     pub fn in_memory(alloc: Global, library: Library) -> Server<NoDisk>
         ensures state { result.engine.host ≡ record { bank = default_bank_bytes; library = library; table = first_table } }
         ensures memory { InMemory result.engine.storage }
@@ -40,7 +40,7 @@ impl Server<NoDisk> {
 }
 
 impl<D: Disk> Server<D> {
-    /// A server of this library over a store of its text, with the table that was read from it.
+    /// Makes a server of this library over a store with its text, and with the table that was read from it.
     pub(crate) fn over_store(
         alloc: Global,
         library: Library,
@@ -58,14 +58,14 @@ impl<D: Disk> Server<D> {
         }
     }
 
-    /// The disk as it is between two calls: its clock tells when the one before has ended. This makes no call.
+    /// Returns the disk between two calls, for example to read its clock. Makes no call of it.
     pub fn disk(&self) -> &D
         ensures { result.now ≡ disk_of self.now.engine.storage }
     {
         self.engine.storage.disk()
     }
 
-    /// The disk as it is. This makes no call.
+    /// Closes it and returns the disk. Makes no call of it.
     pub fn into_disk(self) -> D
         ensures { result ≡ disk_of self.engine.storage }
     {
@@ -73,8 +73,8 @@ impl<D: Disk> Server<D> {
         engine.into_disk()
     }
 
-    /// Answers one body: over a store a group of one, which is committed before this returns. Want of memory is told in the reply, which
-    /// then leaves the server as it was.
+    /// Answers one request. Over a store it is a group of one, which is committed before this returns. If an
+    /// allocation fails, the reply is E_OUTOFMEMORY, and nothing has changed.
     pub fn answer(&mut self, body: &[u8]) -> Reply
         ensures answers { AnswersOne self.old.engine.storage self.new.engine.storage self.old.engine.host body.now result self.new.engine.host }
         ensures memory { InMemory self.old.engine.storage → Turn self.old.engine.host body.now result self.new.engine.host }
@@ -87,8 +87,9 @@ impl<D: Disk> Server<D> {
         )
     }
 
-    /// Answers bodies in turn. `group` is from 1 to 1,024: the changes of so many requests are committed together, and their replies stand
-    /// behind that. In memory it makes no difference. Err only where memory is refused before anything was done.
+    /// Answers requests one after another. Over a store, the changes of up to `group` requests (1 to 1,024) are
+    /// committed together, before their replies; in memory `group` has no effect. Err: an allocation failed before
+    /// anything was done.
     pub fn run(&mut self, bodies: &[Vec<u8>], group: usize) -> Result<Vec<Reply>, AllocError>
         requires positive { 1 ≤ group }
         requires small { group ≤ max_group }

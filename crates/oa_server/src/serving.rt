@@ -23,8 +23,8 @@ use oa_record::{Reply, is_replacement};
 use oa_stream::{Ahead, Sink, Source, Unwritten};
 use std::alloc::AllocError;
 
-/// In memory each body has its reply at once. Over a store its reply is held until its group ends, and then all replies of the group are
-/// written.
+/// In memory each reply is written at once. Over a store it is held until its group ends, and then all replies of the
+/// group are written.
 impl<D: Disk> Responder for Engine<D> {
     ghost ready = { TakesBodies };
 
@@ -54,12 +54,12 @@ impl<D: Disk> Responder for Engine<D> {
                     self.alloc,
                     &mut self.host,
                     store,
-                    &mut self.open_group,
+                    &mut self.desk.open_group,
                     body,
                 ) {
                     return Ok(());
                 }
-                put_held(framing, writer, &mut self.open_group.replies)
+                put_held(framing, writer, &mut self.desk.open_group.replies)
             }
         }
     }
@@ -80,7 +80,7 @@ impl<D: Disk> Responder for Engine<D> {
                     self.alloc,
                     &mut self.host,
                     store,
-                    &mut self.open_group,
+                    &mut self.desk.open_group,
                     body,
                 );
                 put_reply(framing, writer, &reply.head(), reply.body())
@@ -92,8 +92,8 @@ impl<D: Disk> Responder for Engine<D> {
         match &mut self.storage {
             Storage::Memory(_) => Ok(()),
             Storage::Disk(store) => {
-                finish(self.alloc, &self.host, store, &mut self.open_group);
-                put_held(framing, writer, &mut self.open_group.replies)
+                finish(self.alloc, &self.host, store, &mut self.desk.open_group);
+                put_held(framing, writer, &mut self.desk.open_group.replies)
             }
         }
     }
@@ -102,14 +102,14 @@ impl<D: Disk> Responder for Engine<D> {
         match &mut self.storage {
             Storage::Memory(_) => {}
             Storage::Disk(store) => {
-                finish(self.alloc, &self.host, store, &mut self.open_group);
-                self.open_group.replies.clear();
+                finish(self.alloc, &self.host, store, &mut self.desk.open_group);
+                self.desk.open_group.replies.clear();
             }
         }
     }
 }
 
-/// Writes the replies that are held, and lets them go.
+/// Writes the held replies, and drops them.
 fn put_held<W: Sink>(
     framing: Framing,
     writer: &mut W,
@@ -142,12 +142,13 @@ fn put_replies<W: Sink>(
 }
 
 impl<D: Disk> Server<D> {
-    /// Answers the bodies of a reader, a line of hexadecimal digits each, by lines on a writer. An empty line ends the session; a line has
-    /// at most 8,388,608 characters, and a longer one ends it as TooLong. `group` is from 1 to 1,024: over a store the changes of so many
-    /// requests are committed together, and their replies are written behind that; REPLACE LIBRARY ends the open group, and is one of its
-    /// own. In memory each reply is written before the next line is read. At the end the open group is committed and its replies are
-    /// written. All replies that are written are handed on before each wait for more input. Err only where memory is refused before anything
-    /// was read.
+    /// Serves one client over lines of hexadecimal digits: one line for each request and for each reply. An empty
+    /// line ends the session as Closed, a line above 8,388,608 characters as TooLong.
+    ///
+    /// Over a store, the changes of up to `group` requests (1 to 1,024) are committed together, and their replies are
+    /// written after that; REPLACE LIBRARY ends the open group, and is a group of its own. In memory each reply is
+    /// written before the next line is read. At the end the open group is committed and its replies are written. The
+    /// writer is flushed before each wait for more input. Err: an allocation failed before anything was read.
     pub fn serve_hex<R: Source + Drop, W: Sink>(
         &mut self,
         reader: &mut Ahead<R>,
@@ -168,8 +169,9 @@ impl<D: Disk> Server<D> {
         session_with(&mut self.engine, Framing::HexLines, reader, writer, group)
     }
 
-    /// The same of records: each body and each reply stands behind its length in bytes, a u32, little-endian. That of a body is at most
-    /// 4,194,304; a longer one ends the session as TooLong, and a length of 0 as Closed.
+    /// Serves one client over records: each request and each reply follows its length in bytes, a little-endian u32.
+    /// The length of a request is at most 4,194,304; a greater one ends the session as TooLong, and 0 as Closed.
+    /// Groups and flushes are as in `serve_hex`. Err: an allocation failed before anything was read.
     pub fn serve<R: Source + Drop, W: Sink>(
         &mut self,
         reader: &mut Ahead<R>,
@@ -191,8 +193,8 @@ impl<D: Disk> Server<D> {
     }
 }
 
-/// A session in either framing, with an open group that has no request yet, and room for the longest line and the longest body. What memory
-/// these take is given back at the end.
+/// Serves one client in either framing. It allocates an open group, and buffers for the longest line and the longest
+/// body, and frees them at the end.
 fn session_with<D: Disk, R: Source + Drop, W: Sink>(
     engine: &mut Engine<D>,
     framing: Framing,
@@ -206,7 +208,7 @@ fn session_with<D: Disk, R: Source + Drop, W: Sink>(
         (W.out writer.old) (W.out writer.new) group engine.old engine.new) }
     ensures memory { InMemory engine.old.storage → IfOk result (HasTalkedInMemory (frames framing) (ahead R.input reader.old)
         (ahead R.input reader.new) (W.out writer.old) (W.out writer.new) engine.old.host engine.new.host) }
-    ensures open_group { OnOk result (engine.new.open_group.size ≡ 0) }
+    ensures open_group { OnOk result (engine.new.desk.open_group.size ≡ 0) }
     ensures input { OnErr result (ahead R.input reader.new ≡ ahead R.input reader.old) }
     ensures output { OnErr result (W.out writer.new ≡ W.out writer.old) }
     ensures state { OnErr result (engine.new ≡ engine.old) }
@@ -215,13 +217,14 @@ fn session_with<D: Disk, R: Source + Drop, W: Sink>(
     let mut line = Vec::with_capacity(alloc, MAX_LINE_CHARACTERS as usize + 1)?;
     let mut body = Vec::with_capacity(alloc, MAX_REQUEST_BYTES as usize)?;
     let open_group = OpenGroup::new(alloc, group)?;
-    engine.open_group = open_group;
+    engine.desk.open_group = open_group;
     let served = talk(engine, framing, reader, writer, &mut line, &mut body);
-    engine.open_group = OpenGroup::none(alloc);
+    engine.desk.open_group = OpenGroup::none(alloc);
     Ok(served)
 }
 
-/// The same with all its memory: a group without a request, which has the places of a group's replies, and room for a line and a body.
+/// Serves one client with all memory allocated: an empty group with capacity for its replies, and buffers for a line
+/// and a body.
 fn talk<D: Disk, R: Source + Drop, W: Sink>(
     engine: &mut Engine<D>,
     framing: Framing,
@@ -230,14 +233,14 @@ fn talk<D: Disk, R: Source + Drop, W: Sink>(
     line: &mut Vec<u8>,
     body: &mut Vec<u8>,
 ) -> Served
-    requires positive { 1 ≤ engine.old.open_group.size }
-    requires places { engine.old.open_group.size ≤ vec_capacity engine.old.open_group.replies }
-    requires replies { engine.old.open_group.replies.items ≡ [] }
-    requires batch { engine.old.open_group.batch ≡ [] }
+    requires positive { 1 ≤ engine.old.desk.open_group.size }
+    requires places { engine.old.desk.open_group.size ≤ vec_capacity engine.old.desk.open_group.replies }
+    requires replies { engine.old.desk.open_group.replies.items ≡ [] }
+    requires batch { engine.old.desk.open_group.batch ≡ [] }
     requires buffers { HoldLongest (vec_capacity line.now) (vec_capacity body.now) }
     requires unbroken { AreUnbroken (ahead R.input reader.old) (W.out writer.old) }
     ensures session { HasTalked (frames framing) (ahead R.input reader.old) (ahead R.input reader.new)
-        (W.out writer.old) (W.out writer.new) engine.old.open_group.size engine.old engine.new result }
+        (W.out writer.old) (W.out writer.new) engine.old.desk.open_group.size engine.old engine.new result }
     ensures memory { InMemory engine.old.storage → HasTalkedInMemory (frames framing) (ahead R.input reader.old) (ahead R.input reader.new)
         (W.out writer.old) (W.out writer.new) engine.old.host engine.new.host result }
 {

@@ -1,28 +1,35 @@
-//! What a server of many clients answers them.
-ghost use Rattle.std.specs.Prelude.{◌≡◌, ◌<◌, [], false, get_or, length};
+//! Sessions of many clients over streams.
+ghost use Rattle.std.specs.Prelude.{◌≡◌, ◌<◌, ◌≤◌, [], IfOk, OnErr, OnOk, false, get_or, length};
+ghost use Rattle.oa_frame.specs.Beginnings.{AreUnbroken};
 ghost use Rattle.oa_frame.specs.Sessions.{is_answered};
+ghost use Rattle.oa_model.specs.Limits.{max_group};
 ghost use Rattle.oa_record.specs.Replacement.{is_replacement};
 ghost use Rattle.oa_server.specs.Desks.{ClearsDesk, all_frames, frames_of, told_at, told_to, told_with};
+ghost use Rattle.oa_server.specs.SharedSessions.{HasServedClients};
 ghost use Rattle.oa_server.specs.SharedTalks.{TakesAsked, asked_written};
 ghost use Rattle.oa_server.specs.Sharing.ClientReply.{Leaves as ALeave};
 ghost use Rattle.oa_share.specs.Outgoing.{spelled_frames};
+ghost use Rattle.oa_stream.specs.Ahead.{ahead};
 ghost use Rattle.oa_stream.specs.Sink.{Puts};
 
+use crate::Server;
 use crate::desk::{Asker, Desk, ask_alone, ask_over, end_over, finish_over};
-use crate::locking::{let_go, replace_for, turn_for};
-use crate::shared_engine::SharedEngine;
+use crate::engine::Engine;
+use crate::locking::{let_all_go, let_go, replace_for, turn_for};
+use crate::open_group::OpenGroup;
 use crate::storage::Storage;
 use oa_disk::Disk;
 use oa_frame::End;
 use oa_model::HResult;
+use oa_owners::Owners;
 use oa_record::{Reply, is_replacement};
-use oa_share::{SharedResponder, put_last_of, put_reply_of};
-use oa_stream::{Sink, Unwritten};
-use std::alloc::Global;
+use oa_share::{SessionEnd, SharedResponder, put_last_of, put_reply_of, serve_clients};
+use oa_stream::{Ahead, Sink, Source, Unwritten};
+use std::alloc::{AllocError, Global};
 
-/// In memory each body has its reply at once. Over a store its reply is held until its group ends, and then all replies of the group are
-/// written, each to its client.
-impl<D: Disk> SharedResponder for SharedEngine<D> {
+/// In memory each reply is written at once. Over a store it is held until its group ends, and then all replies of the
+/// group are written, each to its client.
+impl<D: Disk> SharedResponder for Engine<D> {
     ghost ready = { TakesAsked };
 
     ghost turn = { asked_written };
@@ -132,7 +139,7 @@ impl<D: Disk> SharedResponder for SharedEngine<D> {
     }
 }
 
-/// Writes what is held, each reply to its client, and lets it go.
+/// Writes the held replies, each to its client, and drops them.
 fn put_told<W: Sink>(alloc: Global, writer: &mut W, desk: &mut Desk) -> Result<(), Unwritten>
     requires unbroken { (W.out writer.old).broken ≡ false }
     requires each { length desk.old.askers.items ≡ length desk.old.open_group.replies.items }
@@ -144,7 +151,7 @@ fn put_told<W: Sink>(alloc: Global, writer: &mut W, desk: &mut Desk) -> Result<(
     put
 }
 
-/// Lets go of what is held.
+/// Drops the held replies.
 fn clear(desk: &mut Desk)
     ensures { ClearsDesk desk.old desk.new }
 {
@@ -170,7 +177,7 @@ fn put_all<W: Sink>(
     Ok(())
 }
 
-/// Whose a reply is.
+/// Returns the client of a reply.
 fn asker_of(askers: &[Asker], i: usize) -> Asker
     requires { i < length askers.now }
     ensures { get_or askers.now i result ≡ result }
@@ -178,7 +185,7 @@ fn asker_of(askers: &[Asker], i: usize) -> Asker
     askers[i]
 }
 
-/// Writes what one client is told.
+/// Writes one client's reply or end.
 fn put_one<W: Sink>(
     alloc: Global,
     writer: &mut W,
@@ -194,7 +201,8 @@ fn put_one<W: Sink>(
     }
 }
 
-/// Writes that a client has ended: behind a record that was cut or too long bad stub data, with tag 0, and then that it has had its last.
+/// Writes the end of a client: for a record that was cut or too long the reply bad stub data, with tag 0, and then
+/// the frame that ends its replies.
 fn put_end<W: Sink>(alloc: Global, writer: &mut W, client: u32, why: End) -> Result<(), Unwritten>
     requires { (W.out writer.old).broken ≡ false }
     ensures { Puts result (W.out writer.old) (W.out writer.new) (spelled_frames (frames_of (ALeave client why))) }
@@ -207,12 +215,51 @@ fn put_end<W: Sink>(alloc: Global, writer: &mut W, client: u32, why: End) -> Res
     put_last_of(writer, client)
 }
 
-/// Whether an end is answered.
+/// Returns whether an end has a reply.
 fn is_answered(why: End) -> bool
     ensures { result ≡ is_answered why }
 {
     match why {
         End::Cut | End::TooLong => true,
         _ => false,
+    }
+}
+
+impl<D: Disk> Server<D> {
+    /// Serves many clients over frames: reads their requests from a reader, and writes frames of replies to a writer.
+    ///
+    /// Over a store, the changes of up to `group` requests (1 to 1,024) of any clients are committed together, and
+    /// their replies are written after that, each to its client. The end of a client counts as a request. A *now*
+    /// ends the open group; so does REPLACE LIBRARY, which is a group of its own. In memory each reply is written at
+    /// once.
+    ///
+    /// At the start no client has a lock: locks of before belong to nobody. The end of a client releases its locks,
+    /// and the end of the session those of all present clients. Err: an allocation failed before anything was read.
+    pub fn serve_shared<R: Source + Drop, W: Sink>(
+        &mut self,
+        reader: &mut Ahead<R>,
+        writer: &mut W,
+        group: usize,
+    ) -> Result<SessionEnd, AllocError>
+        requires positive { 1 ≤ group }
+        requires small { group ≤ max_group }
+        requires unbroken { AreUnbroken (ahead R.input reader.old) (W.out writer.old) }
+        ensures session { IfOk result (HasServedClients (ahead R.input reader.old) (ahead R.input reader.new) (W.out writer.old) (W.out writer.new) group
+            self.old.engine self.new.engine) }
+        ensures unlocked { OnOk result (self.new.engine.desk.owners ≡ []) }
+        ensures input { OnErr result (ahead R.input reader.new ≡ ahead R.input reader.old) }
+        ensures output { OnErr result (W.out writer.new ≡ W.out writer.old) }
+        ensures state { OnErr result (self.new ≡ self.old) }
+    {
+        let alloc = self.engine.alloc;
+        let open_group = OpenGroup::new(alloc, group)?;
+        let askers = Vec::with_capacity(alloc, group)?;
+        self.engine.desk.open_group = open_group;
+        self.engine.desk.askers = askers;
+        self.engine.desk.owners = Owners::new(alloc);
+        let ended = serve_clients(&mut self.engine, alloc, reader, writer);
+        let engine = &mut self.engine;
+        let_all_go(alloc, &mut engine.host, &mut engine.desk.owners);
+        Ok(ended)
     }
 }

@@ -1,4 +1,4 @@
-//! Starting a server over a store: its table has to be one of the library, and small enough for a bank.
+//! Starting a server over a store: its table must fit the library and a bank.
 ghost use Rattle.std.specs.Prelude.{◌≡◌, ◌↔◌, ◌≤◌, IsTrue, length, IfOk, IfErr};
 ghost use Rattle.oa_model.specs.Limits.{max_library_bytes};
 ghost use Rattle.oa_canonical.specs.Canonical.{canonical};
@@ -17,7 +17,7 @@ use oa_table::Table;
 use oa_typelib::Library;
 use std::alloc::Global;
 
-/// The library's text, which is no longer than a library text may be.
+/// Returns the library's text, which is at most as long as allowed.
 pub(crate) fn text_of(library: &Library) -> &[u8]
     ensures text { result.now ≡ canonical library.now }
     ensures short { length result.now ≤ max_library_bytes }
@@ -25,15 +25,15 @@ pub(crate) fn text_of(library: &Library) -> &[u8]
     library.text()
 }
 
-/// Whether a server of this library can begin with this table over banks of this size.
+/// Returns whether a server of this library may begin with this table over banks of this size.
 fn can_serve(bank: u32, library: &Library, table: &Table) -> bool
     ensures { IsTrue result ↔ CanServe bank library.now table.now }
 {
     fits(library, table) && fits_bank(bank, table)
 }
 
-/// Opens the store of this library that is on the disk. It writes nothing, and begins with a sync. A refusal hands the disk back; it is
-/// Damaged(0) also where no server of the library can begin with the table over banks of that size.
+/// Opens the store of this library on the disk. It writes nothing, and begins with a sync. An error returns the disk,
+/// too; it is Damaged(0) also if no server of the library may begin with the table over banks of that size.
 fn open_store<D: Disk>(
     alloc: Global,
     disk: D,
@@ -54,13 +54,13 @@ fn open_store<D: Disk>(
 }
 
 impl<D: Disk> Server<D> {
-    /// Opens the store of this library that is on the disk, and serves its table. It writes nothing, and begins with a sync. Locks end with
-    /// a session: the table has none.
+    /// Recovery: opens the store of this library on the disk, and serves its table. It writes nothing, and begins
+    /// with a sync. Locks end with a session: the table has none.
     ///
-    /// A refusal hands the disk back. It is that of `Store::open`, which looks at the size and the first byte (NotAStore), the head of the
-    /// bank (Damaged), its format (OldFormat), its library (LibraryDiffers), its snapshot and its groups (Damaged), and is Device or Memory
-    /// wherever a call of the device fails or memory is refused; and then Damaged(0) where the library cannot have the table, or a bank has
-    /// no room for its image.
+    /// An error returns the disk, too. It is the first error of `Store::open`, which checks the size and the first
+    /// byte (NotAStore), the head of the bank (Damaged), its format (OldFormat), its library (LibraryDiffers), its
+    /// snapshot and its groups (Damaged); Device or Memory if a call of the device or an allocation fails; and last
+    /// Damaged(0) if the table does not fit the library, or its image does not fit a bank.
     pub fn open(alloc: Global, disk: D, library: Library) -> Result<Server<D>, (D, OpenFault)>
         ensures library { IfOk result (λ server. server.engine.host.library ≡ library) }
         ensures bank { IfOk result (λ server. server.engine.host.bank ≡ bank_of server.engine.storage) }

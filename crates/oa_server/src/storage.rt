@@ -1,21 +1,21 @@
-//! Where a server keeps its table.
+//! The storage of a server's table.
 ghost use Rattle.std.specs.Prelude.{◌≡◌};
 ghost use Rattle.oa_server.specs.Storages.{disk_of};
 
 use oa_disk::Disk;
 use oa_store::Store;
 
-/// Where a server keeps its table beside its memory.
+/// The storage of a server's table, besides its memory.
 #[derive(Drop)]
 pub(crate) enum Storage<D: Disk> {
-    /// Nowhere: no call of this disk is made.
+    /// None: no call of this disk is made.
     Memory(D),
-    /// In a store, which each group of changes is committed to.
+    /// A store, to which each group of changes is committed.
     Disk(Store<D>),
 }
 
 impl<D: Disk> Storage<D> {
-    /// The disk as it is, while it is kept. This makes no call.
+    /// Returns the disk. Makes no call of it.
     pub(crate) fn disk(&self) -> &D
         ensures { result.now ≡ disk_of self.now }
     {
@@ -25,7 +25,7 @@ impl<D: Disk> Storage<D> {
         }
     }
 
-    /// The disk as it is. This makes no call.
+    /// Closes it and returns the disk. Makes no call of it.
     pub(crate) fn into_disk(self) -> D
         ensures { result ≡ disk_of self }
     {

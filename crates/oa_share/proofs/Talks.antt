@@ -23,8 +23,8 @@ use Rattle.oa_share.specs.Shared.{IsClients, Rises, SharedState, StopsAtUnknown,
 use Rattle.oa_share.specs.declared.streams.Arrival.{Arrival}
 use Rattle.oa_share.specs.declared.streams.Arrival.TheVariants as things
 use Rattle.oa_share.specs.Talking.{AllTurned, AnswersAsked, AnswersEnds, AnswersSingle, ClosesAll, EndsNext, FailsToTell, MovesOn, HasTold, IsEndOf, IsOver, IsUnwritten, LosesWriter, ServesClients, TalksOn, TellsAll, ends_at, ends_in, input_end, one_ahead, parted, parting}
-use Rattle.oa_share.specs.declared.serving.Loss.{Loss}
-use Rattle.oa_share.specs.declared.serving.Loss.TheVariants as loss
+use Rattle.oa_frame.specs.declared.session.Loss.{Loss}
+use Rattle.oa_frame.specs.declared.session.Loss.TheVariants as loss
 use Rattle.oa_share.specs.declared.session_end.SessionEnd.{SessionEnd}
 use Rattle.oa_share.specs.declared.session_end.SessionEnd.TheVariants as over
 use Rattle.oa_share.proofs.Taking.{asks_then, nothing_asked, stops_none, stops_then}
@@ -185,6 +185,7 @@ module _ {S : Type 0} (alone : List ℕ → Bool) (turn : SharedTurn S) where
     some = one_taken (length bytes) some;
     paced = λ s. let few = few_ahead front in omega (arith, few, some);
     well = t.fault ∙ well;
+    quiet = λ called. absurd (omega (arith, called));
   }
 
   is_lost : (from to : SharedState) (i j : Input) (o p : Output) (old new : S) (bytes : List ℕ) (asked : List (Owned Brought)) → i.faulted ≡ false → Consumes i.left j.left bytes → j.calls ≡ i.calls → j.faulted ≡ i.faulted → TakesApart from bytes asked to
@@ -253,9 +254,10 @@ module _ {S : Type 0} (alone : List ℕ → Bool) (turn : SharedTurn S) where
   brings_some m i j front (inl e) w s = some_ahead front (subst (λ (x : More). ahead.Brings x j.left front) e w.brings)
   brings_some m i j front (inr e) w s = absurd (subst ahead.IsSure e (w.on s))
 
-  pub goes_waited : (m : More) (from : SharedState) (front front' : List ℕ) (i j : Input) (o p : Output) (state : S) → front ≡ [] → (m ≡ more.Some) ⊎ (m ≡ more.Again) → Writes o p [] → Waits m i j front'
+  pub goes_waited : (m : More) (from : SharedState) (front front' : List ℕ) (i j : Input) (o p : Output) (state : S) → front ≡ [] → (m ≡ more.Some) ⊎ (m ≡ more.Again) → Writes o p [] → IsHandedOn p → Waits m i j front'
       → MovesOn alone turn from from front front' i j o p state state
-  goes_waited m from front front' i j o p state none is w waits = record {
+  goes_waited m from front front' i j o p state none is w on waits = record {
+    quiet = λ _. on;
     talks = waited m from i j o p state front' w waits;
     some = one_call;
     paced = λ s. let one = brings_some m i j front' is waits s in let empty = ap one_ahead none in omega (arith, one, empty);

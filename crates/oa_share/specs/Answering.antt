@@ -1,4 +1,4 @@
--- What answers many clients. (This project's choice.)
+-- Servers of many clients. (This project's choice.)
 use Rattle.std.specs.Prelude.{ℕ, List, Result}
 use Rattle.oa_stream.specs.Sink.{Output, Puts}
 use Rattle.oa_stream.specs.declared.sink.Unwritten.{Unwritten}
@@ -6,22 +6,22 @@ use Rattle.oa_share.specs.Marks.{Owned, Now}
 use Rattle.oa_share.specs.Outgoing.{spelled_frames}
 use Rattle.oa_share.specs.Readers.{Brought}
 
--- a turn: the state before, what is asked, what is handed out then (nothing, or much, to any clients), the state after
+-- a turn: the state before, what is asked, what is sent then (any number of replies, to any clients), the state after
 abbrev pub SharedTurn : Type 0 → Type 1
 SharedTurn S = S → Owned Brought → List (ℕ × List ℕ) → S → Type 0
 
--- one turn was made, and what it handed out was put, or the writer failed in it
+-- one turn was made, and what it sends was put, or the writer failed in it
 pub record AnswersClient {S : Type 0} (turn : SharedTurn S) (result : Result (Unit {0}) Unwritten) (ask : Owned Brought)
     (out out' : Output) (old new : S) : Type 0 where
   pub told : List (ℕ × List ℕ)
   pub turned : turn old ask told new
   pub put : Puts result out out' (spelled_frames told)
 
--- all that was held is committed, and nobody gets it
+-- held requests are committed, and their replies are lost
 pub record GivesUp {S : Type 0} (turn : SharedTurn S) (old new : S) : Type 0 where
   pub told : List (ℕ × List ℕ)
   pub turned : turn old Now told new
 
--- a state in which nothing is held: *now* was made last
+-- a state in which nothing is held: the last turn was a *now*
 abbrev pub IsBehindNow : {S : Type 0} → SharedTurn S → S → Type 0
 IsBehindNow {S} turn state = (before : S) × (told : List (ℕ × List ℕ)) × turn before Now told state

@@ -1,19 +1,19 @@
--- The frames of a shared session: whose bytes stand where in one stream of bytes. (This project's choice.)
+-- The frames of a session of many clients: which bytes of the stream are whose. (This project's choice.)
 use Rattle.std.specs.Prelude.{ℕ, ◌<◌, ◌-◌, ◌==◌, nat_lt, if◌then◌else◌, List, [], ◌∷◌, ◌++◌, length, take, drop, ⊤}
 use Rattle.std.specs.Int.{w32, from_le_bytes, to_le_bytes}
 use Rattle.oa_share.specs.Marks.{StreamPiece, Byte, Last, Owned, Of, Now}
 use Rattle.oa_share.specs.declared.frame.FrameHead.{FrameHead}
 use Rattle.oa_share.specs.declared.frame.FrameHead.TheVariants as head
 
--- the number that is no client's: it stands for all
+-- the number for all clients, which no client has
 abbrev pub all_clients : ℕ
 all_clients = 4294967295
 
--- bytes of a frame behind its head
+-- the greatest number of bytes of a frame after its head
 abbrev pub max_frame_bytes : ℕ
 max_frame_bytes = 1048576
 
--- what a client's number and a length say
+-- the meaning of a client's number and a length
 abbrev pub headed : ℕ → ℕ → FrameHead
 headed client n = if client == all_clients then (if n == 0 then head.Now else head.Unknown)
     else if n == 0 then head.Last client
@@ -27,21 +27,21 @@ frame_head_of bytes = headed (from_le_bytes w32 (take 4 bytes)) (from_le_bytes w
 abbrev pub frame_head : ℕ → ℕ → List ℕ
 frame_head client n = to_le_bytes w32 client ++ to_le_bytes w32 n
 
--- where the reading of frames stands: in a head, of which these bytes came; among a client's bytes, of which so many
--- are still to come, one at least; behind a head that says nothing, where all is passed over
+-- a place in the reading of frames: in a head, of which these bytes came; within a client's bytes, of which this
+-- many, at least one, are still to come; after an invalid head, where everything is ignored
 pub data FramePlace : Type 0 where
   InHead : List ℕ → FramePlace
   Within : ℕ → ℕ → FramePlace
   Broken : FramePlace
 
--- behind a head
+-- after a head
 abbrev pub begun : FrameHead → List (Owned StreamPiece) × FramePlace
 begun (head.Bytes client n) = ([], Within client n)
 begun (head.Last client) = (Of client Last ∷ [], InHead [])
 begun head.Now = (Now ∷ [], InHead [])
 begun head.Unknown = ([], Broken)
 
--- behind one of a client's bytes
+-- after one of a client's bytes
 abbrev pub within : ℕ → ℕ → FramePlace
 within client n = if nat_lt 1 n then Within client (n - 1) else InHead []
 
@@ -49,13 +49,13 @@ within client n = if nat_lt 1 n then Within client (n - 1) else InHead []
 abbrev pub heading : List ℕ → List (Owned StreamPiece) × FramePlace
 heading bytes = if nat_lt (length bytes) 8 then ([], InHead bytes) else begun (frame_head_of bytes)
 
--- what a byte is, and where the reading stands behind it
+-- the meaning of a byte, and the place after it
 abbrev pub framed : FramePlace → ℕ → List (Owned StreamPiece) × FramePlace
 framed (InHead front) x = heading (front ++ x ∷ [])
 framed (Within client n) x = (Of client (Byte x) ∷ [], within client n)
 framed Broken x = ([], Broken)
 
--- what these bytes are
+-- the meaning of these bytes
 unfoldable pub items_in : FramePlace → List ℕ → List (Owned StreamPiece)
 items_in at [] = []
 items_in at (x ∷ xs) = (framed at x).0 ++ items_in (framed at x).1 xs
@@ -64,7 +64,7 @@ items_in at (x ∷ xs) = (framed at x).0 ++ items_in (framed at x).1 xs
 abbrev pub frame_of : ℕ → List ℕ → List ℕ
 frame_of client bytes = frame_head client (length bytes) ++ bytes
 
--- a head of a client's bytes says some
+-- a head of a client's bytes has a length above 0
 abbrev pub SaysSome : FrameHead → Type 0
 SaysSome (head.Bytes client n) = 0 < n
 SaysSome (head.Last client) = ⊤

@@ -6,17 +6,17 @@ pub data StreamPiece : Type 0 where
   Byte : ℕ → StreamPiece
   Last : StreamPiece
 
--- of one client, by its number, or of all: what was held is to be committed and answered now
+-- tagged: of one client, by its number, or *now*, of all: held requests are to be committed and answered
 pub data Owned (X : Type 0) : Type 0 where
   Of : ℕ → X → Owned X
   Now : Owned X
 
--- all these of one client
+-- all these with one client's tag
 unfoldable pub named : {X : Type 0} → ℕ → List X → List (Owned X)
 named client [] = []
 named client (x ∷ xs) = Of client x ∷ named client xs
 
--- x in front, where it is that client's
+-- x in front if it is that client's
 abbrev pub if_own : {X : Type 0} → Bool → X → List X → List X
 if_own own x xs = if own then x ∷ xs else xs
 

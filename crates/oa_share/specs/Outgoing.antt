@@ -1,10 +1,9 @@
--- The frames of replies: what of many clients is handed out, in one stream of bytes. (This project's choice.)
+-- The frames of replies: what is sent to many clients, in one stream of bytes. (This project's choice.)
 use Rattle.std.specs.Prelude.{ℕ, List, [], ◌∷◌, ◌++◌}
 use Rattle.oa_frame.specs.Framings.{records}
 use Rattle.oa_share.specs.Frames.{frame_of}
 
--- what is handed out is a client's number with a reply of its own, without a length, or with nothing: the client has
--- had its last
+-- what is sent is a client's number with a reply without a length, or with nothing: the client has had its last reply
 
 -- a reply as a session of records has it
 abbrev pub framed_reply : List ℕ → List ℕ

@@ -1,4 +1,4 @@
--- What the pieces of one client's stream bring, and what those of all bring, in the order in which they came. (This
+-- The requests in the pieces of one client's stream, and those of all clients in the order in which they came. (This
 -- project's choice.)
 use Rattle.std.specs.Prelude.{ℕ, ◌+◌, ◌<◌, ◌≤◌, ◌≡◌, ◌⊎◌, ◌==◌, nat_lt, if◌then◌else◌, Bool, List, [], ◌∷◌, ◌++◌}
 use Rattle.std.specs.Prelude.{length, take, drop, Option, Some, None}
@@ -8,16 +8,16 @@ use Rattle.oa_frame.specs.declared.ends.End.{End}
 use Rattle.oa_frame.specs.declared.ends.End.TheVariants.{Closed, Cut, TooLong, BadHex, ReadFault, WriteFault}
 use Rattle.oa_share.specs.Marks.{StreamPiece, Byte, Last, Owned, Of, Now, States, named, pieces, put_at}
 
--- what a client's stream brings: a body, or its end
+-- an item of a client's stream: a body, or its end
 pub data Brought : Type 0 where
   Body : List ℕ → Brought
   Ends : End → Brought
 
--- what reads one client's stream: what a piece of it brings, and the state behind it
+-- a reader of one client's stream: the items that a piece completes, and the state after it
 abbrev pub Reads : Type 0 → Type 0
 Reads Z = Z → StreamPiece → List Brought × Z
 
--- what these pieces bring, and the state behind them
+-- the items in these pieces, and the state after them
 unfoldable pub brought_in : {Z : Type 0} → Reads Z → Z → List StreamPiece → List Brought
 brought_in reads at [] = []
 brought_in reads at (piece ∷ rest) = (reads at piece).0 ++ brought_in reads (reads at piece).1 rest
@@ -26,45 +26,45 @@ unfoldable pub behind : {Z : Type 0} → Reads Z → Z → List StreamPiece → 
 behind reads at [] = at
 behind reads at (piece ∷ rest) = behind reads (reads at piece).1 rest
 
--- what the pieces of all clients bring, each in its client's name, in the order in which their last piece came
+-- the items in the pieces of all clients, each with its client's tag, in the order in which their last pieces came
 unfoldable pub asked_in : {Z : Type 0} → Reads Z → States Z → List (Owned StreamPiece) → List (Owned Brought)
 asked_in reads states [] = []
 asked_in reads states (Of client piece ∷ rest) = named client (reads (states client) piece).0
     ++ asked_in reads (put_at client (reads (states client) piece).1 states) rest
 asked_in reads states (Now ∷ rest) = Now ∷ asked_in reads states rest
 
--- Of a client that is there: the bytes of the record that came so far; or it has had its end, and what follows is
--- passed over.
+-- The state of a present client: the bytes of its incomplete record; or its stream has ended, and what follows is
+-- ignored.
 pub data ClientState : Type 0 where
   Held : List ℕ → ClientState
   Over : ClientState
 
--- the state of a client by what is kept of it: whether its end was read, and the bytes of its record
+-- the state of a client, given whether its end was read, and the bytes of its record
 abbrev pub kept : Bool → List ℕ → ClientState
 kept over part = if over then Over else Held part
 
--- the number that the first four bytes say
+-- the number in the first four bytes
 abbrev pub said : List ℕ → ℕ
 said bytes = from_le_bytes w32 (take 4 bytes)
 
--- what a record of this length brings by its bytes so far, four of them at least
+-- the items of a record of this length, given its bytes so far, at least four
 abbrev pub record_of : ℕ → List ℕ → List Brought × Option ClientState
 record_of n bytes = if n == 0 then (Ends Closed ∷ [], Some Over)
     else if nat_lt max_request_bytes n then (Ends TooLong ∷ [], Some Over)
     else if nat_lt (length bytes) (4 + n) then ([], Some (Held bytes))
     else (Body (drop 4 bytes) ∷ [], Some (Held []))
 
--- what the bytes of a record bring, of which none but the last can bring anything
+-- the items in the bytes of a record, of which only the last can complete one
 unfoldable pub recorded : List ℕ → List Brought × Option ClientState
 recorded bytes = if nat_lt (length bytes) 4 then ([], Some (Held bytes)) else record_of (said bytes) bytes
 
--- what the end of a stream brings
+-- the item of a stream's end
 abbrev pub ended : List ℕ → Brought
 ended [] = Ends Closed
 ended (x ∷ xs) = Ends Cut
 
--- The records of one client, as `records` has them: a length and as many bytes each. None: it is not there. Its first
--- piece brings it, and its end takes it away, so that its number may come again.
+-- The records of one client, as `records` has them: each a length and that many bytes. None: the client is not
+-- present. It is present from its first piece to its end; after that its number may be used again.
 unfoldable pub records_of : Reads (Option ClientState)
 records_of None (Byte x) = recorded (x ∷ [])
 records_of None Last = (Ends Closed ∷ [], None)
@@ -73,7 +73,7 @@ records_of (Some (Held bytes)) Last = (ended bytes ∷ [], None)
 records_of (Some Over) (Byte x) = ([], Some Over)
 records_of (Some Over) Last = ([], None)
 
--- the first bytes of a record, which is not whole
+-- the first bytes of an incomplete record
 pub record IsBegun (bytes : List ℕ) : Type 0 where
   pub some : 0 < said bytes
   pub short : said bytes ≤ max_request_bytes
@@ -97,7 +97,7 @@ IsEnd (BadHex line) bytes = ⊥
 IsEnd ReadFault bytes = ⊥
 IsEnd WriteFault bytes = ⊥
 
--- these bytes of a client in this state bring these, and leave it in that state
+-- these bytes of a client in this state contain these items, and leave it in that state
 pub record ClientBrings (at : Option ClientState) (bytes : List ℕ) (all : List Brought)
     (new : Option ClientState) : Type 0 where
   pub brought : brought_in records_of at (pieces bytes) ≡ all

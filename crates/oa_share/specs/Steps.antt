@@ -1,4 +1,4 @@
--- What a step through a client's bytes finds, takes and leaves. (This project's choice.)
+-- What a step through a client's bytes finds, consumes and leaves. (This project's choice.)
 use Rattle.std.specs.Prelude.{◌≡◌, ◌<◌, ◌≤◌, ℕ, List, [], ◌∷◌, ◌++◌, length, take, drop, Option, Some, None}
 use Rattle.std.specs.Map.{lookup}
 use Rattle.std.specs.BTreeMap.{is_at}
@@ -14,7 +14,7 @@ use Rattle.oa_share.specs.declared.step.WholeRecord.TheVariants as whole
 use Rattle.oa_share.specs.declared.step.What.{What}
 use Rattle.oa_share.specs.declared.step.What.TheVariants as what
 
--- what is whole behind the bytes that came before
+-- what is whole after the bytes that came before
 abbrev pub FindsEnd : Found → List ℕ → List ℕ → Type 0
 FindsEnd found.Part front bytes = IsPartRecord (front ++ bytes)
 FindsEnd (found.Whole n) front bytes = (0 < n) × (n ≤ length bytes) × IsWholeRecord (front ++ take n bytes)
@@ -29,26 +29,26 @@ brought what.Nothing = []
 brought (what.Body r) = Body (body_of r) ∷ []
 brought (what.Ends why) = Ends why ∷ []
 
--- the state of a client, among those that are there
+-- the state of a client among the present ones
 abbrev pub state_of : List (ℕ × ClientState) → ℕ → Option ClientState
 state_of clients client = lookup (is_at (nat_cmp client)) clients
 
--- some bytes were taken, all of them where they brought nothing
+-- some bytes were consumed; all of them if they completed nothing
 abbrev pub Takes : ℕ → What → ℕ → Type 0
 Takes taken what.Nothing all = taken ≡ all
 Takes taken (what.Body r) all = (0 < taken) × (taken ≤ all)
 Takes taken (what.Ends why) all = (0 < taken) × (taken ≤ all)
 
--- the bytes of a whole record behind what a client has sent of it
+-- the bytes that complete a client's record
 abbrev pub IsWholeBehind : List ℕ → ClientState → Type 0
 IsWholeBehind bytes (Held front) = (0 < length bytes) × IsWholeRecord (front ++ bytes)
 IsWholeBehind bytes Over = ⊥
 
--- every other client is as it was
+-- no other client changes
 abbrev pub OthersStay : ℕ → List (ℕ × ClientState) → List (ℕ × ClientState) → Type 0
 OthersStay client old new = (other : ℕ) → (client ≡ other → ⊥) → state_of new other ≡ state_of old other
 
--- the end of a client's stream brings this end, or nothing where it has had one
+-- the item of the end of a client's stream, or nothing if it had ended before
 abbrev pub brought_last : Option End → List Brought
 brought_last None = []
 brought_last (Some why) = Ends why ∷ []
@@ -61,7 +61,7 @@ abbrev pub first_of : List (ℕ × ClientState) → Option ℕ
 first_of [] = None
 first_of (client ∷ clients) = Some client.0
 
--- the end of the stream of the client with the lowest number, with which it goes; None where nobody is there
+-- the client with the lowest number is removed, with the end of its stream; None if there is no client
 abbrev pub EndsLowest : Option (ℕ × Option End) → List (ℕ × ClientState) → List (ℕ × ClientState) → Type 0
 EndsLowest None old new = (old ≡ []) × (new ≡ [])
 EndsLowest (Some ended) old new =

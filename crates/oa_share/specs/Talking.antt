@@ -12,14 +12,14 @@ use Rattle.oa_share.specs.Marks.{Last, Now, Of, Owned, named}
 use Rattle.oa_share.specs.Outgoing.{spelled_frames, spelled_told}
 use Rattle.oa_share.specs.Readers.{Body, Brought, ClientState, Ends, records_of}
 use Rattle.oa_share.specs.Shared.{IsClients, Rises, SharedState, StopsAtUnknown, TakesApart, reads_nothing}
-use Rattle.oa_share.specs.declared.serving.Loss.{Loss}
-use Rattle.oa_share.specs.declared.serving.Loss.TheVariants as loss
+use Rattle.oa_frame.specs.declared.session.Loss.{Loss}
+use Rattle.oa_frame.specs.declared.session.Loss.TheVariants as loss
 use Rattle.oa_share.specs.declared.serving.Progress.{Progress}
 use Rattle.oa_share.specs.declared.serving.Progress.TheVariants as progress
 use Rattle.oa_share.specs.declared.session_end.SessionEnd.{SessionEnd}
 use Rattle.oa_share.specs.declared.session_end.SessionEnd.TheVariants as over
 
--- before a body that comes alone all that is held is handed out
+-- before a body that comes alone there is a *now*
 abbrev pub parting : (List ℕ → Bool) → Owned Brought → List (Owned Brought)
 parting alone (Of client (Body body)) = if alone body then Now ∷ [] else []
 parting alone (Of client (Ends why)) = []
@@ -29,12 +29,12 @@ unfoldable pub parted : (List ℕ → Bool) → List (Owned Brought) → List (O
 parted alone [] = []
 parted alone (ask ∷ asks) = parting alone ask ++ ask ∷ parted alone asks
 
--- what the ends of all clients that are there bring, the lowest number first
+-- the ends of all present clients, the lowest number first
 unfoldable pub ends_in : List (ℕ × ClientState) → List (Owned Brought)
 ends_in [] = []
 ends_in (client ∷ clients) = named client.0 (records_of (Some client.1) Last).0 ++ ends_in clients
 
--- one turn after another, and what is handed out at each
+-- one turn after another, and what is sent at each
 abbrev pub AllTurned : {S : Type 0} → SharedTurn S → S → List (Owned Brought) → List (List (ℕ × List ℕ)) → S → Type 0
 AllTurned turn old [] [] new = new ≡ old
 AllTurned {S} turn old (ask ∷ asks) (told ∷ tolds) new =
@@ -42,8 +42,8 @@ AllTurned {S} turn old (ask ∷ asks) (told ∷ tolds) new =
 AllTurned turn old [] (told ∷ tolds) new = ⊥
 AllTurned turn old (ask ∷ asks) [] new = ⊥
 
--- Of all bytes that a writer was given, `gone` have left it; `before` is how many it was given before these turns. At
--- each *now* all had left that it was given by then.
+-- Of all bytes that a writer received, `gone` have left it; `before` is how many it received before these turns. At
+-- each *now*, everything had left that it received before.
 abbrev pub HasLeftAtNow : ℕ → ℕ → List (Owned Brought) → List (List (ℕ × List ℕ)) → Type 0
 HasLeftAtNow gone before [] tolds = Unit {0}
 HasLeftAtNow gone before (ask ∷ asks) [] = Unit {0}
@@ -53,13 +53,13 @@ HasLeftAtNow gone before (Now ∷ asks) (told ∷ tolds) =
 HasLeftAtNow gone before (Of client x ∷ asks) (told ∷ tolds) =
     HasLeftAtNow gone (before + length (spelled_frames told)) asks tolds
 
--- what was handed out last
+-- what was sent last
 abbrev pub newest : List (List (ℕ × List ℕ)) → List (ℕ × List ℕ)
 newest [] = []
 newest (told ∷ []) = told
 newest (told ∷ (next ∷ tolds)) = newest (next ∷ tolds)
 
--- this was asked and answered, and all that was handed out was put
+-- this was asked and answered, and everything that was sent was put
 pub record HasTold {S : Type 0} (turn : SharedTurn S) (asks : List (Owned Brought)) (out out' : Output)
     (old new : S) : Type 0 where
   pub tolds : List (List (ℕ × List ℕ))
@@ -67,10 +67,9 @@ pub record HasTold {S : Type 0} (turn : SharedTurn S) (asks : List (Owned Brough
   pub written : Writes out out' (spelled_told tolds)
   pub left : HasLeftAtNow (length written.gone) (length out.kept) asks tolds
 
--- The writer failed: this was asked and answered, then these ends, and at last *now* was made. A first part of what was
--- handed out has left; nobody gets what was handed out at the last *now* where the writer had failed before. What is
--- lost is no more than the writer may keep back and was given last: so nothing more was answered once it had failed,
--- but that *now*.
+-- The writer failed: this was asked and answered, then these ends, and last a *now*. A prefix of what was sent has
+-- left; the replies at the last *now* are lost if the writer had failed before. At most the bytes that the writer may
+-- keep back, and those that it received last, are lost: so nothing but that *now* was answered after it had failed.
 pub record LosesWriter {S : Type 0} (turn : SharedTurn S) (asks ends : List (Owned Brought)) (out out' : Output)
     (old new : S) : Type 0 where
   pub given : List (List (ℕ × List ℕ))
@@ -81,15 +80,15 @@ pub record LosesWriter {S : Type 0} (turn : SharedTurn S) (asks ends : List (Own
   pub few : length torn.lost ≤ out.back + length (spelled_frames (newest given))
   pub left : HasLeftAtNow (length torn.gone) (length out.kept) asks given
 
--- the end of the input, by where the reading of frames stands
+-- the end of the input, given the place of the reading
 abbrev pub input_end : FramePlace → SessionEnd
 input_end (InHead []) = over.Closed
 input_end (InHead (x ∷ xs)) = over.Cut
 input_end (Within client n) = over.Cut
 input_end Broken = over.Unknown
 
--- Why the reading ended: the input did, between two frames or within one; a head said nothing; memory was refused among
--- a client's bytes; the reader failed, or so many bytes and calls of it were used up.
+-- Why the reading ended: the input ended, between two frames or within one; a head was invalid; an allocation for a
+-- client's bytes failed; the reader failed, or its greatest number of bytes and calls was reached.
 abbrev pub IsEndOf : SessionEnd → FramePlace → ℕ → Input → Type 0
 IsEndOf over.Closed place used input = (input_end place ≡ over.Closed) × IsAtEnd input.left
 IsEndOf over.Cut place used input = (input_end place ≡ over.Cut) × IsAtEnd input.left
@@ -98,7 +97,7 @@ IsEndOf over.Memory place used input = IsClients place
 IsEndOf over.ReadFault place used input = (input.faulted ≡ true) ⊎ (max_records ≤ used)
 IsEndOf over.WriteFault place used input = ⊥
 
--- Where the input has ended, or nothing that follows can be read, the clients that are there end.
+-- If the input has ended, or nothing more can be read, the present clients end.
 abbrev pub ends_at : SessionEnd → List (ℕ × ClientState) → List (Owned Brought)
 ends_at over.Closed clients = ends_in clients
 ends_at over.Cut clients = ends_in clients
@@ -107,7 +106,7 @@ ends_at over.Memory clients = []
 ends_at over.ReadFault clients = []
 ends_at over.WriteFault clients = []
 
--- all was answered and has left: what was asked, the ends, of the lowest number first, and a last *now*
+-- everything was answered and has left: the requests, the ends, the lowest number first, and a last *now*
 pub record TellsAll {S : Type 0} (turn : SharedTurn S) (asks : List (Owned Brought)) (why : SessionEnd)
     (streams : SharedState) (used : ℕ)
     (input : Input) (out out' : Output) (old new : S) : Type 0 where
@@ -116,7 +115,7 @@ pub record TellsAll {S : Type 0} (turn : SharedTurn S) (asks : List (Owned Broug
   pub told : HasTold turn (asks ++ (ends_at why streams.clients ++ Now ∷ [])) out out' old new
   pub handed_on : IsHandedOn out'
 
--- the writer failed, in what was asked, or in the ends
+-- the writer failed, in the requests or in the ends
 pub record FailsToTell {S : Type 0} (turn : SharedTurn S) (asks : List (Owned Brought)) (why : SessionEnd)
     (clients : List (ℕ × ClientState))
     (out out' : Output) (old new : S) : Type 0 where
@@ -127,10 +126,10 @@ pub record FailsToTell {S : Type 0} (turn : SharedTurn S) (asks : List (Owned Br
   pub rise : ends ≢ [] → Rises clients
   pub loses : LosesWriter turn asks ends out out' old new
 
--- A whole session of many clients, from some state of the reading on: the bytes that were taken; what they ask of all
--- clients, in the order in which it came; and its answers, each body that comes alone behind a *now*. Behind a head
--- that says nothing no byte is taken. A steady reader is called as often as bytes were taken at most, and once more: it
--- brings one at each call, but for the last.
+-- A whole session of many clients, from some state of the reading on: the bytes that were consumed; the requests of
+-- all clients in them, in the order in which they came; and their replies, with a *now* before each body that comes
+-- alone. No byte is consumed after an invalid head. A steady reader is called at most once more than bytes were
+-- consumed: each call but the last returns at least one.
 pub record ServesClients {S : Type 0} (alone : List ℕ → Bool) (turn : SharedTurn S) (from : SharedState)
     (input input' : Input)
     (out out' : Output) (old new : S) (why : SessionEnd) : Type 0 where
@@ -147,7 +146,7 @@ pub record ServesClients {S : Type 0} (alone : List ℕ → Bool) (turn : Shared
   pub done : TellsAll turn (parted alone asked) why streams (calls + length taken) input' out out' old new
       ⊎ FailsToTell turn (parted alone asked) why streams.clients out out' old new
 
--- a part of it, after which it goes on
+-- a part of it, after which it continues
 pub record TalksOn {S : Type 0} (alone : List ℕ → Bool) (turn : SharedTurn S) (from to : SharedState)
     (input input' : Input)
     (out out' : Output) (old new : S) : Type 0 where
@@ -161,13 +160,13 @@ pub record TalksOn {S : Type 0} (alone : List ℕ → Bool) (turn : SharedTurn S
   pub steady : input.steady ≡ true → input'.steady ≡ true
   pub told : HasTold turn (parted alone asked) out out' old new
 
--- 1 where something is read ahead, as after the call that brought it
+-- 1 if something is read ahead, as after the call that read it
 abbrev pub one_ahead : List ℕ → ℕ
 one_ahead [] = 0
 one_ahead (x ∷ xs) = 1
 
--- A part that took some, or called the reader. What was read ahead before it, and behind it, is given too: a steady
--- reader is called where nothing is read ahead, and something is then.
+-- A part that consumed bytes, or called the reader. The bytes that were read ahead before and after it are given,
+-- too: a steady reader is called only if nothing is read ahead, and something is after the call.
 pub record MovesOn {S : Type 0} (alone : List ℕ → Bool) (turn : SharedTurn S) (from to : SharedState)
     (front front' : List ℕ) (input input' : Input)
     (out out' : Output) (old new : S) : Type 0 where
@@ -175,6 +174,7 @@ pub record MovesOn {S : Type 0} (alone : List ℕ → Bool) (turn : SharedTurn S
   pub some : 0 < talks.calls + length talks.taken
   pub paced : input.steady ≡ true → talks.calls + one_ahead front ≤ length talks.taken + one_ahead front'
   pub well : input'.faulted ≡ false
+  pub quiet : 0 < talks.calls → IsHandedOn out'
 
 -- the last part
 pub record IsOver {S : Type 0} (alone : List ℕ → Bool) (turn : SharedTurn S) (why : SessionEnd) (from to : SharedState)
@@ -201,25 +201,25 @@ Progresses alone turn (progress.Over why) from to front front' input input' out 
 Progresses alone turn progress.Unwritten from to front front' input input' out out' old new =
     IsUnwritten alone turn from input input' out out' old new
 
--- what was asked is answered; or the writer failed in it, or in the *now* before it
+-- the request is answered; or the writer failed in it, or in the *now* before it
 abbrev pub AnswersAsked : {S : Type 0} → SharedTurn S → Result (Unit {0}) Loss → List (Owned Brought) → Output → Output
     → S → S → Type 0
 AnswersAsked turn (Ok u) asks out out' old new = HasTold turn asks out out' old new
 AnswersAsked turn (Err loss.Answered) asks out out' old new = LosesWriter turn asks [] out out' old new
 AnswersAsked turn (Err loss.Undone) asks out out' old new = LosesWriter turn [] [] out out' old new
 
--- so one that comes after nothing else
+-- a request without a *now* before it is answered
 abbrev pub AnswersSingle : {S : Type 0} → SharedTurn S → Result (Unit {0}) Unwritten → Owned Brought → Output → Output
     → S → S → Type 0
 AnswersSingle turn (Ok u) ask out out' old new = HasTold turn (ask ∷ []) out out' old new
 AnswersSingle turn (Err e) ask out out' old new = LosesWriter turn (ask ∷ []) [] out out' old new
 
--- *now* was made and all is handed on, or the writer failed
+-- a *now* was made and the writer flushed, or it failed
 abbrev pub MakesNow : {S : Type 0} → SharedTurn S → Result (Unit {0}) Unwritten → Output → Output → S → S → Type 0
 MakesNow turn (Ok u) out out' old new = HasTold turn (Now ∷ []) out out' old new × IsHandedOn out'
 MakesNow turn (Err e) out out' old new = LosesWriter turn [] [] out out' old new
 
--- a first part of these ends, in which the writer failed
+-- a prefix of these ends, in which the writer failed
 pub record LosesInEnds {S : Type 0} (turn : SharedTurn S) (all : List (Owned Brought)) (out out' : Output)
     (old new : S) : Type 0 where
   pub ends : List (Owned Brought)
@@ -233,7 +233,7 @@ abbrev pub AnswersEnds : {S : Type 0} → SharedTurn S → Result (Unit {0}) Unw
 AnswersEnds turn (Ok u) ends all out out' old new = HasTold turn ends out out' old new
 AnswersEnds turn (Err e) ends all out out' old new = LosesInEnds turn all out out' old new
 
--- the end of the first client that is there
+-- the end of the first client
 pub record EndsNext {S : Type 0} (turn : SharedTurn S) (result : Result (Unit {0}) Unwritten)
     (clients clients' : List (ℕ × ClientState))
     (out out' : Output) (old new : S) : Type 0 where

@@ -1,4 +1,4 @@
-//! A client that is there.
+//! A client of a shared session.
 ghost use Rattle.std.specs.Prelude.{◌≡◌, ◌<◌, ◌≤◌, [], length, take, true, IfOk, OnErr, Some, None};
 ghost use Rattle.oa_share.specs.Readers.{ClientBrings, IsWholeRecord};
 ghost use Rattle.oa_share.specs.Readers.ClientState.{Held, Over};
@@ -12,7 +12,7 @@ use std::alloc::{AllocError, Global};
 use std::marker::Model;
 use std::mem::replace;
 
-/// What came of a client's record that is not whole; or its stream has ended, and what follows is passed over.
+/// The bytes of an incomplete record of a client; or its stream has ended, and what follows is ignored.
 #[derive(Drop)]
 pub(crate) struct Client {
     alloc: Global,
@@ -32,7 +32,7 @@ impl Model for Client {
 }
 
 impl Client {
-    /// A client between two records. Takes no memory.
+    /// Makes a client between two records. Allocates nothing.
     pub(crate) fn new(alloc: Global) -> Client
         ensures { result ≡ Held [] }
     {
@@ -43,15 +43,15 @@ impl Client {
         }
     }
 
-    /// Whether it stands between two records.
+    /// Returns whether the client is between two records.
     pub(crate) fn is_between(&self) -> bool
         ensures { result ≡ true → self.now ≡ Held [] }
     {
         !self.over && self.part.is_empty()
     }
 
-    /// Takes the first of these bytes, up to the first that brings something. Err where memory is refused for a part of a record:
-    /// nothing is taken then.
+    /// Consumes bytes up to the end of the first whole item. Err: an allocation for a part of a record failed, and
+    /// nothing was consumed.
     pub(crate) fn advance<'a>(&mut self, bytes: &'a [u8]) -> Result<ClientStep<'a>, AllocError>
         requires { 0 < length bytes.now }
         ensures taken { IfOk result (λ s. Takes s.taken s.what (length bytes.now)) }
@@ -88,7 +88,7 @@ impl Client {
         }
     }
 
-    /// The record that these bytes end. Where no others stand before them nothing is copied.
+    /// Returns the record that these bytes complete. If it begins with them, nothing is copied.
     fn gather<'a>(&mut self, bytes: &'a [u8]) -> Result<WholeRecord<'a>, AllocError>
         requires { IsWholeBehind bytes.now self.old }
         ensures record { IfOk result (λ r. ClientBrings (Some self.old) bytes.now (brought (what.Body r)) (Some self.new)) }
@@ -102,7 +102,7 @@ impl Client {
         Ok(WholeRecord::Gathered(gathered))
     }
 
-    /// What the end of the client's stream brings; None where the stream has ended before.
+    /// Returns how the client's stream ends; None if it had ended before.
     pub(crate) fn end(self) -> Option<End>
         ensures { EndsWith result (Some self) None }
     {

@@ -1,4 +1,4 @@
-//! The clients that are there.
+//! The present clients.
 ghost use Rattle.std.specs.Prelude.{◌≡◌, ◌<◌, [], length, take, true, IfOk, OnErr, None, Some};
 ghost use Rattle.oa_share.specs.Readers.{ClientBrings};
 ghost use Rattle.oa_share.specs.Readers.ClientState.{Held};
@@ -12,10 +12,10 @@ use oa_ordered::OrderedMap;
 use std::alloc::{AllocError, Global};
 use std::marker::Model;
 
-/// The clients that are there, by their numbers, each with what came of its record that is not whole.
+/// The present clients by their numbers, each with the bytes of its incomplete record.
 ///
-/// A client is there from its first bytes to its end. Of each no more is kept than has come of one record: 4 bytes and fewer than its
-/// length says, which is `MAX_REQUEST_BYTES` at most.
+/// A client is present from its first bytes to its end. For each, at most the bytes of one record are kept: 4 bytes
+/// for the length, which is at most `MAX_REQUEST_BYTES`, and fewer bytes than that.
 #[derive(Drop)]
 pub struct Clients {
     alloc: Global,
@@ -32,7 +32,7 @@ impl Model for Clients {
 }
 
 impl Clients {
-    /// Nobody is there. Takes no memory.
+    /// Makes a list of no clients. Allocates nothing.
     pub fn new(alloc: Global) -> Clients
         ensures { result ≡ [] }
     {
@@ -42,7 +42,7 @@ impl Clients {
         }
     }
 
-    /// The client with the lowest number. None where nobody is there.
+    /// Returns the client with the lowest number; None if there is none.
     pub fn first(&self) -> Option<u32>
         ensures { result ≡ first_of self.now }
     {
@@ -52,7 +52,7 @@ impl Clients {
         }
     }
 
-    /// Whether a client is there, and has sent no part of a record that is not whole, nor its end.
+    /// Returns whether a client is present, between two records, and has not ended.
     pub(crate) fn is_between(&self, client: u32) -> bool
         ensures { result ≡ true → state_of self.now client ≡ Some (Held []) }
     {
@@ -62,17 +62,19 @@ impl Clients {
         }
     }
 
-    /// How many clients are there.
+    /// Returns the number of clients.
     pub(crate) fn len(&self) -> usize
         ensures { result ≡ length self.now }
     {
         self.clients.len()
     }
 
-    /// Takes the first of a client's bytes, up to the last of its next record or to the length that ends its stream; all of them where they
-    /// bring neither, and where the stream has ended before. A record that stands in them whole is lent, one that came in parts is handed out.
+    /// Consumes a client's bytes, up to the end of its next record or of the length that ends its stream; all of them
+    /// if they complete neither, or if the stream has ended before. A record that is whole in these bytes is
+    /// borrowed; one that came in parts is returned by value.
     ///
-    /// Err where memory is refused, for a client that was not there or for the part of a record: nothing is taken then, and it may be tried again.
+    /// Err: an allocation failed, for a new client or for a part of a record. Nothing was consumed, and the call may
+    /// be repeated.
     pub fn step<'a>(&mut self, client: u32, bytes: &'a [u8]) -> Result<ClientStep<'a>, AllocError>
         requires { 0 < length bytes.now }
         ensures taken { IfOk result (λ s. Takes s.taken s.what (length bytes.now)) }
@@ -86,7 +88,7 @@ impl Clients {
         found.advance(bytes)
     }
 
-    /// The same for a client that is not there.
+    /// Consumes bytes of a new client.
     fn enter<'a>(&mut self, client: u32, bytes: &'a [u8]) -> Result<ClientStep<'a>, AllocError>
         requires some { 0 < length bytes.now }
         requires absent { state_of self.old client ≡ None }
@@ -103,8 +105,8 @@ impl Clients {
         }
     }
 
-    /// The end of a client's stream, with which it goes: `Closed` between two records, `Cut` inside one; None where it has had its end before.
-    /// A client that is not there has an empty stream. Takes no memory.
+    /// Ends a client's stream and removes the client. Returns `Closed` between two records, `Cut` inside one, None if
+    /// the stream had ended before. A client that is not present has an empty stream. Allocates nothing.
     pub fn end(&mut self, client: u32) -> Option<End>
         ensures brings { EndsWith result (state_of self.old client) (state_of self.new client) }
         ensures others { OthersStay client self.old self.new }
@@ -116,7 +118,7 @@ impl Clients {
         }
     }
 
-    /// The same of the client with the lowest number. None where nobody is there.
+    /// Ends and removes the client with the lowest number; None if there is no client.
     pub fn end_lowest(&mut self) -> Option<(u32, Option<End>)>
         ensures { EndsLowest result self.old self.new }
     {
@@ -129,7 +131,7 @@ impl Clients {
         }
     }
 
-    /// A fact and no work: the numbers of the clients rise.
+    /// Does nothing; its contract states that the numbers of the clients rise.
     pub(crate) fn numbers_rise(&self)
         ensures { Rises self.now }
     {

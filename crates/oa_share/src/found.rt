@@ -5,21 +5,21 @@ ghost use Rattle.oa_share.specs.Steps.{FindsEnd};
 
 use oa_frame::End;
 
-/// The most bytes of a body.
+/// The greatest number of bytes of a body.
 const BODY_LIMIT: usize = oa_model::MAX_REQUEST_BYTES as usize;
 
-/// What stands behind the part of a record that came before.
+/// What follows the part of a record that came before.
 #[derive(Clone, Copy)]
 pub(crate) enum Found {
-    /// Not all of it.
+    /// Not all of the rest.
     Part,
-    /// The rest of it, of so many bytes.
+    /// The rest, of this many bytes.
     Whole(usize),
-    /// After so many bytes a length that ends the stream.
+    /// After this many bytes, a length that ends the stream.
     Ends(End, usize),
 }
 
-/// Looks for the end of the record that begins with these bytes and goes on with those.
+/// Finds the end of the record that begins with `front` and continues with `bytes`.
 pub(crate) fn find(front: &[u8], bytes: &[u8]) -> Found
     requires part { IsPartRecord front.now }
     requires some { 0 < length bytes.now }
@@ -31,7 +31,7 @@ pub(crate) fn find(front: &[u8], bytes: &[u8]) -> Found
     }
 }
 
-/// The same where the body is to have so many bytes.
+/// Finds the end of a record whose body has `n` bytes.
 fn find_of(n: usize, front: &[u8], bytes: &[u8]) -> Found
     requires part { IsPartRecord front.now }
     requires some { 0 < length bytes.now }
@@ -52,7 +52,7 @@ fn find_of(n: usize, front: &[u8], bytes: &[u8]) -> Found
     }
 }
 
-/// The length that a record's first four bytes say, where so many came.
+/// Returns the length in a record's first four bytes, if they have come.
 fn length_of(front: &[u8], bytes: &[u8]) -> Option<usize>
     ensures none { IsNone result → length front.now + length bytes.now < 4 }
     ensures some { IfSome result (λ n. (n ≡ said (front.now ++ bytes.now)) × (4 ≤ length front.now + length bytes.now)) }

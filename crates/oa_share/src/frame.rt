@@ -3,27 +3,27 @@ ghost use Rattle.std.specs.Prelude.{◌≡◌, ◌<◌, ◌≤◌};
 ghost use Rattle.oa_share.specs.Frames.{SaysSome, frame_head_of};
 ghost use Rattle.oa_share.specs.Frames as frames;
 
-/// The number that is no client's: it stands for all.
+/// The number for all clients, which no client has.
 pub const ALL_CLIENTS: u32 = u32::MAX;
 
-/// The most bytes of a frame, its head apart.
+/// The greatest number of bytes of a frame, without its head.
 pub const MAX_FRAME_BYTES: u32 = 1_048_576;
 
-/// What the head of a frame says.
+/// The meaning of a frame's head.
 #[derive(Clone, Copy, Debug, PartialEq, Eq)]
 pub enum FrameHead {
-    /// So many bytes of this client follow, one at least and `MAX_FRAME_BYTES` at most.
+    /// This many bytes of this client follow, from 1 to `MAX_FRAME_BYTES`.
     Bytes { client: u32, count: u32 },
     /// This client's stream ends here.
     Last(u32),
-    /// What is held of all clients is to be committed and answered now.
+    /// *Now*: the held requests of all clients are to be committed and answered.
     Now,
-    /// Nothing: a length above `MAX_FRAME_BYTES`, or one above 0 for all clients.
+    /// An invalid head: a length above `MAX_FRAME_BYTES`, or one above 0 for all clients.
     Unknown,
 }
 
 impl FrameHead {
-    /// The head of eight bytes: the client's number, then the length, each with its lowest byte first.
+    /// Decodes eight bytes: the client's number, then the length, each with its lowest byte first.
     pub fn from_bytes(bytes: &[u8; 8]) -> FrameHead
         ensures head { result ≡ frame_head_of bytes.now }
         ensures some { SaysSome result }
@@ -48,7 +48,7 @@ impl FrameHead {
     }
 }
 
-/// The head of a frame of so many bytes for a client.
+/// Encodes the head of a frame of this many bytes for a client.
 pub fn frame_head(client: u32, count: u32) -> [u8; 8]
     ensures { result ≡ frames.frame_head client count }
 {

@@ -1,4 +1,4 @@
-//! Laws of the definitions, each the contract of a function with no work to do.
+//! Theorems about the definitions, each the contract of a function with an empty body.
 ghost use Rattle.std.specs.Prelude.{◌≡◌, ◌<◌, ◌≤◌, ◌+◌, ◌∷◌, ◌++◌, ℕ, List, [], Option, None, length, map};
 ghost use Rattle.oa_frame.specs.declared.ends.End.{End as AnEnd};
 ghost use Rattle.oa_frame.specs.declared.ends.End.TheVariants.{ReadFault};
@@ -10,28 +10,28 @@ ghost use Rattle.oa_share.specs.Marks.{Owned, Last, Now, Of, StreamPiece, States
 ghost use Rattle.oa_share.specs.Readers.{Body, Brought, Ends, ClientState, Reads, asked_in, brought_in, records_of};
 ghost use Rattle.oa_share.specs.Shared.{TakesApart, SharedState};
 
-/// What a client brings is what its own pieces bring, whatever stands between them.
+/// A client's requests depend only on its own bytes, whatever comes between them.
 pub fn each_has_its_own()
     ensures { (reads : Reads (Option ClientState)) (states : States (Option ClientState)) (stream : List (Owned StreamPiece)) (client : ℕ)
         → own client (asked_in reads states stream) ≡ brought_in reads (states client) (own client stream) }
 {}
 
-/// Where there is one client alone, all is what its own pieces bring.
+/// With a single client, all requests are those of its bytes.
 pub fn one_client_has_all()
     ensures { (reads : Reads (Option ClientState)) (states : States (Option ClientState)) (client : ℕ) (stream : List StreamPiece)
         → asked_in reads states (named client stream) ≡ named client (brought_in reads (states client) stream) }
 {}
 
-/// What a session of records reads of some bytes is what they bring as one client's stream: its bodies, and its end.
+/// A session of records reads from some bytes what they contain as one client's stream: its bodies, and its end.
 pub fn each_is_a_session()
     ensures reads { (bytes rest : List ℕ) (bodies : List (List ℕ)) (why : AnEnd) → ReadTo records (At why) bodies bytes rest → (why ≡ ReadFault → ⊥)
         → brought_in records_of None (pieces bytes ++ Last ∷ []) ≡ map Body bodies ++ Ends why ∷ [] }
-    // And all bytes are read so.
+    // (and all bytes are read so)
     ensures read { (bytes : List ℕ)
         → (bodies : List (List ℕ)) × (why : AnEnd) × (rest : List ℕ) × ReadTo records (At why) bodies bytes rest × (why ≡ ReadFault → ⊥) }
 {}
 
-/// What frames say: a client's bytes, its end, or that all is to be committed and answered now.
+/// The meaning of frames: a client's bytes, its end, or *now*: everything is to be committed and answered.
 pub fn frames_are_read()
     ensures bytes { (client : ℕ) (bytes rest : List ℕ) → client < all_clients → 0 < length bytes → length bytes ≤ max_frame_bytes
         → items_in (InHead []) (frame_of client bytes ++ rest) ≡ named client (pieces bytes) ++ items_in (InHead []) rest }
@@ -40,7 +40,7 @@ pub fn frames_are_read()
     ensures now { (rest : List ℕ) → items_in (InHead []) (frame_of all_clients [] ++ rest) ≡ Now ∷ items_in (InHead []) rest }
 {}
 
-/// Where a client's bytes are cut into frames does not matter, as long as nothing stands between them.
+/// It does not matter where a client's bytes are divided into frames, as long as nothing comes between them.
 pub fn cuts_do_not_matter()
     ensures { (client : ℕ) (front back rest : List ℕ) → client < all_clients → 0 < length front → 0 < length back
         → length front + length back ≤ max_frame_bytes
@@ -48,7 +48,7 @@ pub fn cuts_do_not_matter()
         ≡ items_in (InHead []) (frame_of client front ++ (frame_of client back ++ rest)) }
 {}
 
-/// What is asked of one part of a stream and then of the next is what is asked of both.
+/// The requests of one part of a stream and then of the next are those of both.
 pub fn parts_are_asked_in_turn()
     ensures { (old mid new : SharedState) (front back : List ℕ) (before after : List (Owned Brought))
         → TakesApart old front before mid → TakesApart mid back after new → TakesApart old (front ++ back) (before ++ after) new }

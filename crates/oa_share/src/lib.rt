@@ -1,8 +1,9 @@
-//! Whose request stands where in one stream of many clients' records.
+//! Many clients in one stream of frames: demultiplexing their requests, and a session over them.
 //!
-//! Its contract: each client's bodies are those that a session of its own would have read, whatever stands between them
-//! (`laws::each_has_its_own`, `laws::each_is_a_session`), `Streams::take` finds them one by one, in the order in which they came (`TakesApart`), and
-//! `serve_clients` has them answered in that order, and writes exactly what is handed out, or a first part of it where the writer fails (`ServesClients`).
+//! Contract: each client's bodies are those that a session of its own would have read, whatever comes between them
+//! (`laws::each_has_its_own`, `laws::each_is_a_session`). `Streams::take` finds them one by one, in the order in
+//! which they came (`TakesApart`). `serve_clients` has them answered in that order, and writes exactly the replies,
+//! or a prefix of them if the writer fails (`ServesClients`).
 #![tactic(auto)]
 
 mod client;

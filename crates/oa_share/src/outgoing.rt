@@ -1,4 +1,4 @@
-//! Frames of replies on a writer.
+//! Writing frames of replies.
 ghost use Rattle.std.specs.Prelude.{◌≡◌, ◌≤◌, ◌+◌, ◌++◌, [], false, length, take};
 ghost use Rattle.std.specs.Int.{to_le_bytes, w32};
 ghost use Rattle.oa_share.specs.Frames as frames;
@@ -9,7 +9,8 @@ use crate::frame_head;
 use oa_frame::put_some;
 use oa_stream::{Sink, Unwritten};
 
-/// Writes a frame of one reply, which stands in two stretches, for this client: the frame's head, the reply's length of 4 bytes, the reply.
+/// Writes a frame with one reply, given in two parts, for this client: the frame's head, the reply's length in 4
+/// bytes, the reply.
 pub fn put_reply_of<W: Sink>(
     writer: &mut W,
     client: u32,
@@ -24,7 +25,7 @@ pub fn put_reply_of<W: Sink>(
     put_some(writer, fields)
 }
 
-/// Writes what stands before the second stretch: the head of the frame, the reply's length, and the first.
+/// Writes everything before the second part: the head of the frame, the reply's length, and the first part.
 #[inline(always)]
 fn put_front<W: Sink>(
     writer: &mut W,
@@ -42,7 +43,7 @@ fn put_front<W: Sink>(
     writer.put(&bytes[..28])
 }
 
-/// The same, at the start of a buffer.
+/// Puts everything before the second part at the start of a buffer.
 #[inline(always)]
 fn lay_out(client: u32, head: &[u8; 16], fields: &[u8], bytes: &mut [u8; 32])
     requires { 16 + length fields.now ≤ 4294967291 }
@@ -53,7 +54,7 @@ fn lay_out(client: u32, head: &[u8; 16], fields: &[u8], bytes: &mut [u8; 32])
     bytes[12..28].copy_from_slice(head);
 }
 
-/// What stands before a reply of so many bytes: the head of its frame, and its length.
+/// Returns the bytes before a reply of this length: the head of its frame, and its length.
 fn lengths(client: u32, count: usize) -> [u8; 12]
     requires { count ≤ 4294967291 }
     ensures { result ≡ frames.frame_head client (4 + count) ++ to_le_bytes w32 count }
@@ -63,7 +64,7 @@ fn lengths(client: u32, count: usize) -> [u8; 12]
     [a, b, c, d, e, f, g, h, i, j, k, l]
 }
 
-/// Writes the frame that says that this client has had its last reply.
+/// Writes the frame that ends this client's replies.
 pub fn put_last_of<W: Sink>(writer: &mut W, client: u32) -> Result<(), Unwritten>
     requires unbroken { (W.out writer.old).broken ≡ false }
     ensures { Puts result (W.out writer.old) (W.out writer.new) (spelled_frame (client, [])) }

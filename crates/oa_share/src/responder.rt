@@ -1,4 +1,4 @@
-//! What answers the requests of many clients.
+//! Servers of many clients.
 ghost use Rattle.std.specs.Prelude.{◌≡◌, ℕ, Bool, List, false, true};
 ghost use Rattle.oa_share.specs.Answering.{AnswersClient, GivesUp, IsBehindNow};
 ghost use Rattle.oa_share.specs.Marks.{Now, Of, Owned};
@@ -8,25 +8,26 @@ ghost use Rattle.oa_stream.specs.Sink.{IsHandedOn};
 use oa_frame::End;
 use oa_stream::{Sink, Unwritten};
 
-/// What answers many clients. It may hold replies back, and hand out those to many requests, of any clients, at one.
+/// A server of many clients. It may hold replies back, and send those to many requests, of any clients, at once.
 ///
-/// Contracts see what is handed out as a list: of a client's number and the bytes of a reply without a length, or no bytes where the client
-/// has had its last.
+/// Contracts see what is sent as a list. Each entry is a client's number and the bytes of a reply without a length,
+/// or no bytes after the client's last reply.
 pub trait SharedResponder {
-    /// What holds between two turns.
+    /// The invariant between two turns.
     ghost ready: { Self → Type 0 };
 
-    /// A turn: the state before, what is asked, what is handed out then, the state after.
+    /// A turn: the state before, what is asked, what is sent then, the state after.
     ghost turn: { Self → Owned Brought → List (ℕ × List ℕ) → Self → Type 0 };
 
-    /// The bodies that come alone: *now* is made, and all is handed on, before such a one is answered.
+    /// The bodies that come alone (barriers): a *now* is made, and the writer flushed, before such a body is
+    /// answered.
     ghost alone: { List ℕ → Bool };
 
-    /// Whether a body comes alone.
+    /// Returns whether a body comes alone.
     fn is_alone(&self, body: &[u8]) -> bool
         ensures { result ≡ alone body.now };
 
-    /// Answers a body of this client that does not come alone, and writes what is handed out at it.
+    /// Answers a body of this client that does not come alone, and writes what is sent then.
     fn answer_client<W: Sink>(
         &mut self,
         client: u32,
@@ -39,8 +40,8 @@ pub trait SharedResponder {
         ensures answers { AnswersClient turn result (Of client (Body body.now)) (W.out writer.old) (W.out writer.new) self.old self.new }
         ensures ready { ready self.new };
 
-    /// Answers a body of this client that comes alone, behind a *now* whose replies have all left the writer, and writes what is handed out
-    /// at it.
+    /// Answers a body of this client that comes alone, after a *now* whose replies have all left the writer, and
+    /// writes what is sent then.
     fn answer_client_alone<W: Sink>(
         &mut self,
         client: u32,
@@ -55,7 +56,7 @@ pub trait SharedResponder {
         ensures answers { AnswersClient turn result (Of client (Body body.now)) (W.out writer.old) (W.out writer.new) self.old self.new }
         ensures ready { ready self.new };
 
-    /// The stream of this client has ended: `Closed`, `Cut` or `TooLong`. Writes what is handed out at it.
+    /// Ends this client's stream: `Closed`, `Cut` or `TooLong`. Writes what is sent then.
     fn end_client<W: Sink>(
         &mut self,
         client: u32,
@@ -67,14 +68,14 @@ pub trait SharedResponder {
         ensures answers { AnswersClient turn result (Of client (Ends why)) (W.out writer.old) (W.out writer.new) self.old self.new }
         ensures ready { ready self.new };
 
-    /// *Now*: commits what is open, and writes what is held.
+    /// *Now*: commits the open group, and writes held replies.
     fn commit_now<W: Sink>(&mut self, writer: &mut W) -> Result<(), Unwritten>
         requires ready { ready self.old }
         requires unbroken { (W.out writer.old).broken ≡ false }
         ensures answers { AnswersClient turn result Now (W.out writer.old) (W.out writer.new) self.old self.new }
         ensures ready { ready self.new };
 
-    /// The writer has failed: what is open is committed, and nobody gets what is held.
+    /// Commits the open group after the writer has failed: held replies are lost.
     fn abandon_clients(&mut self)
         requires ready { ready self.old }
         ensures gives_up { GivesUp turn self.old self.new }

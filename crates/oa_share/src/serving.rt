@@ -10,15 +10,15 @@ ghost use Rattle.oa_share.specs.declared.session_end.SessionEnd.TheVariants as o
 ghost use Rattle.oa_stream.specs.Ahead.{ahead, read_ahead};
 
 use crate::{Arrival, Portion, SessionEnd, SharedResponder, Streams};
-use oa_frame::End;
+use oa_frame::{End, Loss};
 use oa_model::MAX_RECORDS;
 use oa_stream::{Ahead, More, Sink, Source, Unwritten};
 use std::alloc::Global;
 
-/// What became of a part of a session.
+/// The result of a part of a session.
 #[derive(Clone, Copy)]
 pub(crate) enum Progress {
-    /// It was answered, or brought nothing yet.
+    /// It was answered, or contained nothing whole.
     Goes,
     /// The reading has ended.
     Over(SessionEnd),
@@ -26,22 +26,14 @@ pub(crate) enum Progress {
     Unwritten,
 }
 
-/// Where the writer failed.
-#[derive(Clone, Copy)]
-pub(crate) enum Loss {
-    /// In the answer.
-    Answered,
-    /// Before it: nothing was answered.
-    Undone,
-}
-
-/// Answers the requests of many clients, whose frames a reader brings, by frames on a writer. All that the server hands out is handed on before
-/// each wait for more input, at each *now*, before a body that comes alone is answered, and at the end.
+/// Serves many clients: reads their requests from frames, and answers by frames on a writer. The writer is flushed
+/// before each wait for more input, at each *now*, before a body that comes alone is answered, and at the end.
 ///
-/// The session ends with the input; at a head that says nothing; where memory is refused for a part of a record; where the reader or the
-/// writer fails. At the first two each client that is there ends, the lowest number first. At all but the last what is held is then committed
-/// and handed on; where the writer has failed, it is committed. Behind a head that says nothing no byte is taken, and a steady reader is called
-/// no more often than bytes were taken, and once more.
+/// The session ends with the input; at an invalid head; if an allocation for a part of a record fails; if the reader
+/// or the writer fails. In the first two cases each present client ends, the lowest number first. Unless the writer
+/// has failed, held requests are then committed and answered, and the writer is flushed; if it has failed, they are
+/// committed. No byte is consumed after an invalid head. A steady reader is called at most once more than bytes were
+/// consumed.
 pub fn serve_clients<S: SharedResponder, R: Source + Drop, W: Sink>(
     server: &mut S,
     alloc: Global,
@@ -65,7 +57,7 @@ pub fn serve_clients<S: SharedResponder, R: Source + Drop, W: Sink>(
     close(server, &mut streams, writer, SessionEnd::ReadFault)
 }
 
-/// Waits for more input where nothing is read ahead, or takes the first of what is, and answers it.
+/// Waits for more input if nothing is read ahead; otherwise consumes the first part of it, and answers it.
 fn part<S: SharedResponder, R: Source + Drop, W: Sink>(
     server: &mut S,
     streams: &mut Streams,
@@ -90,7 +82,7 @@ fn part<S: SharedResponder, R: Source + Drop, W: Sink>(
     }
 }
 
-/// Hands all on, and waits for more input. Nothing is read behind a head that says nothing.
+/// Flushes, and waits for more input. Nothing is read after an invalid head.
 fn wait<S: SharedResponder, R: Source + Drop, W: Sink>(
     server: &mut S,
     streams: &Streams,
@@ -116,7 +108,7 @@ fn wait<S: SharedResponder, R: Source + Drop, W: Sink>(
     }
 }
 
-/// Answers the record in the frame of so many bytes at the front of what is read ahead, from where it stands.
+/// Answers the record in the frame of this length at the front of the read-ahead buffer, in place.
 fn answer_record<S: SharedResponder, R: Source + Drop, W: Sink>(
     server: &mut S,
     streams: &Streams,
@@ -146,7 +138,8 @@ fn answer_record<S: SharedResponder, R: Source + Drop, W: Sink>(
     }
 }
 
-/// Takes the first of what is read ahead, and answers what it asks. What could not be answered, since the writer failed before, is not taken.
+/// Consumes the first part of the read-ahead buffer, and answers it. If it could not be answered because the writer
+/// failed before, it is not consumed.
 fn take_part<S: SharedResponder, R: Source + Drop, W: Sink>(
     server: &mut S,
     streams: &mut Streams,
@@ -178,7 +171,7 @@ fn take_part<S: SharedResponder, R: Source + Drop, W: Sink>(
     }
 }
 
-/// Answers what the bytes brought.
+/// Answers what the bytes contained.
 fn answer<S: SharedResponder, W: Sink>(
     server: &mut S,
     arrival: Arrival<'_>,
@@ -203,7 +196,7 @@ fn answer<S: SharedResponder, W: Sink>(
     }
 }
 
-/// Answers a body, where it comes alone behind a *now*. Where the writer failed in it, nobody gets what is held.
+/// Answers a body; if it comes alone, after a *now*. If the writer failed in it, held replies are lost.
 fn answer_body<S: SharedResponder, W: Sink>(
     server: &mut S,
     client: u32,
@@ -225,7 +218,7 @@ fn answer_body<S: SharedResponder, W: Sink>(
     Ok(())
 }
 
-/// Answers a body that comes alone, behind a *now*.
+/// Answers a body that comes alone, after a *now*.
 fn answer_alone<S: SharedResponder, W: Sink>(
     server: &mut S,
     client: u32,
@@ -248,7 +241,7 @@ fn answer_alone<S: SharedResponder, W: Sink>(
     Ok(())
 }
 
-/// Answers the end of a client's stream. Where the writer failed in it, nobody gets what is held.
+/// Answers the end of a client's stream. If the writer failed in it, held replies are lost.
 fn answer_end<S: SharedResponder, W: Sink>(
     server: &mut S,
     client: u32,
@@ -267,7 +260,7 @@ fn answer_end<S: SharedResponder, W: Sink>(
     Ok(())
 }
 
-/// Commits what is open, writes what is held, and hands all on.
+/// Commits the open group, writes held replies, and flushes.
 fn make_now<S: SharedResponder, W: Sink>(server: &mut S, writer: &mut W) -> Result<(), Unwritten>
     requires ready { S.ready server.old }
     requires unbroken { (W.out writer.old).broken ≡ false }
@@ -278,7 +271,7 @@ fn make_now<S: SharedResponder, W: Sink>(server: &mut S, writer: &mut W) -> Resu
     writer.deliver()
 }
 
-/// Ends the session: the clients that are there, where they end with it; then *now*.
+/// Ends the session: first the present clients, if they end with it, then a *now*.
 fn close<S: SharedResponder, W: Sink>(
     server: &mut S,
     streams: &mut Streams,
@@ -301,7 +294,7 @@ fn close<S: SharedResponder, W: Sink>(
     }
 }
 
-/// The ends of the clients that are there, where they end with the session.
+/// Ends the present clients, if they end with the session.
 fn end_clients<S: SharedResponder, W: Sink>(
     server: &mut S,
     streams: &mut Streams,
@@ -321,7 +314,7 @@ fn end_clients<S: SharedResponder, W: Sink>(
     }
 }
 
-/// The ends of all clients that are there, the lowest number first.
+/// Ends all present clients, the lowest number first.
 fn end_all<S: SharedResponder, W: Sink>(
     server: &mut S,
     streams: &mut Streams,
@@ -339,7 +332,7 @@ fn end_all<S: SharedResponder, W: Sink>(
     Ok(())
 }
 
-/// The end of the first client that is there.
+/// Ends the first client.
 fn end_next<S: SharedResponder, W: Sink>(
     server: &mut S,
     streams: &mut Streams,

@@ -5,11 +5,12 @@
 pub enum SessionEnd {
     /// The input ended between two frames.
     Closed,
-    /// The input ended inside a frame. What came of it counts.
+    /// The input ended inside a frame. The part of it that came counts.
     Cut,
-    /// A head said nothing: a length above `MAX_FRAME_BYTES`, or one above 0 for all clients. What follows it was not taken.
+    /// A head was invalid: a length above `MAX_FRAME_BYTES`, or one above 0 for all clients. Nothing after it was
+    /// consumed.
     Unknown,
-    /// Memory was refused for a part of a record, or for who comes.
+    /// An allocation for a part of a record or for a new client failed.
     Memory,
     /// The reader failed, or `MAX_RECORDS` bytes and calls of it were used up.
     ReadFault,

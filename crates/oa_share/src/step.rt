@@ -1,20 +1,20 @@
-//! What a client's bytes bring.
+//! The items in a client's bytes.
 ghost use Rattle.std.specs.Prelude.{◌≡◌, drop};
 ghost use Rattle.oa_share.specs.Steps.{body_of};
 
 use oa_frame::End;
 
-/// A record that is whole: the length of its body, and the body.
+/// A whole record: the length of its body, and the body.
 #[derive(Drop)]
 pub enum WholeRecord<'a> {
-    /// It stands in the bytes that came last.
+    /// It is in the bytes that came last.
     Here(&'a [u8]),
-    /// It came in parts, and was gathered.
+    /// It came in parts, and was put together.
     Gathered(Vec<u8>),
 }
 
 impl WholeRecord<'_> {
-    /// The body of the record, which is never empty.
+    /// Returns the body of the record, which is never empty.
     pub fn body(&self) -> &[u8]
         ensures { result.now ≡ body_of self.now }
     {
@@ -25,17 +25,17 @@ impl WholeRecord<'_> {
     }
 }
 
-/// What follows a length.
+/// Returns the bytes after a length.
 fn behind_length(bytes: &[u8]) -> &[u8]
     ensures { result.now ≡ drop 4 bytes.now }
 {
     &bytes[bytes.len().min(4)..]
 }
 
-/// What the first bytes of some brought.
+/// The first item in some bytes.
 #[derive(Drop)]
 pub enum What<'a> {
-    /// Nothing that is whole.
+    /// Nothing whole.
     Nothing,
     /// A body.
     Body(WholeRecord<'a>),
@@ -46,8 +46,8 @@ pub enum What<'a> {
 /// A step through a client's bytes.
 #[derive(Drop)]
 pub struct ClientStep<'a> {
-    /// How many bytes were taken.
+    /// How many bytes were consumed.
     pub taken: usize,
-    /// What they brought, the last of them.
+    /// The item that the last of them completes.
     pub what: What<'a>,
 }

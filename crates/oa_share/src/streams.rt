@@ -1,4 +1,4 @@
-//! The frames of many clients, taken apart.
+//! Demultiplexing the frames of many clients.
 ghost use Rattle.std.specs.Prelude.{◌≡◌, ◌<◌, ◌≤◌, ◌+◌, ◌++◌, [], false, length, take, IfOk, IfSome, OnErr};
 ghost use Rattle.oa_share.specs.Frames.{InHead, SaysSome, begun};
 ghost use Rattle.oa_share.specs.Marks.{named};
@@ -12,38 +12,38 @@ use oa_frame::End;
 use std::alloc::{AllocError, Global};
 use std::marker::Model;
 
-/// What the first bytes of some frames brought.
+/// The first item in some frames.
 #[derive(Drop)]
 pub enum Arrival<'a> {
-    /// Nothing that is whole.
+    /// Nothing whole.
     Nothing,
     /// A body of this client.
     Body(u32, WholeRecord<'a>),
     /// The end of this client's stream.
     Ends(u32, End),
-    /// What is held of all is to be committed and answered now.
+    /// *Now*: held requests of all clients are to be committed and answered.
     Now,
-    /// A head that says nothing: neither does all that follows it.
+    /// An invalid head: everything after it is ignored.
     Unknown,
 }
 
-/// The first bytes of some frames, taken.
+/// The consumed first bytes of some frames.
 #[derive(Drop)]
 pub struct Portion<'a> {
-    /// How many bytes were taken.
+    /// How many bytes were consumed.
     pub count: usize,
-    /// What they brought, the last of them.
+    /// The item that the last of them completes.
     pub arrived: Arrival<'a>,
 }
 
-/// One stream of the frames of many clients, taken apart as its bytes come.
+/// One stream of the frames of many clients, demultiplexed as its bytes come.
 #[derive(Drop)]
 pub struct Streams {
     clients: Clients,
-    /// What came of a head that is not whole.
+    /// The bytes of an incomplete head.
     head: [u8; 8],
     have: usize,
-    /// How many bytes of a client's frame are still to come.
+    /// The client of a frame, and how many of its bytes are still to come.
     client: u32,
     left: u32,
     broken: bool,
@@ -61,7 +61,7 @@ impl Model for Streams {
 }
 
 impl Streams {
-    /// A stream of which nothing came yet. Takes no memory.
+    /// Makes a stream of which nothing has come. Allocates nothing.
     pub fn new(alloc: Global) -> Streams
         ensures { result ≡ starting }
     {
@@ -75,8 +75,9 @@ impl Streams {
         }
     }
 
-    /// Takes the first of these bytes, up to the last that brings something or that of a head that says nothing, or all of them. Behind such a
-    /// head all is passed over. Err where memory is refused, which is among a client's bytes: nothing is taken then, and it may be tried again.
+    /// Consumes bytes up to the end of the first item (a record, a client's end, a *now*, an invalid head), or all of
+    /// them. After an invalid head everything is ignored. Err: an allocation for a client's bytes failed; nothing was
+    /// consumed, and the call may be repeated.
     pub fn take<'a>(&mut self, bytes: &'a [u8]) -> Result<Portion<'a>, AllocError>
         requires { 0 < length bytes.now }
         ensures taken { IfOk result (λ t. TakesSome t.count (length bytes.now)) }
@@ -97,9 +98,9 @@ impl Streams {
         Ok(self.take_head(bytes))
     }
 
-    /// The client and the length of the frame at the front of these bytes, its head included, where the frame stands there whole and brings one
-    /// whole record of a client that is there and has sent no part of another; None for all else. What it brings may then be answered from
-    /// where it stands: as a stream this one is behind it as it was before it.
+    /// Returns the client and the length, with its head, of the frame at the front of these bytes, if the frame is
+    /// whole and contains one whole record of a present client that is between two records; otherwise None. Such a
+    /// record can be answered in place: the stream after it is as it was before it.
     pub fn whole_record(&self, bytes: &[u8]) -> Option<(u32, usize)>
         ensures { IfSome result (λ f. BringsRecord self.now bytes.now f.0 f.1) }
     {
@@ -114,36 +115,37 @@ impl Streams {
         }
     }
 
-    /// How many clients are there.
+    /// Returns the number of clients.
     pub(crate) fn count(&self) -> usize
         ensures { result ≡ length self.now.clients }
     {
         self.clients.len()
     }
 
-    /// A fact and no work: the numbers of the clients rise.
+    /// Does nothing; its contract states that the numbers of the clients rise.
     pub(crate) fn numbers_rise(&self)
         ensures { Rises self.now.clients }
     {
         self.clients.numbers_rise();
     }
 
-    /// The end of the stream of the client with the lowest number, with which it goes, for when no more bytes come: `Closed` between two
-    /// records, `Cut` inside one; no end where it has had it before. None where nobody is there. Takes no memory.
+    /// Removes the client with the lowest number, after the last bytes have come, and returns how its stream ended:
+    /// `Closed` between two records, `Cut` inside one, no end if it had ended before. None if there is no client.
+    /// Allocates nothing.
     pub fn last(&mut self) -> Option<(u32, Option<End>)>
         ensures { EndsLowest result self.old.clients self.new.clients }
     {
         self.clients.end_lowest()
     }
 
-    /// Whether a head that says nothing was read.
+    /// Returns whether an invalid head was read.
     pub(crate) fn reads_nothing(&self) -> bool
         ensures { result ≡ reads_nothing self.now.place }
     {
         self.broken
     }
 
-    /// How the session ends where no more bytes come.
+    /// Returns how the session ends if no more bytes come.
     pub(crate) fn end_of_input(&self) -> SessionEnd
         ensures { result ≡ input_end self.now.place }
     {
@@ -160,7 +162,7 @@ impl Streams {
         }
     }
 
-    /// The same among a client's bytes.
+    /// Consumes bytes within a client's frame.
     fn take_within<'a>(&mut self, bytes: &'a [u8]) -> Result<Portion<'a>, AllocError>
         requires some { 0 < length bytes.now }
         requires within { IsClients self.old.place }
@@ -180,7 +182,7 @@ impl Streams {
         })
     }
 
-    /// The same in a head.
+    /// Consumes bytes within a head.
     fn take_head<'a>(&mut self, bytes: &'a [u8]) -> Portion<'a>
         requires some { 0 < length bytes.now }
         requires head { IsHeads self.old.place }
@@ -204,7 +206,7 @@ impl Streams {
         Portion { count, arrived }
     }
 
-    /// What a head that is whole brings.
+    /// Returns the item of a whole head.
     fn begin<'a>(&mut self, head: FrameHead) -> Arrival<'a>
         requires some { SaysSome head }
         requires head { self.old.place ≡ InHead [] }
@@ -227,7 +229,8 @@ impl Streams {
     }
 }
 
-/// The client and the length of the frame at the front of these bytes, where it stands there whole and brings one whole record.
+/// Returns the client and the length of the frame at the front of these bytes, if it is whole and contains one whole
+/// record.
 fn record_frame(bytes: &[u8]) -> Option<(u32, usize)>
     ensures { IfSome result (λ f. IsRecordFrame bytes.now f.0 f.1) }
 {
@@ -244,7 +247,7 @@ fn record_frame(bytes: &[u8]) -> Option<(u32, usize)>
     Some((client, 8 + count))
 }
 
-/// The same in a client's name.
+/// Returns the item with its client's number.
 #[tactic(auto, unfolding(crate::specs::Marks::named))]
 fn of_client<'a>(client: u32, what: What<'a>) -> Arrival<'a>
     ensures brings { arrived result ≡ named client (brought what.entry) }
@@ -257,7 +260,7 @@ fn of_client<'a>(client: u32, what: What<'a>) -> Arrival<'a>
     }
 }
 
-/// What the end of a client's stream brings, in its name.
+/// Returns the end of a client's stream with its number.
 #[tactic(auto, unfolding(crate::specs::Marks::named))]
 fn last_of<'a>(client: u32, why: Option<End>) -> Arrival<'a>
     ensures brings { arrived result ≡ named client (brought_last why) }
@@ -269,7 +272,7 @@ fn last_of<'a>(client: u32, why: Option<End>) -> Arrival<'a>
     }
 }
 
-/// A head of which so many bytes came, and these behind them.
+/// Returns a head after more of its bytes have come.
 fn filled(mut head: [u8; 8], have: usize, part: &[u8]) -> [u8; 8]
     requires { have + length part.now ≤ 8 }
     ensures head { take (have + length part.now) result ≡ take have head ++ part.now }

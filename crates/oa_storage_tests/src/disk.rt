@@ -1,4 +1,4 @@
-//! Disks in memory, crashed at each moment, and what the other disks refuse.
+//! Disks in memory that crash at each point in time, and the errors of the other disks.
 use crate::moments::begun_at;
 use oa_disk::{DeviceFault, Disk, FuseDisk, MemoryDisk, NoDisk, Tear, flip, write_then_flip};
 use std::alloc::Global;
@@ -15,10 +15,10 @@ enum Kind {
 
 use Kind::{Read, Sync, Write};
 
-/// A call, its place, and the bytes that it writes or gives.
+/// A call, its offset, and the bytes that it writes or reads.
 type Step = (Kind, u64, &'static [u8]);
 
-/// Writes that overlap between syncs, writes that lie apart, and writes that no sync follows.
+/// Writes that overlap between syncs, writes that do not overlap, and writes without a sync after them.
 const SCRIPT: [Step; 12] = [
     (Write, 0, &[1, 2, 3, 4]),
     (Read, 2, &[3]),
@@ -38,13 +38,13 @@ const SCRIPT: [Step; 12] = [
     (Write, 14, &[41, 42]),
 ];
 
-/// What the disk holds after the script.
+/// The contents of the disk after the script.
 const LAST: [u8; SIZE] = [30, 2, 5, 6, 9, 10, 11, 12, 21, 22, 23, 24, 25, 26, 41, 42];
 
-/// A byte that a call writes: the number of the call, from 1, the place, and the byte.
+/// A byte that a call writes: the number of the call, from 1, the offset, and the byte.
 type Written = (u64, usize, u8);
 
-/// The bytes that the script writes, one by one.
+/// All bytes that the script writes, in order.
 const WRITTEN: [Written; 24] = [
     (1, 0, 1),
     (1, 1, 2),
@@ -84,7 +84,7 @@ const TEARS: [Tear; 9] = [
     Tear::Cut(100),
 ];
 
-/// Reads as many bytes as wanted. A read that gives others is answered as a failed one.
+/// Reads these bytes. Returns a failed read if the disk has other bytes.
 fn gives<D: Disk>(disk: &mut D, at: u64, wanted: &[u8]) -> Result<(), DeviceFault> {
     let size = disk.size();
     let mut bytes = [0; SIZE];
@@ -110,7 +110,7 @@ fn puts<D: Disk>(disk: &mut D, at: u64, bytes: &[u8]) -> Result<(), DeviceFault>
     disk.write_at(at, bytes)
 }
 
-/// Makes one call, where it lies inside the disk.
+/// Makes one call if its range is inside the disk.
 fn make<D: Disk>(disk: &mut D, step: Step) -> Result<(), DeviceFault> {
     let (kind, at, bytes) = step;
     match kind {
@@ -120,7 +120,7 @@ fn make<D: Disk>(disk: &mut D, step: Step) -> Result<(), DeviceFault> {
     }
 }
 
-/// Makes the calls in order, up to the first that fails, and says how many succeeded.
+/// Makes the calls in order, up to the first that fails, and returns how many succeeded.
 fn play<D: Disk>(disk: &mut D, steps: &[Step]) -> u64 {
     let mut made = 0u64;
     for step in steps {
@@ -132,10 +132,10 @@ fn play<D: Disk>(disk: &mut D, steps: &[Step]) -> u64 {
     made
 }
 
-/// A call, its answer, and the count of failures after it.
+/// A call, its result, and the count of failures after it.
 type Row = (Step, Result<(), DeviceFault>, u64);
 
-/// Whether each call has its answer and its count.
+/// Returns whether each call has its result and its count.
 fn answers<D: Disk>(disk: &mut D, rows: &[Row]) -> bool {
     for (step, wanted, failures) in rows {
         if make(disk, *step) != *wanted || disk.failures() != *failures {
@@ -145,7 +145,7 @@ fn answers<D: Disk>(disk: &mut D, rows: &[Row]) -> bool {
     true
 }
 
-/// What the tear makes of a byte, the number of whose write among the pending bytes is that.
+/// Returns the byte that the tear leaves of a pending write with this number among the pending bytes.
 fn torn_byte(before: u8, written: u8, tear: Tear, number: u64) -> u8 {
     match tear {
         Tear::Lost => before,
@@ -155,8 +155,8 @@ fn torn_byte(before: u8, written: u8, tear: Tear, number: u64) -> u8 {
     }
 }
 
-/// The disk after a crash, made byte by byte: what was written up to the last sync that had ended, and then what the tear
-/// makes of the bytes of the calls that had begun.
+/// Returns the disk after a crash, computed byte by byte: the bytes written before the last sync that ended, and then
+/// those that the tear leaves of the calls that had begun.
 fn image_left(written: &[Written], synced: u64, moment: u64, tear: Tear) -> [u8; SIZE] {
     let begun = begun_at(moment);
     let mut image = [0; SIZE];
@@ -174,10 +174,10 @@ fn image_left(written: &[Written], synced: u64, moment: u64, tear: Tear) -> [u8;
     image
 }
 
-/// The moments at which the script's syncs have ended, and their calls.
+/// The points in time at which the syncs of the script end, and the numbers of their calls.
 const SYNCS: [(u64, u64); 3] = [(6, 3), (12, 6), (20, 10)];
 
-/// The last of these syncs that has ended at a moment.
+/// Returns the call of the last of these syncs that has ended at a point in time, or 0.
 fn synced_at(syncs: &[(u64, u64)], moment: u64) -> u64 {
     let mut last = 0u64;
     for (ended, call) in syncs {
@@ -188,7 +188,7 @@ fn synced_at(syncs: &[(u64, u64)], moment: u64) -> u64 {
     last
 }
 
-/// Whether the disk holds those bytes.
+/// Returns whether the disk has these contents.
 fn holds(disk: &MemoryDisk, wanted: &[u8]) -> bool {
     match disk.bytes() {
         Ok(bytes) => bytes.as_slice() == wanted,
@@ -196,7 +196,7 @@ fn holds(disk: &MemoryDisk, wanted: &[u8]) -> bool {
     }
 }
 
-/// Whether the disk, crashed at that moment, holds those bytes.
+/// Returns whether the disk has these contents after a crash at that point in time.
 fn leaves(disk: &MemoryDisk, moment: u64, tear: Tear, wanted: &[u8]) -> bool {
     if moment > disk.moments() {
         return false;
@@ -207,7 +207,8 @@ fn leaves(disk: &MemoryDisk, moment: u64, tear: Tear, wanted: &[u8]) -> bool {
     }
 }
 
-/// The first moment and tear at which a crash leaves other bytes than these writes and syncs do.
+/// Returns the first point in time and tear for which a crash leaves other contents than those computed from these
+/// writes and syncs.
 fn first_other_image(
     disk: &MemoryDisk,
     written: &[Written],
@@ -224,7 +225,7 @@ fn first_other_image(
     None
 }
 
-/// Some of these images, by hand.
+/// Some of these contents, computed by hand.
 const BY_HAND: [(u64, Tear, [u8; SIZE]); 5] = [
     (4, Tear::Lost, [0; SIZE]),
     (
@@ -245,7 +246,7 @@ const BY_HAND: [(u64, Tear, [u8; SIZE]); 5] = [
     (24, Tear::Kept, LAST),
 ];
 
-/// The first of those that a crash does not leave.
+/// Returns the first of these rows whose contents a crash does not leave.
 fn first_other_by_hand(disk: &MemoryDisk) -> Option<(u64, Tear)> {
     for (moment, tear, wanted) in BY_HAND {
         if !leaves(disk, moment, tear, &wanted) {
@@ -255,12 +256,13 @@ fn first_other_by_hand(disk: &MemoryDisk) -> Option<(u64, Tear)> {
     None
 }
 
-/// A disk with room for the script.
+/// Returns a disk whose log has capacity for the script.
 fn new(alloc: Global) -> Option<MemoryDisk> {
     MemoryDisk::new(alloc, SIZE, SCRIPT.len(), WRITTEN.len()).ok()
 }
 
-/// The first crash of a disk that has served the script, at any moment, that leaves other bytes; None where it has not served it.
+/// Plays the script, and returns the first crash of the disk that leaves other contents, or `None` if the script
+/// failed.
 fn torn(alloc: Global) -> Option<Option<(u64, Tear)>> {
     let mut disk = new(alloc)?;
     if play(&mut disk, &SCRIPT) != 12 || disk.moments() != 24 {
@@ -272,7 +274,7 @@ fn torn(alloc: Global) -> Option<Option<(u64, Tear)>> {
     }
 }
 
-/// Whether a crashed disk has no call behind it, and room for the same calls.
+/// Returns whether the disk after a crash has made no calls, and has capacity for the same calls again.
 fn starts_again(alloc: Global) -> Option<bool> {
     let mut disk = new(alloc)?;
     play(&mut disk, &SCRIPT);
@@ -291,7 +293,8 @@ const PAST_THE_ROOM: [Row; 7] = [
     ((Sync, 0, &[]), Err(DeviceFault::Write), 4),
 ];
 
-/// Whether a disk with room for three calls and five bytes counts what goes past it, and keeps what does not.
+/// Returns whether a disk with capacity for three calls and five bytes fails and counts the calls that exceed it, and
+/// makes the others.
 fn keeps_its_room(alloc: Global) -> bool {
     let Ok(mut disk) = MemoryDisk::new(alloc, 8, 3, 5) else {
         return false;
@@ -300,8 +303,8 @@ fn keeps_its_room(alloc: Global) -> bool {
     is_told && holds(&disk, &[1, 2, 3, 0, 4, 5, 0, 0])
 }
 
-/// Whether so many of the first calls pass, each of the others fails as its kind does, and the disk within has met the
-/// first alone.
+/// Returns whether the calls before this one succeed, all others fail with the error of their kind, and only the
+/// former reach the inner disk.
 fn blows_at(alloc: Global, first_failing: u64) -> Option<bool> {
     let mut disk = FuseDisk::new(new(alloc)?, first_failing);
     let passed = first_failing.saturating_sub(1).min(12);
@@ -320,7 +323,7 @@ fn blows_at(alloc: Global, first_failing: u64) -> Option<bool> {
     Some(good && disk.into_inner().moments() == passed.saturating_mul(2))
 }
 
-/// The first call from which on a fuse does otherwise.
+/// Returns the first call at which a fuse does not fail as it should.
 fn first_unblown(alloc: Global) -> Option<u64> {
     for first_failing in 0..15 {
         if blows_at(alloc, first_failing) != Some(true) {
@@ -330,7 +333,7 @@ fn first_unblown(alloc: Global) -> Option<u64> {
     None
 }
 
-/// Whether each call of a disk of no bytes succeeds.
+/// Returns whether each call of a disk of size 0 succeeds.
 fn is_of_no_bytes() -> bool {
     let mut disk = NoDisk::new();
     let is_read = disk.read_at(0, &mut []).is_ok();
@@ -343,14 +346,14 @@ fn a_fuse_passes_the_calls_before_it_on(rt: HostRuntime) {
     assert_eq!(rt; (first_unblown(rt.alloc()), is_of_no_bytes()), (None, true));
 }
 
-/// Three bytes and, behind a sync, their gate.
+/// Three bytes and, after a sync, their gate byte.
 const GATED: [Written; 4] = [(1, 5, 7), (1, 6, 8), (1, 7, 9), (3, 4, 1)];
 
-/// The moments at which the syncs of these four calls have ended.
+/// The points in time at which the syncs of these four calls end, and the numbers of their calls.
 const GATE_SYNCS: [(u64, u64); 2] = [(4, 2), (8, 4)];
 
-/// The first crash of a disk whose gate was opened that leaves other bytes; None where the gate is not opened, then closed, then left as it is
-/// since the room of the record is used up.
+/// Sets the gate byte, clears it, and then fails to set it because the log of the disk is full. Returns the first
+/// crash that leaves other contents, or `None` if a call has another result.
 fn gated(alloc: Global) -> Option<Option<(u64, Tear)>> {
     let mut disk = MemoryDisk::new(alloc, SIZE, 7, 16).ok()?;
     let is_made = write_then_flip(&mut disk, 5, &[7, 8, 9], 4, 1).is_ok() && disk.moments() == 8;
@@ -372,7 +375,8 @@ fn disks_in_memory(rt: HostRuntime) {
     assert_eq!(rt; (crashed, is_well), ((Some(None), Some(None)), true));
 }
 
-/// How many of so many crashes of a disk of that size leave its last byte, which was written and not brought to the device.
+/// Crashes a disk of this size `count` times. Returns how many crashes leave its last byte, which was written without
+/// a sync.
 fn crashes(alloc: Global, size: usize, count: u64) -> Option<u64> {
     let mut disk = MemoryDisk::new(alloc, size, 8, 16).ok()?;
     let last = disk.size().saturating_sub(1);
@@ -387,7 +391,8 @@ fn crashes(alloc: Global, size: usize, count: u64) -> Option<u64> {
     Some(kept)
 }
 
-/// A crash costs a copy of what was written: by two copies of the disk these would take some minutes.
+/// A crash costs a copy of the written bytes only. With two copies of the disk for each crash, the test would need
+/// minutes.
 #[test]
 fn thousands_of_crashes_of_a_large_disk(rt: HostRuntime) {
     assert_eq!(rt; crashes(rt.alloc(), 33_562_624, 5000), Some(5000));

@@ -1,10 +1,11 @@
-//! Paths that are disks or none, and why. Who holds a file, and what comes of one that gives no bytes, is shown by the cases of the program.
+//! Paths that can be opened as disks, and the errors of the others. The tests of the program check locks on files,
+//! and files whose reads fail.
 use oa_disk::FileDisk;
 use std::fs;
 use std::io::{self, ErrorKind};
 use std::rt::HostRuntime;
 
-/// The fault of an opening.
+/// Returns the error of an open.
 fn refusal(disk: io::Result<FileDisk>) -> Option<ErrorKind> {
     match disk {
         Ok(_) => None,
@@ -16,8 +17,8 @@ const THERE: &str = "oa_disk_there";
 
 const LARGE: &str = "oa_disk_large";
 
-/// With how many bytes a disk is made where it is not opened, and why it is none. /proc/self/comm is a regular file to which nothing can be
-/// brought: its sync is an error. What could not be filled is removed again.
+/// A path, the size of the disk if it is created and not opened, and the error. A sync of /proc/self/comm, a regular
+/// file, fails. A file that cannot be filled is removed again.
 const PATHS: [(&str, Option<u64>, Option<ErrorKind>); 13] = [
     (THERE, Some(4), None),
     (THERE, None, None),
@@ -34,7 +35,7 @@ const PATHS: [(&str, Option<u64>, Option<ErrorKind>); 13] = [
     (LARGE, None, Some(ErrorKind::NotFound)),
 ];
 
-/// The first of the paths that is opened, made or refused otherwise.
+/// Returns the first path with another result.
 fn first_other(rt: &HostRuntime) -> Option<&'static str> {
     for (path, size, wanted) in PATHS {
         let disk = match size {

@@ -1,19 +1,21 @@
-//! A disk that lacks one byte of a store is refused before it is called. What a format and an upgrade leave, where they are stopped and where they
-//! fail, is shown by the cases of the program.
+//! A disk that is one byte too small for a store is refused before its first call. The tests of the program check
+//! format and upgrade with crashes and failures.
 use oa_disk::MemoryDisk;
 use oa_store::{FormatFault, UpgradeFault, format, laws, upgrade};
 use std::alloc::Global;
 use std::rt::HostRuntime;
 
-/// The least size of a store, and how many bytes a bank of it has.
+/// The least size of a store with banks of `BANK` bytes.
 const SIZE: usize = 75_505_664;
 
 const BANK: u32 = 20_971_520;
 
-/// What a format of zeros answers and then an upgrade, and the moments of the disk behind each.
+/// The errors of a format of a disk of zeros and of an upgrade after it, and the points in time of the disk after
+/// each.
 type Answers = (Option<FormatFault>, u64, Option<UpgradeFault>, u64);
 
-/// What an upgrade reads of a store of format 2 is its first byte, the selector and the head, behind a sync.
+/// An upgrade of a store of format 2 makes four calls: a sync, and reads of the first byte, the selector and the
+/// head.
 const SIZES: [(usize, Answers); 2] = [
     (SIZE, (None, 16, Some(UpgradeFault::AlreadyNew), 24)),
     (
@@ -35,7 +37,7 @@ fn answers(alloc: Global, size: usize) -> Option<Answers> {
     Some((of_format, behind_it, of_upgrade, disk.moments()))
 }
 
-/// The first of the sizes that is answered otherwise.
+/// Returns the first size with another result.
 fn first_other(alloc: Global) -> Option<usize> {
     for (size, wanted) in SIZES {
         if answers(alloc, size) != Some(wanted) {

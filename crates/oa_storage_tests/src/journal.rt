@@ -1,4 +1,5 @@
-//! Banks on disks in memory, as a store never fills them: up to the last byte, and past a fault of the disk.
+//! Banks on disks in memory, used as a store never uses them: filled to the last byte, and used after a failure of
+//! the disk.
 ghost use Rattle.std.specs.Prelude.{◌≡◌, ◌+◌, ◌≤◌, false, length, IfOk};
 ghost use Rattle.oa_table.specs.Tables.{first_table};
 ghost use Rattle.oa_journal.specs.Append.{IsAt};
@@ -12,12 +13,12 @@ use oa_table::Table;
 use std::alloc::Global;
 use std::rt::HostRuntime;
 
-/// How many bytes the bank's body has, which begins at 0; its head stands behind it.
+/// The size in bytes of the body of the bank, which begins at 0; its head is after it.
 const BODY: u32 = 20_971_520;
 
 const DISK: usize = 20_971_552;
 
-/// Writes the bank of a library and the table at first.
+/// Writes the bank of a library and of the table with no objects.
 fn begin(disk: &mut MemoryDisk, library: &[u8], table: &Table) -> Result<Bank, DeviceFault>
     requires few { length library.now ≤ 300 }
     requires first { table.now ≡ first_table }
@@ -31,7 +32,7 @@ fn begin(disk: &mut MemoryDisk, library: &[u8], table: &Table) -> Result<Bank, D
     Ok(bank)
 }
 
-/// A bank on its disk.
+/// A bank and its disk.
 #[derive(Drop)]
 struct Tried {
     alloc: Global,
@@ -41,7 +42,7 @@ struct Tried {
 }
 
 impl Tried {
-    /// With a library of 7 bytes and the table at first, in three calls of its disk.
+    /// Makes a bank with a library of 7 bytes and the table with no objects, in three calls of its disk.
     fn new(alloc: Global, calls: usize) -> Option<Tried> {
         let mut disk = MemoryDisk::new(alloc, DISK, calls, 21_000_000).ok()?;
         let bank = begin(&mut disk, b"library", &Table::new(alloc)).ok()?;
@@ -49,7 +50,7 @@ impl Tried {
         Some(Tried { alloc, disk, bank })
     }
 
-    /// Adds a group whose batch has so many bytes, five at least.
+    /// Adds a group whose buffer has this many bytes, six at least.
     fn add(&mut self, count: usize) -> Result<(), AppendFault> {
         match vec![in self.alloc; 0; count] {
             Ok(mut batch) if batch.len() > 5 => self.bank.append(&mut self.disk, &mut batch),
@@ -58,7 +59,7 @@ impl Tried {
     }
 }
 
-/// How long a batch is, how often it is added, what is answered, and the room behind it.
+/// The length of a group's buffer, how often it is added, the result, and the free space after it.
 const FRAMES: [(usize, u32, Result<(), AppendFault>, u32); 4] = [
     (26, 1, Ok(()), 20_971_479),
     (4_000_000, 5, Ok(()), 971_479),
@@ -66,7 +67,8 @@ const FRAMES: [(usize, u32, Result<(), AppendFault>, u32); 4] = [
     (971_478, 1, Ok(()), 1),
 ];
 
-/// The first of these batches that is answered otherwise; None where the new bank has another room.
+/// Returns the first of these lengths with another result, or `None` if the free space of the new bank is not as
+/// expected.
 fn filled(alloc: Global) -> Option<Option<usize>> {
     let mut tried = Tried::new(alloc, 50)?;
     if tried.bank.room() != 20_971_505 || tried.bank.size() != BODY {
@@ -84,7 +86,8 @@ fn filled(alloc: Global) -> Option<Option<usize>> {
     Some(None)
 }
 
-/// Whether a bank whose disk has room for the calls of one group fails at the next one, and is stopped from then on.
+/// Returns whether a bank on a disk with capacity for the calls of one group fails at the next group, and is stopped
+/// from then on.
 fn stops(alloc: Global) -> Option<bool> {
     let mut tried = Tried::new(alloc, 7)?;
     let is_added = tried.add(26) == Ok(());

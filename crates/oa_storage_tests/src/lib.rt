@@ -1,8 +1,8 @@
-//! Tests of what is kept over a stop: of disks, and over those in memory of the journal and the store.
+//! Tests of disks, and of the journal and the store on disks in memory, with crashes.
 //!
-//! Its contract: that of every function, to be safe; what a stop may leave is tried at moments of a disk's clock.
+//! Contract: safety, as of every function; the tests crash a disk at points of its clock.
 //!
-//! What stands on it: no crate.
+//! Used by no crate.
 #![tactic(auto)]
 
 #[cfg(test)]

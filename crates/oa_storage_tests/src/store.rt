@@ -1,5 +1,5 @@
-//! An open store takes no memory. What a stop at any moment leaves, and what comes of calls of the device that fail, is shown by the cases of the
-//! program, and over disks in memory by oa_history_tests.
+//! An open store allocates nothing. The tests of the program, and those of oa_history_tests on disks in memory, check
+//! crashes at any point and calls of the device that fail.
 ghost use Rattle.std.specs.Prelude.{◌≡◌, true};
 ghost use Rattle.oa_image.specs.Tables.{is_numbered};
 
@@ -10,22 +10,22 @@ use oa_table::Table;
 use std::alloc::Global;
 use std::rt::HostRuntime;
 
-/// What a store keeps as its library: here any bytes.
+/// The library of the store. Any bytes are valid here.
 const LIBRARY: &[u8; 7] = b"library";
 
-/// The event that makes object 1, in its batch.
+/// The buffer of a group with the log record that creates object 1.
 const CREATE: [u8; 26] = [
     0, 0, 0, 0, 1, 1, 0, 0, 0, 0x44, 0x33, 0x22, 0x11, 0x66, 0x55, 0x88, 0x77, 0x99, 0xaa, 0xbb,
     0xcc, 0xdd, 0xee, 0xff, 3, 0,
 ];
 
-/// The event that puts 7 into its property, in its batch.
+/// The buffer of a group with the log record that puts 7 into a property of object 1.
 const PUT: [u8; 38] = [
     0, 0, 0, 0, 3, 1, 0, 0, 0, 0x44, 0x33, 0x22, 0x11, 0x66, 0x55, 0x88, 0x77, 0x99, 0xaa, 0xbb,
     0xcc, 0xdd, 0xee, 0xff, 2, 1, 0, 0, 0, 0, 0, 3, 0, 7, 0, 0, 0, 0,
 ];
 
-/// Adds the group of a batch.
+/// Adds the group in this buffer.
 fn add<D: Disk>(store: &mut Store<D>, batch: &mut [u8]) -> bool {
     batch.len() > 5 && batch.len() < store.room() as usize && store.commit(batch).is_ok()
 }
@@ -40,7 +40,7 @@ fn put<D: Disk>(store: &mut Store<D>) -> bool {
     add(store, &mut batch)
 }
 
-/// A checkpoint of that table.
+/// Makes a checkpoint of this table.
 fn settle<D: Disk>(store: &mut Store<D>, table: &Table) -> bool
     requires { is_numbered table.now ≡ true }
 {
@@ -49,7 +49,8 @@ fn settle<D: Disk>(store: &mut Store<D>, table: &Table) -> bool
     is_small && store.checkpoint(table).is_ok()
 }
 
-/// Whether an object is made and its property put, then a checkpoint made, and the property put once more.
+/// Creates an object, puts its property, makes a checkpoint, and puts the property again. Returns whether each call
+/// succeeds.
 fn is_written<D: Disk>(store: &mut Store<D>, table: &Table) -> bool
     requires { is_numbered table.now ≡ true }
 {
@@ -57,8 +58,9 @@ fn is_written<D: Disk>(store: &mut Store<D>, table: &Table) -> bool
     is_begun && settle(store, table) && put(store)
 }
 
-/// The same of a new store, once it is open; None where it is not made. Memory is taken before that alone: `tests/program/test_raw_memory.py` refuses all
-/// from each call of the allocator on.
+/// Makes and opens a store, and then calls `is_written`. Returns `None` if the store is not made. Only the calls
+/// before `is_written` allocate: `tests/program/test_raw_memory.py` fails all allocations from each call of the
+/// allocator on.
 fn written(alloc: Global) -> Option<bool> {
     let mut disk = MemoryDisk::new(alloc, 75_505_664, 100, 2000).ok()?;
     format(alloc, &mut disk, LIBRARY, 20_971_520).ok()?;

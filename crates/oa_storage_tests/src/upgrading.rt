@@ -1,16 +1,18 @@
-//! A store of format 1 whose upgrade is stopped at each of its moments with each tear, and whose inspection is. What is left holds the same library and
-//! the same table, in the old format or in the new one, and the upgrade goes on from there. Memory is ample.
+//! Crashes during the upgrade and during the inspection of a store of format 1, at each point in time with each tear.
+//! Each crash leaves the same library and the same table, in the old format or in the new one, and an upgrade
+//! completes from there. All allocations succeed.
 use oa_disk::{Disk, MemoryDisk, Tear};
 use oa_store::{UpgradeFault, inspect, upgrade};
 use std::alloc::Global;
 use std::rt::HostRuntime;
 
-/// The size of the disk, which is that of a store of format 2 with banks of so many bytes.
+/// The size of the disk: that of a store of format 2 with banks of `BANK` bytes.
 const SIZE: usize = 75_505_664;
 
 const BANK: u32 = 20_971_520;
 
-/// A store of format 1: the first byte, the head of bank 0, its library, the snapshot of no objects, and the group that creates object 1.
+/// A store of format 1: the first byte, the head of bank 0, its library, the snapshot of no objects, and the group
+/// that creates object 1.
 const PARTS: [(u64, &[u8]); 5] = [
     (0, &[1]),
     (
@@ -48,7 +50,7 @@ fn lay(disk: &mut MemoryDisk, at: u64, bytes: &[u8]) -> bool {
         && disk.write_at(at, bytes).is_ok()
 }
 
-/// A disk that holds the store of format 1.
+/// Returns a disk with the store of format 1.
 fn old_store(alloc: Global) -> Option<MemoryDisk> {
     let mut disk = MemoryDisk::new(alloc, SIZE, 60, 1000).ok()?;
     for (at, bytes) in PARTS {
@@ -59,7 +61,7 @@ fn old_store(alloc: Global) -> Option<MemoryDisk> {
     disk.crash(disk.moments(), Tear::Kept).ok()
 }
 
-/// Whether that library and object 1 are read.
+/// Returns whether the library and object 1 are read from the store.
 fn is_held(alloc: Global, disk: &mut MemoryDisk) -> bool {
     match inspect(alloc, disk) {
         Ok((library, table)) => {
@@ -69,7 +71,8 @@ fn is_held(alloc: Global, disk: &mut MemoryDisk) -> bool {
     }
 }
 
-/// Whether they are read of what a stop has left, and again once the upgrade was made, where it was not.
+/// Returns whether the library and object 1 are read after a crash, and again after an upgrade, which fails only if
+/// the store already has format 2.
 fn goes_on(alloc: Global, disk: &mut MemoryDisk) -> bool {
     if !is_held(alloc, disk) {
         return false;
@@ -80,7 +83,8 @@ fn goes_on(alloc: Global, disk: &mut MemoryDisk) -> bool {
     }
 }
 
-/// How many moments the disk has, and at how many of them some tear leaves something else; None where memory is refused.
+/// Crashes the disk at each point in time with each tear. Returns the last point, and how many crashes lose
+/// something, or `None` if an allocation fails.
 fn stopped(alloc: Global, disk: &MemoryDisk) -> Option<(u64, u64)> {
     let mut wrong = 0_u64;
     for moment in 0..=disk.moments() {
@@ -93,14 +97,14 @@ fn stopped(alloc: Global, disk: &MemoryDisk) -> Option<(u64, u64)> {
     Some((disk.moments(), wrong))
 }
 
-/// The same of an upgrade; None where it fails, too.
+/// Crashes an upgrade at each point in time. Returns `None` also if the upgrade fails.
 fn stopped_upgrading(alloc: Global) -> Option<(u64, u64)> {
     let mut disk = old_store(alloc)?;
     upgrade(alloc, &mut disk, BANK).ok()?;
     stopped(alloc, &disk)
 }
 
-/// And of an inspection.
+/// Crashes an inspection at each point in time.
 fn stopped_inspecting(alloc: Global) -> Option<(u64, u64)> {
     let mut disk = old_store(alloc)?;
     if !is_held(alloc, &mut disk) {
@@ -109,8 +113,9 @@ fn stopped_inspecting(alloc: Global) -> Option<(u64, u64)> {
     stopped(alloc, &disk)
 }
 
-/// Of the fourteen calls of an upgrade nine are those of an inspection: a sync and reads of the first byte, the selector, the head
-/// three times, its parts and the groups. Behind them come a head, a body, a sync, the selector and a sync.
+/// Nine of the fourteen calls of an upgrade are those of an inspection: a sync, and reads of the first byte, the
+/// selector, the head three times, its parts and the groups. After them it writes a head and a body, syncs, writes
+/// the selector, and syncs.
 #[test]
 fn an_upgrade_is_stopped_at_each_moment(rt: HostRuntime) {
     assert_eq!(rt; stopped_upgrading(rt.alloc()), Some((28, 0)));

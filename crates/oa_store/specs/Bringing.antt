@@ -1,4 +1,4 @@
--- What was found of a store of format 1, and the disks that hold it. (This project's choice.)
+-- A store of format 1 that was found, and the disks that hold it. (This project's choice.)
 use Rattle.std.specs.Prelude.{◌≡◌, ℕ, ◌+◌, ◌≤◌, IsTrue, length}
 use Rattle.oa_disk.specs.Disk.{NothingPending, Only}
 use Rattle.oa_disk.specs.declared.disk.Disk.{Ghosts}
@@ -8,17 +8,17 @@ use Rattle.oa_model.specs.Limits.{max_library_bytes}
 use Rattle.oa_store.specs.declared.upgrading.OldStore.{OldStore}
 use Rattle.oa_store.specs.Stores.{IsStoreAt}
 
--- The store of format 1 on a disk was found. Its library is one that a server takes, and its table one that a body of
--- this size has room for.
+-- The store of format 1 on a disk was found. A server accepts its library, and its table fits into a body of this
+-- size.
 pub record FindsOld {D : Type 0} (g : Ghosts D) (size : ℕ) (old new : D) (found : OldStore) : Type 0 where
   pub size_is : found.size ≡ size
-  -- by at most the calls of a reading, as `inspect` makes them
+  -- at most the calls of a reading, as `inspect` makes them
   pub store : IsTrue (g.is_honest new)
       → (gate : ℕ) × IsStoreAt One found.chosen gate found.library.items found.table (g.contents old)
       × (g.moment new + length found.library.items ≤ g.moment old + (16 + gate))
   pub short : length found.library.items ≤ max_library_bytes
   pub fits : FitsBank size found.table
-  -- So it is that store in each image, and that one alone, and it is what a read gives.
+  -- so each image is that store and no other, and it is what a read returns
   pub synced : IsTrue (g.is_honest new) → Only (g.contents old) (g.image new)
   pub contents : IsTrue (g.is_honest new) → g.contents new ≡ g.contents old
 

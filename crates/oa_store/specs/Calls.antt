@@ -4,11 +4,11 @@ use Rattle.std.specs.Int.{div_ceil}
 use Rattle.oa_table.specs.Tables.{TableValue, first_table}
 use Rattle.oa_journal.specs.Banks.{first_gate}
 
--- how many bytes of a body are written at once, but for the last piece
+-- how many bytes of a body are written at once, except the last piece
 abbrev pub piece_bytes : ℕ
 piece_bytes = 65536
 
--- the pieces of a body with its closed gate behind this library and this table
+-- the number of pieces of a body with this library, this table and a closed gate
 abbrev pub piece_count : List ℕ → TableValue → ℕ
 piece_count library table = div_ceil (1 + first_gate library table) piece_bytes
 
@@ -16,7 +16,7 @@ piece_count library table = div_ceil (1 + first_gate library table) piece_bytes
 abbrev pub checkpoint_calls : List ℕ → TableValue → ℕ
 checkpoint_calls library table = 4 + piece_count library table
 
--- the most that one makes on banks with bodies of so many bytes, whatever it writes
+-- the most calls of a checkpoint on banks with bodies of this size, whatever it writes
 abbrev pub most_checkpoint_calls : ℕ → ℕ
 most_checkpoint_calls bank = 4 + div_ceil bank piece_bytes
 

@@ -1,5 +1,5 @@
--- What a commit, a checkpoint, an upgrade and a format may leave, each from an image of before to an image of after.
--- All are quantified over the library and the table that the image of before has. (This project's choice.)
+-- What a commit, a checkpoint, an upgrade and a format may leave, as relations from an old image to a new one. All
+-- hold for each library and table that the old image has. (This project's choice.)
 use Rattle.std.specs.Prelude.{◌≡◌, ◌≢◌, ◌⊎◌, ℕ, ◌+◌, ◌-◌, ◌≤◌, List, length, slice_index}
 use Rattle.oa_disk.specs.Disk.{Torn}
 use Rattle.oa_table.specs.Tables.{TableValue, first_table}
@@ -11,7 +11,7 @@ use Rattle.oa_journal.specs.Bank.{from_place, IsBank}
 use Rattle.oa_journal.specs.Banks.{first_gate}
 use Rattle.oa_store.specs.Stores.{body_place, head_place, IsStoreAt, IsStoreIn}
 
--- the store of before, with the group or without it
+-- the old store, with the group or without it
 abbrev pub IsCommit : Shape → ℕ → ℕ → List ℕ → List ℕ → List ℕ → Type 0
 IsCommit shape chosen gate group old new =
     (library : List ℕ) (table after : TableValue) → IsStoreAt shape chosen gate library table old
@@ -19,25 +19,25 @@ IsCommit shape chosen gate group old new =
     → IsStoreAt shape chosen gate library table new
     ⊎ IsStoreAt shape chosen (gate + (5 + length group)) library after new
 
--- with it
+-- the old store with the group
 abbrev pub IsCommitted : Shape → ℕ → ℕ → List ℕ → List ℕ → List ℕ → Type 0
 IsCommitted shape chosen gate group old new =
     (library : List ℕ) (table after : TableValue) → IsStoreAt shape chosen gate library table old
     → Replays group table after
     → IsStoreAt shape chosen (gate + (5 + length group)) library after new
 
--- The store of before, in this bank, or in the other one a store of this library and this table, with its closed gate
--- at the next place. The other bank may have another format.
+-- The old store, in this bank; or in the other bank a store of this library and this table, with its closed gate at
+-- the given place. The other bank may have another format.
 abbrev pub IsReplacement : Shape → ℕ → ℕ → Shape → ℕ → List ℕ → List ℕ → TableValue → List ℕ → List ℕ → Type 0
 IsReplacement shape chosen gate other next library text table old new = IsStoreAt shape chosen gate library table old
     → IsStoreAt shape chosen gate library table new ⊎ IsStoreAt other (1 - chosen) next text table new
 
--- in the other one
+-- the latter of the two
 abbrev pub IsReplaced : Shape → ℕ → ℕ → Shape → ℕ → List ℕ → List ℕ → TableValue → List ℕ → List ℕ → Type 0
 IsReplaced shape chosen gate other next library text table old new = IsStoreAt shape chosen gate library table old
     → IsStoreAt other (1 - chosen) next text table new
 
--- the same of the library of before
+-- the old store, or in the other bank one of the old library and this table
 abbrev pub IsSwitch : Shape → ℕ → ℕ → Shape → ℕ → List ℕ → TableValue → List ℕ → List ℕ → Type 0
 IsSwitch shape chosen gate other next library table old new =
     IsReplacement shape chosen gate other next library library table old new
@@ -46,11 +46,11 @@ abbrev pub IsSwitched : Shape → ℕ → ℕ → Shape → ℕ → List ℕ →
 IsSwitched shape chosen gate other next library table old new =
     IsReplaced shape chosen gate other next library library table old new
 
--- a bank of format 2 with bodies of this size may follow one of format 1, and one of its own format
+-- a bank of format 2 with bodies of this size may replace one of format 1, and one of its own format
 abbrev pub MayFollow : ℕ → Shape → Type 0
 MayFollow size shape = (shape ≡ One) ⊎ (shape ≡ Two size)
 
--- a move to the other bank in format 2 with this library, from whichever bank it may follow
+-- a switch to the other bank in format 2 with this library, from any bank that it may replace
 abbrev pub IsMove : ℕ → ℕ → ℕ → List ℕ → TableValue → List ℕ → List ℕ → Type 0
 IsMove chosen size next text table old new = (shape : Shape) (gate : ℕ) (library : List ℕ) → MayFollow size shape
     → IsReplacement shape chosen gate (Two size) next library text table old new
@@ -59,7 +59,7 @@ abbrev pub IsMoved : ℕ → ℕ → ℕ → List ℕ → TableValue → List �
 IsMoved chosen size next text table old new = (shape : Shape) (gate : ℕ) (library : List ℕ) → MayFollow size shape
     → IsReplaced shape chosen gate (Two size) next library text table old new
 
--- A store of the same library and the same table, in the format of before or in format 2 with bodies of this size.
+-- A store of the same library and the same table, in the old format or in format 2 with bodies of this size.
 abbrev pub IsUpgrade : ℕ → List ℕ → List ℕ → Type 0
 IsUpgrade size old new = (shape : Shape) (library : List ℕ) (table : TableValue) → IsStoreIn shape old library table
     → IsStoreIn shape new library table ⊎ IsStoreIn (Two size) new library table
@@ -69,7 +69,7 @@ abbrev pub IsNoneOrFirst : ℕ → List ℕ → List ℕ → Type 0
 IsNoneOrFirst size library image =
     (slice_index image 0 ≢ 1) ⊎ IsStoreAt (Two size) 0 (first_gate library first_table) library first_table image
 
--- an image of before, but for its first byte, or none that is formatted, or the first store of this library
+-- an old image except for its first byte, or one that is not formatted, or the first store of this library
 abbrev pub IsFormatting : ℕ → (List ℕ → Type 0) → List ℕ → List ℕ → Type 0
 IsFormatting size before library image = ((d : List ℕ) × before d × Torn 0 1 d image) ⊎ IsNoneOrFirst size library image
 

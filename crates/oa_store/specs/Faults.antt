@@ -1,4 +1,4 @@
--- What the answers of an opening say. (This project's choice.)
+-- What the errors of an opening imply. (This project's choice.)
 use Rattle.std.specs.Prelude.{◌≡◌, ◌≢◌, ◌⊎◌, ℕ, ◌+◌, ◌<◌, ◌≤◌, List, length, Option, Some, None, ⊤}
 use Rattle.oa_disk.specs.Disk.{HasCounted, Only}
 use Rattle.oa_disk.specs.declared.disk.DeviceFault.{DeviceFault}
@@ -22,39 +22,39 @@ use Rattle.oa_store.specs.declared.fault.UpgradeFault.{UpgradeFault}
 use Rattle.oa_store.specs.declared.fault.UpgradeFault.TheVariants as upgrades
 use Rattle.oa_store.specs.Stores.{body_place, head_place, IsFormatted, IsForeign, IsStoreIn}
 
--- a fault of a bank, as one of an opening
+-- the error of a bank as one of an opening
 abbrev pub of_bank : BankFault → OpenFault
 of_bank (banks.Damaged place) = Damaged place
 of_bank (banks.Device fault) = Device fault
 of_bank banks.Memory = Memory
 
--- as one of a search for a head
+-- the same as one of a search for a head
 abbrev pub finding_of_bank : BankFault → FindFault
 finding_of_bank (banks.Damaged place) = finds.Damaged place
 finding_of_bank (banks.Device fault) = finds.Device fault
 finding_of_bank banks.Memory = finds.Memory
 
--- and as one of an upgrade
+-- the same as one of an upgrade
 abbrev pub upgrade_of_bank : BankFault → UpgradeFault
 upgrade_of_bank (banks.Damaged place) = upgrades.Damaged place
 upgrade_of_bank (banks.Device fault) = upgrades.Device fault
 upgrade_of_bank banks.Memory = upgrades.Memory
 
--- a fault of a search for a head, as one of an opening
+-- the error of a search for a head as one of an opening
 abbrev pub of_finding : FindFault → OpenFault
 of_finding finds.NotAStore = NotAStore
 of_finding (finds.Damaged place) = Damaged place
 of_finding (finds.Device fault) = Device fault
 of_finding finds.Memory = Memory
 
--- and as one of an upgrade
+-- the same as one of an upgrade
 abbrev pub upgrade_of_finding : FindFault → UpgradeFault
 upgrade_of_finding finds.NotAStore = upgrades.NotAStore
 upgrade_of_finding (finds.Damaged place) = upgrades.Damaged place
 upgrade_of_finding (finds.Device fault) = upgrades.Device fault
 upgrade_of_finding finds.Memory = upgrades.Memory
 
--- it says what stands on the disk
+-- the error describes the contents of the disk
 abbrev pub SpeaksOfContents : OpenFault → Type 0
 SpeaksOfContents NotAStore = ⊤
 SpeaksOfContents OldFormat = ⊤
@@ -63,7 +63,7 @@ SpeaksOfContents (Damaged place) = ⊤
 SpeaksOfContents (Device fault) = ⊥
 SpeaksOfContents Memory = ⊥
 
--- it may be given of a disk that is no store
+-- the error may be returned for a disk that is no store
 abbrev pub ComesOfForeign : OpenFault → Type 0
 ComesOfForeign NotAStore = ⊤
 ComesOfForeign OldFormat = ⊥
@@ -72,8 +72,8 @@ ComesOfForeign (Damaged place) = ⊥
 ComesOfForeign (Device fault) = ⊤
 ComesOfForeign Memory = ⊥
 
--- How far the clock rises at most until a refusal, two moments a call: one that comes before a body is looked at comes
--- after few calls.
+-- How far the clock advances at most before an error, by two for each call: an error that comes before the body is
+-- read comes after few calls.
 abbrev pub moments_until : ℕ → OpenFault → ℕ
 moments_until most NotAStore = 4
 moments_until most OldFormat = 8
@@ -82,7 +82,7 @@ moments_until most (Damaged place) = most
 moments_until most (Device fault) = most
 moments_until most Memory = most
 
--- one that speaks of the device is given only where a call has failed, and any other where none has
+-- an error of the device is returned only if a call has failed, and any other only if none has
 abbrev pub IsCaused : ℕ → ℕ → OpenFault → Type 0
 IsCaused before now NotAStore = now ≡ before
 IsCaused before now OldFormat = now ≡ before
@@ -91,13 +91,13 @@ IsCaused before now (Damaged place) = now ≡ before
 IsCaused before now (Device fault) = HasCounted before now
 IsCaused before now Memory = now ≡ before
 
--- Which kind of call failed. All that was written is on the device before the first read; where the sync that brings it
--- there fails, nothing falls away of what a crash may leave.
+-- Which kind of call failed. Everything written is on the device before the first read; if the first sync fails, a
+-- crash may still leave each of the old images.
 abbrev pub IsFailed : List ℕ → (List ℕ → Type 0) → (List ℕ → Type 0) → DeviceFault → Type 0
 IsFailed contents before after devices.Read = Only contents after
 IsFailed contents before after devices.Write = (c : List ℕ) → before c → after c
 
--- what a fault of the device tells, where the disk had these contents and these images, and has these images now
+-- what an error of the device implies, for a disk with these contents, these old images and these images now
 abbrev pub DeviceTells : List ℕ → (List ℕ → Type 0) → (List ℕ → Type 0) → OpenFault → Type 0
 DeviceTells contents before after NotAStore = ⊤
 DeviceTells contents before after OldFormat = ⊤
@@ -106,7 +106,7 @@ DeviceTells contents before after (Damaged place) = ⊤
 DeviceTells contents before after (Device fault) = IsFailed contents before after fault
 DeviceTells contents before after Memory = ⊤
 
--- its bank begins as one of another library, in format 2: a bank of format 1 is told before its library is read
+-- its bank begins as one of another library, in format 2: a bank of format 1 is reported before its library is read
 pub record IsOther (contents library : List ℕ) : Type 0 where
   pub chosen : ℕ
   pub head : IsFormatted chosen contents
@@ -117,7 +117,7 @@ pub record IsOther (contents library : List ℕ) : Type 0 where
       (from_place (body_place (Two size) chosen) contents) other
   pub differs : other ≢ library
 
--- it has the library that is wanted, where one is, and then in format 2
+-- it has the wanted library, if one is wanted, and then in format 2
 abbrev pub HasWanted : Option (List ℕ) → Shape → (ℕ → ℕ) → (ℕ → ℕ) → Type 0
 HasWanted None shape head body = ⊤
 HasWanted (Some library) One head body = ⊥
@@ -135,14 +135,14 @@ pub record IsOld (contents : List ℕ) : Type 0 where
   pub snapshot : ℕ
   pub has : HasHead One (head_place chosen) contents library snapshot
 
--- its bank has no head of any format, and this is the head's place
+-- its bank has no head of any format, and this is the place of the head
 pub record IsBeheaded (contents : List ℕ) (place : ℕ) : Type 0 where
   pub chosen : ℕ
   pub head : IsFormatted chosen contents
   pub there : place ≡ head_place chosen
   pub none : IsDamagedHead (head_place chosen) contents
 
--- its bank has a head, begins as is said, and its body is damaged at this place of the disk
+-- its bank has a head, begins in the given way, and its body is damaged at this place of the disk
 pub record IsSpoilt (Begins : Shape → (ℕ → ℕ) → (ℕ → ℕ) → Type 0) (contents : List ℕ) (place : ℕ) : Type 0 where
   pub chosen : ℕ
   pub head : IsFormatted chosen contents
@@ -157,24 +157,24 @@ pub record IsSpoilt (Begins : Shape → (ℕ → ℕ) → (ℕ → ℕ) → Type
 abbrev pub IsDamaged : Option (List ℕ) → List ℕ → ℕ → Type 0
 IsDamaged wanted contents place = IsBeheaded contents place ⊎ IsSpoilt (HasWanted wanted) contents place
 
--- What a refusal says of a disk of this size and these contents where no body was looked at.
+-- What an error implies for a disk of this size and these contents if no body was read.
 abbrev pub HeadSays : ℕ → List ℕ → FindFault → Type 0
 HeadSays size contents finds.NotAStore = IsForeign size contents
 HeadSays size contents (finds.Damaged place) = IsBeheaded contents place
 HeadSays size contents (finds.Device fault) = ⊤
 HeadSays size contents finds.Memory = ⊤
 
--- it has another library than the one that is wanted
+-- it has another library than the wanted one
 abbrev pub IsUnwanted : Option (List ℕ) → List ℕ → Type 0
 IsUnwanted None contents = ⊥
 IsUnwanted (Some library) contents = IsOther contents library
 
--- it is in format 1, where a store of one library is wanted: any other is read in either format
+-- it is in format 1, and a store of one library is wanted; any other call reads either format
 abbrev pub IsTooOld : Option (List ℕ) → List ℕ → Type 0
 IsTooOld None contents = ⊥
 IsTooOld (Some library) contents = IsOld contents
 
--- what a refusal of a disk of this size and these contents says
+-- what an error implies for a disk of this size and these contents
 abbrev pub RefusalSays : Option (List ℕ) → ℕ → List ℕ → OpenFault → Type 0
 RefusalSays wanted size contents NotAStore = IsForeign size contents
 RefusalSays wanted size contents OldFormat = IsTooOld wanted contents
@@ -199,7 +199,7 @@ pub record IsTooLarge (bank : ℕ) (contents : List ℕ) : Type 0 where
   pub store : IsStoreIn One contents library table
   pub large : (max_library_bytes < length library) ⊎ (bank < length (table_image table) + reserved_bytes)
 
--- a store of format 1 of a library that a server takes, and a table that a body of that size takes
+-- a store of format 1 with a library that a server accepts and a table that fits into a body of that size
 pub record CanBeBrought (bank : ℕ) (contents : List ℕ) : Type 0 where
   pub library : List ℕ
   pub table : TableValue
@@ -207,13 +207,13 @@ pub record CanBeBrought (bank : ℕ) (contents : List ℕ) : Type 0 where
   pub short : length library ≤ max_library_bytes
   pub fits : FitsBank bank table
 
--- The contents were such a store, and each image is one of format 2 with what it held.
+-- The contents were such a store, and each image is one of format 2 with the same library and table.
 pub record IsBrought (bank : ℕ) (contents : List ℕ) (image : List ℕ → Type 0) : Type 0 where
   pub was : CanBeBrought bank contents
   pub each : (c : List ℕ) → image c → IsStoreIn (Two bank) c was.library was.table
 
--- What a refusal of an upgrade to bodies of a size says of a disk of this size and these contents. Memory is asked for
--- once a head of format 1 is found.
+-- What an error of an upgrade to bodies of a size implies for a disk of this size and these contents. Memory is
+-- allocated once a head of format 1 is found.
 abbrev pub UpgradeSays : ℕ → ℕ → List ℕ → UpgradeFault → Type 0
 UpgradeSays bank size contents upgrades.TooSmall = ⊤
 UpgradeSays bank size contents upgrades.NotAStore = IsForeign size contents
@@ -223,7 +223,7 @@ UpgradeSays bank size contents (upgrades.Damaged place) =
 UpgradeSays bank size contents (upgrades.Device fault) = ⊤
 UpgradeSays bank size contents upgrades.Memory = IsOld contents
 
--- an upgrade that is refused has written nothing, unless it tells that a write or a sync failed
+-- a failed upgrade has written nothing, unless its error is a failed write or sync
 abbrev pub IsRefusedUpgrade : UpgradeFault → Type 0
 IsRefusedUpgrade upgrades.TooSmall = ⊤
 IsRefusedUpgrade upgrades.NotAStore = ⊤
@@ -232,7 +232,7 @@ IsRefusedUpgrade (upgrades.Damaged place) = ⊤
 IsRefusedUpgrade (upgrades.Device fault) = fault ≡ devices.Read
 IsRefusedUpgrade upgrades.Memory = ⊤
 
--- one that speaks of the device is given only where a call has failed, and any other where none has
+-- an error of the device is returned only if a call has failed, and any other only if none has
 abbrev pub IsCausedUpgrade : ℕ → ℕ → UpgradeFault → Type 0
 IsCausedUpgrade before now upgrades.TooSmall = now ≡ before
 IsCausedUpgrade before now upgrades.NotAStore = now ≡ before
@@ -241,7 +241,7 @@ IsCausedUpgrade before now (upgrades.Damaged place) = now ≡ before
 IsCausedUpgrade before now (upgrades.Device fault) = HasCounted before now
 IsCausedUpgrade before now upgrades.Memory = now ≡ before
 
--- what a fault of the device tells of an upgrade that has not written yet
+-- what an error of the device implies for an upgrade that has written nothing yet
 abbrev pub ReadingTells : List ℕ → (List ℕ → Type 0) → (List ℕ → Type 0) → UpgradeFault → Type 0
 ReadingTells contents before after upgrades.TooSmall = ⊤
 ReadingTells contents before after upgrades.NotAStore = ⊤
@@ -250,8 +250,8 @@ ReadingTells contents before after (upgrades.Damaged place) = ⊤
 ReadingTells contents before after (upgrades.Device fault) = IsFailed contents before after fault
 ReadingTells contents before after upgrades.Memory = ⊤
 
--- Which kind of call of an upgrade to bodies of a size failed: a write or a sync, but for the one at the start, fails
--- only once a store of format 1 is found that such a body takes.
+-- Which kind of call of an upgrade to bodies of a size failed: a write or a sync, except the first one, fails only
+-- after a store of format 1 was found that fits into such a body.
 abbrev pub IsFailedUpgrade : ℕ → List ℕ → (List ℕ → Type 0) → (List ℕ → Type 0) → DeviceFault → Type 0
 IsFailedUpgrade bank contents before after devices.Read = Only contents after
 IsFailedUpgrade bank contents before after devices.Write =

@@ -1,4 +1,4 @@
--- What refusals of a format and of an upgrade say. (This project's choice.)
+-- What the errors of a format and of an upgrade imply. (This project's choice.)
 use Rattle.std.specs.Prelude.{◌≡◌, ◌↔◌, ◌⊎◌, ℕ, ◌+◌, ◌*◌, ◌<◌, ◌≤◌, IsTrue, true, List, length, Result, IsErrOf}
 use Rattle.oa_disk.specs.Disk.{Only}
 use Rattle.oa_disk.specs.declared.disk.Disk.{Ghosts}
@@ -13,28 +13,28 @@ use Rattle.oa_store.specs.Faults.{IsCausedUpgrade, IsRefusedUpgrade, ReadingTell
 use Rattle.oa_store.specs.Stores.{IsStoreAt}
 use Rattle.oa_table.specs.Tables.{TableValue}
 
--- One fault is answered exactly where the disk has fewer bytes than those of format 1 and two bodies of this size,
--- before its first call.
+-- One error is returned exactly if the disk has fewer bytes than those of format 1 and two bodies of this size,
+-- before the first call.
 pub record RefusesSmall {D T E : Type 0} (g : Ghosts D) (small : E) (size : ℕ) (old new : D)
     (result : Result T E) : Type 0 where
   pub exactly : IsErrOf result small ↔ (g.size_of old < disk_bytes (Two size))
   pub same : IsErrOf result small → new ≡ old
 
--- The disk has no store that an upgrade to bodies of this size brings over, or memory or the device is wanting. All but
--- the cause is said of a disk that is honest at the end.
+-- The disk has no store that can be upgraded to bodies of this size, or an allocation or the device failed.
+-- Everything but the cause is stated of a disk that is honest at the end.
 pub record RefusesReading {D : Type 0} (g : Ghosts D) (size : ℕ) (old new : D) (fault : UpgradeFault) : Type 0 where
-  -- It is true of the contents at the start.
+  -- the error is true of the contents at the start
   pub says : IsTrue (g.is_honest new) → UpgradeSays size (g.size_of old) (g.contents old) fault
-  -- That the disk has no room for format 2 is no reason.
+  -- that the disk is too small for format 2 is no reason
   pub any_size : fault ≡ upgrades.TooSmall → ⊥
   pub cause : IsCausedUpgrade (g.failures_of old) (g.failures_of new) fault
-  -- A fault of a write is that of the sync at the start.
+  -- an error of a write is that of the first sync
   pub tells : IsTrue (g.is_honest new) → ReadingTells (g.contents old) (g.image old) (g.image new) fault
-  -- at most ten calls, and one for two bytes of the disk
+  -- at most ten calls, and one for every two bytes of the disk
   pub calls : IsTrue (g.is_honest new) → g.moment new ≤ g.moment old + (20 + g.size_of old)
 
--- The store of format 1 that a disk has was found, by at most the calls of a reading, as `inspect` makes them, and
--- there is a buffer to write the next bank from. Nothing is pending.
+-- The store of format 1 on a disk was found, by at most the calls of a reading, as `inspect` makes them, and there is
+-- a buffer from which to write the next bank. Nothing is pending.
 pub record FindsFormatOne {D : Type 0} (g : Ghosts D) (chosen : ℕ) (library : List ℕ) (table : TableValue)
     (buffer : List ℕ) (old new : D) : Type 0 where
   pub store : IsTrue (g.is_honest new) → (gate : ℕ) × IsStoreAt One chosen gate library table (g.contents old)
@@ -52,16 +52,16 @@ CallsForUpgrade g old new = (library : List ℕ) × (table : TableValue) × (cho
     × IsStoreAt One chosen gate library table (g.contents old)
     × (g.moment new + length library ≤ g.moment old + (16 + gate) + 2 * checkpoint_calls library table)
 
--- A store was not brought to format 2 with bodies of this size. All but the cause is said of a disk that is honest at
--- the end.
+-- A store was not upgraded to format 2 with bodies of this size. Everything but the cause is stated of a disk that is
+-- honest at the end.
 pub record RefusesUpgrade {D : Type 0} (g : Ghosts D) (size : ℕ) (old new : D) (fault : UpgradeFault) : Type 0 where
-  -- It is true of the contents at the start.
+  -- the error is true of the contents at the start
   pub says : IsTrue (g.is_honest new) → UpgradeSays size (g.size_of old) (g.contents old) fault
-  -- But for a write or a sync that failed, it comes before the first write.
+  -- unless a write or a sync failed, the error comes before the first write
   pub refused : IsRefusedUpgrade fault → IsTrue (g.is_honest new) → WritesNothing g.image g.moment g.image_since old new
   pub cause : IsCausedUpgrade (g.failures_of old) (g.failures_of new) fault
   pub tells : IsTrue (g.is_honest new) → UpgradeDeviceTells size (g.contents old) (g.image old) (g.image new) fault
-  -- Then at most ten calls were made, and one for two bytes of the disk.
+  -- then at most ten calls were made, and one for every two bytes of the disk
   pub calls : IsRefusedUpgrade fault → IsTrue (g.is_honest new) → g.moment new ≤ g.moment old + (20 + g.size_of old)
-  -- And otherwise so many, or those of an upgrade.
+  -- otherwise at most as many, or those of an upgrade
   pub most : IsTrue (g.is_honest new) → (g.moment new ≤ g.moment old + (20 + g.size_of old)) ⊎ CallsForUpgrade g old new

@@ -1,5 +1,5 @@
--- What an opening and an inspection answer of a disk. All is said of one that is honest at the end, but for what stands
--- in memory. (This project's choice.)
+-- What an opening and an inspection of a disk return. Everything but what is in memory is stated of a disk that is
+-- honest at the end. (This project's choice.)
 use Rattle.std.specs.Prelude.{◌≡◌, ℕ, ◌+◌, ◌<◌, ◌≤◌, IsTrue, true, false, List, length, Option, Some, None}
 use Rattle.oa_disk.specs.Disk.{Only}
 use Rattle.oa_disk.specs.declared.disk.Disk.{Ghosts}
@@ -31,13 +31,13 @@ pub record FindsFormatted {D : Type 0} (g : Ghosts D) (chosen : ℕ) (old new : 
   pub synced : IsTrue (g.is_honest new) → Only (g.contents old) (g.image new)
   pub contents : IsTrue (g.is_honest new) → g.contents new ≡ g.contents old
 
--- It is not formatted, or the device has failed a call.
+-- The disk is not formatted, or the device has failed a call.
 pub record RefusesFormatted {D : Type 0} (g : Ghosts D) (old new : D) (fault : FindFault) : Type 0 where
   pub says : IsTrue (g.is_honest new) → HeadSays (g.size_of old) (g.contents old) fault
   pub early : ComesOfForeign (of_finding fault)
   pub cause : IsCaused (g.failures_of old) (g.failures_of new) (of_finding fault)
   pub tells : IsTrue (g.is_honest new) → DeviceTells (g.contents old) (g.image old) (g.image new) (of_finding fault)
-  -- at most two calls of what is not formatted: the selector of such a disk is not read
+  -- at most two calls if the disk is not formatted: its selector is not read then
   pub until : IsTrue (g.is_honest new) → g.moment new ≤ g.moment old + moments_until 6 (of_finding fault)
 
 -- The bank that the selector of a disk names was found, with its head. Nothing is pending.
@@ -51,15 +51,15 @@ pub record FindsChosen {D : Type 0} (g : Ghosts D) (chosen : ℕ) (head : Head) 
   pub synced : IsTrue (g.is_honest new) → Only (g.contents old) (g.image new)
   pub contents : IsTrue (g.is_honest new) → g.contents new ≡ g.contents old
 
--- It was not found.
+-- The bank that the selector names was not found.
 pub record RefusesChosen {D : Type 0} (g : Ghosts D) (old new : D) (fault : FindFault) : Type 0 where
   pub says : IsTrue (g.is_honest new) → HeadSays (g.size_of old) (g.contents old) fault
   pub early : IsTrue (g.is_honest new) → IsForeign (g.size_of old) (g.contents old) → ComesOfForeign (of_finding fault)
   pub cause : IsCaused (g.failures_of old) (g.failures_of new) (of_finding fault)
   pub tells : IsTrue (g.is_honest new) → DeviceTells (g.contents old) (g.image old) (g.image new) (of_finding fault)
 
--- The bank of that head and that body has this library and this table, and its closed gate stands there: at most four
--- calls, and one for two bytes of snapshot and groups.
+-- The bank with that head and that body has this library and this table, and its closed gate is there: at most four
+-- calls, and one for every two bytes of snapshot and groups.
 pub record FindsBank {D : Type 0} (g : Ghosts D) (shape : Shape) (head body : ℕ) (old new : D) (library : List ℕ)
     (table : TableValue) (gate : ℕ) : Type 0 where
   pub found : IsTrue (g.is_honest new)
@@ -68,7 +68,7 @@ pub record FindsBank {D : Type 0} (g : Ghosts D) (shape : Shape) (head body : �
   pub inside : gate < body_bytes shape
   pub calls : IsTrue (g.is_honest new) → g.moment new + length library ≤ g.moment old + (8 + gate)
 
--- The store of this library that a disk has was found, in format 2. Nothing is pending.
+-- The store of this library on a disk was found, in format 2. Nothing is pending.
 pub record Finds {D : Type 0} (g : Ghosts D) (library : List ℕ) (old new : D) (f : Found) : Type 0 where
   -- what the contents are a store of
   pub store : IsTrue (g.is_honest new) → IsStoreAt f.bank.shape f.chosen f.bank.gate library f.table (g.contents old)
@@ -81,39 +81,39 @@ pub record Finds {D : Type 0} (g : Ghosts D) (library : List ℕ) (old new : D) 
   pub room : disk_bytes f.bank.shape ≤ g.size_of old
   pub synced : IsTrue (g.is_honest new) → Only (g.contents old) (g.image new)
   pub contents : IsTrue (g.is_honest new) → g.contents new ≡ g.contents old
-  -- at most eight calls, and one for two bytes of snapshot and groups: the library is read once
+  -- at most eight calls, and one for every two bytes of snapshot and groups: the library is read once
   pub calls : IsTrue (g.is_honest new) → g.moment new + length library ≤ g.moment old + (16 + f.bank.gate)
 
--- What the refusal of a disk says, whose library has to be the one that is wanted.
+-- What the error implies for a disk that must have the wanted library.
 pub record Refuses {D : Type 0} (g : Ghosts D) (wanted : Option (List ℕ)) (old new : D)
     (fault : OpenFault) : Type 0 where
-  -- It is true of the contents at the start.
+  -- the error is true of the contents at the start
   pub says : IsTrue (g.is_honest new) → RefusalSays wanted (g.size_of old) (g.contents old) fault
-  -- A disk that is too small or not formatted is found to be that before memory is taken.
+  -- a disk that is too small or not formatted is found to be so before memory is allocated
   pub early : IsTrue (g.is_honest new) → IsForeign (g.size_of old) (g.contents old) → ComesOfForeign fault
   pub cause : IsCaused (g.failures_of old) (g.failures_of new) fault
-  -- Read is told once all that was written is on the device, and Write where the sync at the start failed.
+  -- Read is returned after everything written is on the device, and Write if the first sync failed
   pub tells : IsTrue (g.is_honest new) → DeviceTells (g.contents old) (g.image old) (g.image new) fault
-  -- at most twelve calls, and one for two bytes of the disk; two where it is no store, four for its format, six for its
-  -- library
+  -- at most twelve calls, and one for every two bytes of the disk; two if it is no store, four for its format, six
+  -- for its library
   pub calls : IsTrue (g.is_honest new) → g.moment new ≤ g.moment old + moments_until (24 + g.size_of old) fault
 
 -- A store of this library was opened on the disk, with its table.
 pub record FindsStore {D : Type 0} (g : Ghosts D) (library : List ℕ) (disk : D) (store : Store D g)
     (table : TableValue) : Type 0 where
-  -- Each image at the end is a store of the table, and of that alone.
+  -- each image at the end is a store of the table, and of no other
   pub found : IsTrue (g.is_honest store.disk) → (c : List ℕ) → g.image store.disk c
       → IsStoreAt store.bank.shape store.chosen store.bank.gate library table c
-  -- So are the contents at the start, and they of no other.
+  -- so are the contents at the start
   pub contents : IsTrue (g.is_honest store.disk)
       → IsStoreAt store.bank.shape store.chosen store.bank.gate library table (g.contents disk)
   pub only : IsTrue (g.is_honest store.disk) → (other : TableValue) → IsNewStore (g.contents disk) library other
       → other ≡ table
-  -- at most ten calls, and one for two bytes of snapshot and groups
+  -- at most ten calls, and one for every two bytes of snapshot and groups
   pub calls : IsTrue (g.is_honest store.disk)
       → g.moment store.disk + length library ≤ g.moment disk + (20 + store.bank.gate)
 
--- The store goes on, has this library, and its table is in order and has no locks.
+-- The store has not stopped and has this library; its table is in order and has no locks.
 pub record Starts {D : Type 0} {g : Ghosts D} (library : List ℕ) (store : Store D g) (table : TableValue) : Type 0 where
   pub goes_on : store.stopped ≡ false
   pub has : store.library.items ≡ library
@@ -123,7 +123,7 @@ pub record Starts {D : Type 0} {g : Ghosts D} (library : List ℕ) (store : Stor
 -- The disk is no store of this library that can be opened.
 pub record RefusesDisk {D : Type 0} (g : Ghosts D) (library : List ℕ) (disk back : D) (fault : OpenFault) : Type 0 where
   pub refusal : Refuses g (Some library) disk back fault
-  -- So the contents are no store of this library where it speaks of them.
+  -- so the contents are no store of this library if the error describes them
   pub refused : SpeaksOfContents fault → IsTrue (g.is_honest back) → (table : TableValue)
       → IsNewStore (g.contents disk) library table → ⊥
 
@@ -133,11 +133,11 @@ pub record FindsAny {D : Type 0} (g : Ghosts D) (disk new : D) (library : List �
   pub contents : IsTrue (g.is_honest new) → IsStore (g.contents disk) library table
   pub numbered : is_numbered table ≡ true
   pub unlocked : unlocked_table table ≡ table
-  -- at most eight calls, and one for two bytes of snapshot and groups
+  -- at most eight calls, and one for every two bytes of snapshot and groups
   pub calls : IsTrue (g.is_honest new) → (is : IsStore (g.contents disk) library table)
       × (g.moment new + length library ≤ g.moment disk + (16 + is.1.1))
 
--- The disk is no store, whichever library is wanted.
+-- The disk is no store of any library.
 pub record RefusesAny {D : Type 0} (g : Ghosts D) (disk new : D) (fault : OpenFault) : Type 0 where
   pub says : IsTrue (g.is_honest new) → RefusalSays None (g.size_of disk) (g.contents disk) fault
   pub early : IsTrue (g.is_honest new) → IsForeign (g.size_of disk) (g.contents disk) → ComesOfForeign fault
@@ -145,5 +145,5 @@ pub record RefusesAny {D : Type 0} (g : Ghosts D) (disk new : D) (fault : OpenFa
   pub any_format : fault ≡ OldFormat → ⊥
   pub cause : IsCaused (g.failures_of disk) (g.failures_of new) fault
   pub tells : IsTrue (g.is_honest new) → DeviceTells (g.contents disk) (g.image disk) (g.image new) fault
-  -- at most ten calls, and one for two bytes of the disk; two where it is no store
+  -- at most ten calls, and one for every two bytes of the disk; two if it is no store
   pub calls : IsTrue (g.is_honest new) → g.moment new ≤ g.moment disk + moments_until (20 + g.size_of disk) fault

@@ -1,4 +1,4 @@
--- What the calls of an open store that write leave of it. (This project's choice.)
+-- What the writing calls of an open store leave of it. (This project's choice.)
 use Rattle.std.specs.Prelude.{◌≡◌, ◌↔◌, ℕ, ◌+◌, ◌*◌, ◌-◌, ◌≤◌, IsTrue, true, false, List, length, Result, OnOk, OnErr}
 use Rattle.std.specs.Prelude.{IsErrOf}
 use Rattle.oa_disk.specs.Disk.{HasCounted}
@@ -14,28 +14,28 @@ use Rattle.oa_store.specs.declared.fault.WriteFault.TheVariants as faults
 use Rattle.oa_store.specs.declared.store.Store.{Store}
 use Rattle.oa_table.specs.Tables.{TableValue}
 
--- What every call says of the device, and of the store's format, which stays.
+-- What every call keeps: the rules of the device's failures, and the store's format.
 pub record Goes {D : Type 0} {g : Ghosts D} (old new : Store D g) : Type 0 where
   pub honest : g.is_honest new.disk ≡ g.is_honest old.disk
   pub size : g.size_of new.disk ≡ g.size_of old.disk
   pub failures : g.failures_of old.disk ≤ g.failures_of new.disk
-  -- no call comes behind one that has failed
+  -- no call follows one that has failed
   pub once : g.failures_of new.disk ≤ g.failures_of old.disk + 1
   pub shape : new.bank.shape ≡ old.bank.shape
-  -- it stops only where a call has failed, and then for good
+  -- the store stops only if a call has failed, and then for good
   pub stops : old.stopped ≡ false → new.stopped ≡ true → HasCounted (g.failures_of old.disk) (g.failures_of new.disk)
   pub stays : old.stopped ≡ true → (new.stopped ≡ true) × (new.disk ≡ old.disk)
-  -- no failed call goes untold
+  -- each failed call is reported
   pub unfailed : new.stopped ≡ false → g.failures_of new.disk ≡ g.failures_of old.disk
 
--- It makes the calls of one checkpoint at most, whatever that writes.
+-- It makes at most the calls of one checkpoint, whatever that writes.
 abbrev pub CallsForOneCheckpoint : {D : Type 0} {g : Ghosts D} → Store D g → Store D g → Type 0
 CallsForOneCheckpoint {D} {g} old new =
     IsTrue (g.is_honest old.disk)
     → g.moment new.disk ≤ g.moment old.disk + 2 * most_checkpoint_calls (body_bytes old.bank.shape)
 
--- The store goes on exactly where `Ok` is answered. One fault says that it had stopped before, the other that a write
--- has failed.
+-- The store has not stopped exactly if `Ok` is returned. One error means that it had stopped before, the other that a
+-- write has failed.
 pub record StopsAtFault {D T : Type 0} {g : Ghosts D} (old new : Store D g)
     (result : Result T WriteFault) : Type 0 where
   pub goes_on : OnOk result (new.stopped ≡ false)
@@ -43,7 +43,7 @@ pub record StopsAtFault {D T : Type 0} {g : Ghosts D} (old new : Store D g)
   pub stopped : IsErrOf result faults.Stopped ↔ (old.stopped ≡ true)
   pub fault : (fault : DeviceFault) → IsErrOf result (faults.Device fault) → fault ≡ Write
 
--- The bank in use has the group of a batch more, or nothing has changed in memory.
+-- The bank in use has the group of a batch appended, or nothing has changed in memory.
 pub record AddsGroup {D T E : Type 0} {g : Ghosts D} (batch : List ℕ) (old new : Store D g)
     (result : Result T E) : Type 0 where
   pub gate : OnOk result (new.bank.gate ≡ old.bank.gate + (5 + length (group_of batch)))

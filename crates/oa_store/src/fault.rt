@@ -1,4 +1,4 @@
-//! Why a store was not made, not opened, or did not go on.
+//! Why a store could not be made, opened or changed.
 ghost use Rattle.std.specs.Prelude.{◌≡◌};
 ghost use Rattle.oa_store.specs.declared.fault.OpenFault.TheVariants.{Memory};
 ghost use Rattle.oa_store.specs.declared.fault.FindFault.TheVariants as finds;
@@ -9,40 +9,41 @@ use oa_journal::BankFault;
 use std::alloc::AllocError;
 use thiserror::Error;
 
-/// Why a disk was not made a store.
+/// Why a disk could not be formatted.
 #[derive(Clone, Copy, Debug, PartialEq, Eq, Error)]
 pub enum FormatFault {
-    /// It has fewer bytes than those of format 1 and two bodies of the size that is asked for.
+    /// The disk has fewer bytes than those of format 1 and two bodies of the given size.
     #[error("disk too small")]
     TooSmall,
-    /// A call of the device failed. The disk holds what it held but for its first byte, or no store, or the new one.
+    /// A call of the device failed. The disk has its old contents except for its first byte, or no store, or the new
+    /// store.
     #[error("device: {0}")]
     Device(DeviceFault),
-    /// There is no memory to write a bank's bytes from. Nothing was done.
+    /// An allocation failed. Nothing was done.
     #[error("out of memory")]
     Memory,
 }
 
-/// Why a disk was not opened. An opening looks at the size, the first byte, the head of the bank, its format, its library, its snapshot and
-/// its groups, and answers for the first of these that fails.
+/// Why a store could not be opened. The size, the first byte, the head of the bank, its format, its library, its
+/// snapshot and its groups are checked in this order, and the first error is returned.
 #[derive(Clone, Copy, Debug, PartialEq, Eq, Error)]
 pub enum OpenFault {
-    /// It has fewer bytes than a store, or its first byte is not 1.
+    /// The disk has fewer bytes than a store, or its first byte is not 1.
     #[error("not a store")]
     NotAStore,
-    /// It is a store of format 1, which is only read: inspected or upgraded, never opened.
+    /// A store of format 1, which can be dumped and upgraded, but not opened.
     #[error("old format")]
     OldFormat,
-    /// Its head is whole, and its library is another one.
+    /// The head is valid, but the store has another library.
     #[error("library differs")]
     LibraryDiffers,
-    /// The bytes at this place of the disk are not those of a head, a table or a group.
+    /// The bytes at this place of the disk are not a valid head, table or group.
     #[error("damaged at {0}")]
     Damaged(u64),
     /// A call of the device failed.
     #[error("device: {0}")]
     Device(DeviceFault),
-    /// There is no memory for what is read.
+    /// An allocation failed.
     #[error("out of memory")]
     Memory,
 }
@@ -80,16 +81,16 @@ impl From<FindFault> for OpenFault {
     }
 }
 
-/// Why the head of the bank that the selector names was not found: no library is compared, and each format is known.
+/// Why the head of the bank in use could not be read. No library is compared, and both formats are accepted.
 #[derive(Clone, Copy)]
 pub(crate) enum FindFault {
     /// The disk has fewer bytes than a store, or its first byte is not 1.
     NotAStore,
-    /// The bytes at this place of the disk are not those of a head.
+    /// The bytes at this place of the disk are not a valid head.
     Damaged(u64),
     /// A call of the device failed.
     Device(DeviceFault),
-    /// There is no memory for what a store is read with.
+    /// An allocation failed.
     Memory,
 }
 
@@ -121,25 +122,27 @@ impl From<BankFault> for FindFault {
     }
 }
 
-/// Why an upgrade did not end well.
+/// Why an upgrade failed.
 #[derive(Clone, Copy, Debug, PartialEq, Eq, Error)]
 pub enum UpgradeFault {
-    /// It has fewer bytes than those of format 1 and two bodies of the size that is asked for.
+    /// The disk has fewer bytes than those of format 1 and two bodies of the given size.
     #[error("disk too small")]
     TooSmall,
-    /// It has fewer bytes than a store, or its first byte is not 1.
+    /// The disk has fewer bytes than a store, or its first byte is not 1.
     #[error("not a store")]
     NotAStore,
-    /// It is a store of format 2 already.
+    /// The store already has format 2.
     #[error("already format 2")]
     AlreadyNew,
-    /// The bytes at this place of the disk are not those of a head, a table or a group; or, at 0, its table or its library is too large.
+    /// The bytes at this place of the disk are not a valid head, table or group; 0 if the table or the library is too
+    /// large.
     #[error("damaged at {0}")]
     Damaged(u64),
-    /// A call of the device failed. Where it was a read nothing was written; else a store of format 1 is there still, or is in format 2.
+    /// A call of the device failed. If it was a read, nothing was written; otherwise the store is whole, in format 1
+    /// or format 2.
     #[error("device: {0}")]
     Device(DeviceFault),
-    /// There is no memory for what is read, or to write a bank's bytes from. Nothing was written.
+    /// An allocation failed. Nothing was written.
     #[error("out of memory")]
     Memory,
 }
@@ -169,13 +172,14 @@ impl From<BankFault> for UpgradeFault {
     }
 }
 
-/// Why a commit or a checkpoint of an open store did not end well.
+/// Why a commit or a checkpoint of an open store failed.
 #[derive(Clone, Copy, Debug, PartialEq, Eq, Error)]
 pub enum WriteFault {
-    /// The device has failed a call before. None was made.
+    /// The device failed an earlier call. No call was made.
     #[error("the store has stopped")]
     Stopped,
-    /// The device has failed a call. The group is there whole or not at all; the selector names the bank of before or the other one.
+    /// The device failed a call. The group is in the store whole or not at all; the selector names the old bank or
+    /// the other one.
     #[error("device: {0}")]
     Device(DeviceFault),
 }

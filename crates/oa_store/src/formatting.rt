@@ -24,7 +24,7 @@ use oa_journal::Shape;
 use oa_table::Table;
 use std::alloc::Global;
 
-/// Sets the first byte to 0, and brings that to the device.
+/// Sets the first byte to 0, and syncs.
 fn close<D: Disk>(disk: &mut D) -> Result<(), DeviceFault>
     requires { 0 < D.size_of disk.old }
     ensures any_moment { IsTrue (D.is_honest disk.old)
@@ -36,7 +36,8 @@ fn close<D: Disk>(disk: &mut D) -> Result<(), DeviceFault>
     disk.sync()
 }
 
-/// Writes a bank and the selector, and then sets the first byte to 1. Until then it is not 1 in any image.
+/// Writes a bank and the selector, syncs, and then sets the first byte to 1. Until then the byte is not 1 in any
+/// image.
 fn fill<D: Disk>(
     disk: &mut D,
     buffer: &mut [u8],
@@ -62,10 +63,11 @@ fn fill<D: Disk>(
     flip(disk, 0, 1)
 }
 
-/// Makes the disk a store of this library, without objects, in its own length, with bodies of that size. What it held before is gone.
+/// Makes `disk` a store of `library` with no objects and two banks of `size` bytes each (20,971,520 to
+/// 1,073,741,824). The old contents of the disk are lost.
 ///
-/// Refused as `TooSmall` and for want of memory before the first call of the disk. A stop within it leaves what was there but for the
-/// first byte, or a disk that is not formatted, or the new store.
+/// Errors: `TooSmall` and `Memory` before the first call of the disk; `Device`. A crash leaves the old contents
+/// except for the first byte, an unformatted disk, or the new store.
 pub fn format<D: Disk>(
     alloc: Global,
     disk: &mut D,

@@ -21,16 +21,16 @@ use std::alloc::{AllocError, Global};
 /// The least size of a disk that has a store.
 pub(crate) const STORE_BYTES: u64 = FORMAT_ONE_BYTES;
 
-/// Where the selector stands.
+/// The place of the selector.
 pub(crate) const SELECTOR: u64 = 4096;
 
-/// Where the head of the first bank stands.
+/// The place of the first bank's head.
 const FIRST_HEAD: u64 = 8_192;
 
-/// How far the head of the second bank stands behind that of the first: a head and a body of format 1.
+/// The distance from the first bank's head to the second one's: a head and a body of format 1.
 const NEXT_HEAD: u64 = 32 + FORMAT_ONE_BODY_BYTES as u64;
 
-/// How many bytes the buffer has that banks are written from and read through.
+/// The size in bytes of the buffer through which banks are written and read.
 const PIECE_BYTES: usize = 65_536;
 
 fn zeros(alloc: Global, count: usize) -> Result<Vec<u8>, AllocError>
@@ -39,14 +39,14 @@ fn zeros(alloc: Global, count: usize) -> Result<Vec<u8>, AllocError>
     vec![in alloc; 0; count]
 }
 
-/// The buffer that banks are written from and read through.
+/// Allocates the buffer through which banks are written and read.
 pub(crate) fn buffer(alloc: Global) -> Result<Vec<u8>, AllocError>
     ensures { IfOk result (λ bytes. length bytes.items ≡ piece_bytes) }
 {
     zeros(alloc, PIECE_BYTES)
 }
 
-/// Where the head of the bank of that number stands, in either format.
+/// Returns the place of the head of a bank, in either format.
 pub(crate) fn head_place(bank: u8) -> u64
     requires { bank < 2 }
     ensures value { result ≡ head_place bank }
@@ -55,7 +55,7 @@ pub(crate) fn head_place(bank: u8) -> u64
     FIRST_HEAD + u64::from(bank) * NEXT_HEAD
 }
 
-/// Where its body stands.
+/// Returns the place of the body of a bank.
 pub(crate) fn body_place(shape: Shape, bank: u8) -> u64
     requires two { bank < 2 }
     requires known { IsShape shape }
@@ -69,7 +69,7 @@ pub(crate) fn body_place(shape: Shape, bank: u8) -> u64
     }
 }
 
-/// The byte at that place.
+/// Reads the byte at that place.
 fn read_byte<D: Disk>(disk: &mut D, at: u64) -> Result<u8, DeviceFault>
     requires { at < D.size_of disk.old }
     ensures byte { IfOk result (λ byte. IsTrue (D.is_honest disk.new) → slice_index (D.contents disk.old) at ≡ byte) }
@@ -86,14 +86,14 @@ fn read_byte<D: Disk>(disk: &mut D, at: u64) -> Result<u8, DeviceFault>
     Ok(bytes[0])
 }
 
-/// The number of the bank that the selector names, on a disk that is formatted. It begins with a sync, so that what it finds is what a
-/// crash leaves.
+/// Returns the number of the bank in use, on a disk that is formatted. It begins with a sync, so what it finds is
+/// what a crash leaves.
 pub(crate) fn find_bank<D: Disk>(disk: &mut D) -> Result<u8, FindFault>
     ensures found { IfOk result (λ chosen. FindsFormatted D.Disk chosen disk.old disk.new) }
     ensures refused { IfErr result (λ e. RefusesFormatted D.Disk disk.old disk.new e) }
     ensures reads { IsTrue (D.is_honest disk.new) → WritesNothing D.image D.moment D.image_since disk.old disk.new }
     ensures after { AfterCalls D.Disk disk.old disk.new result }
-    // at most three calls
+    // (at most three calls)
     ensures calls { IsTrue (D.is_honest disk.new) → D.moment disk.new ≤ D.moment disk.old + 6 }
 {
     if disk.size() < STORE_BYTES {
@@ -107,7 +107,7 @@ pub(crate) fn find_bank<D: Disk>(disk: &mut D) -> Result<u8, FindFault>
     Ok(selector % 2)
 }
 
-/// The number of the bank that the selector names, and what its head tells.
+/// Returns the number of the bank in use, and its head.
 pub(crate) fn find_head<D: Disk>(disk: &mut D) -> Result<(u8, Head), FindFault>
     ensures found { IfOk result (λ r. FindsChosen D.Disk r.0 r.1 disk.old disk.new) }
     ensures refused { IfErr result (λ e. RefusesChosen D.Disk disk.old disk.new e) }
@@ -122,18 +122,18 @@ pub(crate) fn find_head<D: Disk>(disk: &mut D) -> Result<(u8, Head), FindFault>
     Ok((chosen, head))
 }
 
-/// The number of the bank that the selector names, what its head tells, and the room that a store has.
+/// The number of the bank in use, its head, and the memory that a store needs.
 #[derive(Drop)]
 pub(crate) struct Room {
     pub chosen: u8,
     pub head: Head,
-    /// What banks are written from and read through.
+    /// The buffer through which banks are written and read.
     pub buffer: Vec<u8>,
-    /// Nothing, with room for any library.
+    /// Empty, with capacity for any library.
     pub library: Vec<u8>,
 }
 
-/// What `find_head` finds, with the room of a store, which is reserved before the head is looked at.
+/// Finds the bank in use and its head, and allocates the memory of a store before it reads the head.
 pub(crate) fn find_room<D: Disk>(alloc: Global, disk: &mut D) -> Result<Room, FindFault>
     ensures found { IfOk result (λ r. FindsChosen D.Disk r.chosen r.head disk.old disk.new) }
     ensures refused { IfErr result (λ e. RefusesChosen D.Disk disk.old disk.new e) }

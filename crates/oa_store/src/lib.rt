@@ -1,10 +1,10 @@
-//! A store on a disk: a library and a table of objects, in two banks that take turns. Every image that a stop
-//! may leave opens to the table before or after.
+//! A store on a disk: a library and a table of objects, in two banks that take turns. After a crash at any point, the
+//! store reopens to the table before or after the call.
 //!
-//! Its contract: `Store::open` answers the one table that the contents hold (`IsStore`); a stop in `commit`,
+//! Contract: `Store::open` returns the one table that the contents are a store of (`IsStore`). A crash in `commit`,
 //! `checkpoint` or `upgrade` leaves a store of the table before or after.
 //!
-//! What stands on it: oa_keeper, oa_groups and oa_server; the program's format, upgrade and dump.
+//! Used by oa_keeper, oa_groups and oa_server, and by format, upgrade and dump of the program.
 #![tactic(auto)]
 
 mod fault;

@@ -18,7 +18,7 @@ use oa_journal::{Bank, BankFault, Shape};
 use oa_table::Table;
 use std::alloc::Global;
 
-/// A store that was found.
+/// A store that was found on a disk.
 #[derive(Drop)]
 pub(crate) struct Found {
     pub library: Vec<u8>,
@@ -34,7 +34,7 @@ fn same(one: &[u8], other: &[u8]) -> bool
     one == other
 }
 
-/// The bank of that number in that format.
+/// Returns the bank of that number in that format.
 pub(crate) fn bank_of(shape: Shape, number: u8) -> Bank
     requires two { number < 2 }
     requires known { IsShape shape }
@@ -43,7 +43,7 @@ pub(crate) fn bank_of(shape: Shape, number: u8) -> Bank
     Bank::at(head_place(number), body_place(shape, number), shape)
 }
 
-/// The store that is on the disk, which has to be one of this library in format 2.
+/// Reads the store on the disk, which must be one of this library in format 2.
 pub(crate) fn find_store<D: Disk>(
     alloc: Global,
     disk: &mut D,
@@ -51,11 +51,11 @@ pub(crate) fn find_store<D: Disk>(
 ) -> Result<Found, OpenFault>
     requires short { length library.now ≤ max_library_bytes }
     ensures found { IfOk result (λ f. Finds D.Disk library.now disk.old disk.new f) }
-    // it has room for any other library
+    // (with capacity for any other library)
     ensures library { IfOk result (λ f. f.library.items ≡ library.now) }
     ensures library_room { IfOk result (λ f. max_library_bytes ≤ vec_capacity f.library) }
     ensures refused { IfErr result (λ e. Refuses D.Disk (Some library.now) disk.old disk.new e) }
-    // nothing was written
+    // (nothing is written)
     ensures reads { IsTrue (D.is_honest disk.new) → WritesNothing D.image D.moment D.image_since disk.old disk.new }
     ensures after { AfterCalls D.Disk disk.old disk.new result }
 {
@@ -63,7 +63,7 @@ pub(crate) fn find_store<D: Disk>(
     if let Shape::One = found.head.shape {
         return Err(OpenFault::OldFormat);
     }
-    // (a head may claim a library of any length, which is not read then)
+    // (a head may give any length for its library, so the library is read only if the length is right)
     if found.head.library as usize != library.len() {
         return Err(OpenFault::LibraryDiffers);
     }
@@ -89,7 +89,7 @@ pub(crate) fn find_store<D: Disk>(
     })
 }
 
-/// The library and the table of the bank of that number, whose head was found.
+/// Reads the library and the table of a bank by its head.
 pub(crate) fn look<D: Disk>(
     alloc: Global,
     disk: &mut D,
@@ -111,8 +111,8 @@ pub(crate) fn look<D: Disk>(
     Ok((library, table, bank, buffer))
 }
 
-/// The library and the table of the store that is on the disk, whichever library it is, in either format. It writes nothing, and begins
-/// with a sync.
+/// Reads the library and the table of the store on the disk, with any library, in either format. It writes nothing,
+/// and begins with a sync. Errors: `NotAStore`, `Damaged`, `Memory`, `Device`.
 pub fn inspect<D: Disk>(alloc: Global, disk: &mut D) -> Result<(Vec<u8>, Table), OpenFault>
     ensures found { IfOk result (λ r. FindsAny D.Disk disk.old disk.new r.0.items r.1) }
     ensures refused { IfErr result (λ e. RefusesAny D.Disk disk.old disk.new e) }

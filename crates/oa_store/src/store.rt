@@ -1,4 +1,4 @@
-//! A store that is open.
+//! An open store.
 ghost use Rattle.std.specs.Prelude.{◌≡◌, ◌↔◌, ◌+◌, ◌*◌, ◌-◌, ◌<◌, ◌≤◌, false, true, IsTrue, length, IfErr, IfOk, OnOk, vec_capacity};
 ghost use Rattle.oa_disk.specs.After.{AfterCalls, Leaves};
 ghost use Rattle.oa_model.specs.Limits.{max_library_bytes};
@@ -20,8 +20,9 @@ use oa_journal::{AMPLE_BYTES, AppendFault, Bank};
 use oa_table::Table;
 use std::alloc::Global;
 
-/// A store over a disk. Two banks take turns: a commit adds a group to the one that the selector names, a checkpoint goes on in the
-/// other. After a fault of the device it has stopped: it makes no further call, and what it answers then is `Stopped`.
+/// An open store over a disk. Its two banks take turns: a commit appends a group to the bank in use, and a checkpoint
+/// switches to the other bank. After a fault of the device the store has stopped: it makes no further call, and
+/// returns `Stopped`.
 #[derive(Drop)]
 pub struct Store<D: Disk> {
     disk: D,
@@ -30,7 +31,7 @@ pub struct Store<D: Disk> {
     chosen: u8,
     bank: Bank,
     stopped: bool,
-    /// What the other bank is written from.
+    /// The buffer from which the other bank is written.
     buffer: Vec<u8>,
     ghost two: { chosen < 2 },
     ghost placed: { bank.head ≡ head_place chosen },
@@ -48,8 +49,9 @@ impl<D: Disk> Store<D> {
     ghost use Rattle.oa_store.specs.Openings.{FindsStore, RefusesDisk, Starts};
     ghost use Rattle.oa_store.specs.Writing.{AddsGroup, Goes, StopsAtFault, SwitchesBank};
 
-    /// Opens the store of this library that is on the disk, and answers its table, which has no locks. It writes nothing, and begins with
-    /// a sync. A refusal hands the disk back.
+    /// Opens the store of this library on the disk, and returns it with its table, which has no locks. It writes
+    /// nothing, and begins with a sync. An error returns the disk, too: `NotAStore`, `OldFormat`, `LibraryDiffers`,
+    /// `Damaged`, `Memory`, `Device`.
     pub fn open(alloc: Global, disk: D, library: &[u8]) -> Result<(Store<D>, Table), (D, OpenFault)>
         requires { length library.now ≤ max_library_bytes }
 
@@ -78,35 +80,36 @@ impl<D: Disk> Store<D> {
         }
     }
 
-    /// How many bytes the bank in use has from its closed gate on. A group of n bytes takes n + 5 of them, and leaves one at least.
+    /// Returns how many bytes the bank in use has from its closed gate on. A group of n bytes uses n + 5 of them, and
+    /// at least one is left.
     pub fn room(&self) -> u32
         ensures { result ≡ body_bytes self.now.bank.shape - self.now.bank.gate }
     {
         self.bank.room()
     }
 
-    /// How many bytes the body of a bank has.
+    /// Returns the size of a bank's body in bytes.
     pub fn bank_size(&self) -> u32
         ensures { result ≡ body_bytes self.now.bank.shape }
     {
         self.bank.size()
     }
 
-    /// Whether a checkpoint is to be made before the next group.
+    /// Returns whether a checkpoint must be made before the next group.
     pub fn checkpoint_due(&self) -> bool
         ensures { IsTrue result ↔ (body_bytes self.now.bank.shape - self.now.bank.gate < ample_bytes) }
     {
         self.room() < AMPLE_BYTES
     }
 
-    /// Whether a call of the device has failed, after which the store makes no further one.
+    /// Returns whether a call of the device has failed. The store makes no call after that.
     pub fn has_stopped(&self) -> bool
         ensures { result ≡ self.now.stopped }
     {
         self.stopped
     }
 
-    /// Err where it has stopped.
+    /// Returns `Stopped` if the store has stopped.
     fn going(&self) -> Result<(), WriteFault>
         ensures going { OnOk result (self.now.stopped ≡ false) }
         ensures stopped { IfErr result (λ e. (e ≡ WriteFault.Stopped) × (self.now.stopped ≡ true)) }
@@ -117,14 +120,14 @@ impl<D: Disk> Store<D> {
         Ok(())
     }
 
-    /// The disk as it is, while the store goes on: its clock tells when a call has ended. This makes no call.
+    /// Returns the disk, for example to read its clock. Makes no call of it.
     pub fn disk(&self) -> &D
         ensures { result.now ≡ self.now.disk }
     {
         &self.disk
     }
 
-    /// The disk as it is. This makes no call.
+    /// Closes the store and returns the disk. Makes no call of it.
     pub fn into_disk(self) -> D
         ensures { result ≡ self.disk }
     {
@@ -132,22 +135,24 @@ impl<D: Disk> Store<D> {
         disk
     }
 
-    /// Adds a group of events, which stands in a batch with four free bytes before it and one behind. It takes no memory, and four calls
-    /// of the disk. Of the batch, the free bytes alone may change. After `Device`, and only then, the store has stopped.
+    /// Commits a group of events in at most four calls of the disk. The group is in `batch` between four free bytes
+    /// and one, and only these may change. Allocates nothing. Errors: `Stopped`; `Device`, after which, and only
+    /// then, the store has stopped.
     ///
-    /// That the group's events apply to the committed table is a premise of what the images hold, not a condition of the call.
+    /// That the events apply to the committed table is a premise of what the images hold, not a condition of the
+    /// call.
     pub fn commit(&mut self, batch: &mut [u8]) -> Result<(), WriteFault>
         requires some { 5 < length batch.old }
         requires fits { self.old.bank.gate + length batch.old < body_bytes self.old.bank.shape }
 
-        // A crash at any moment leaves the store of before, with the group or without it; and at `Ok` with it.
+        // (a crash at any point in time leaves the old store, with the group or without it, and at `Ok` with it)
         ensures leaves { Leaves D.Disk (IsCommit self.old.bank.shape self.old.chosen self.old.bank.gate (group_of batch.old))
             (IsCommitted self.old.bank.shape self.old.chosen self.old.bank.gate (group_of batch.old)) self.old.disk self.new.disk result }
         ensures adds { AddsGroup batch.old self.old self.new result }
         ensures kept { group_of batch.new ≡ group_of batch.old }
         ensures stops { StopsAtFault self.old self.new result }
         ensures goes { Goes self.old self.new }
-        // At most four calls.
+        // (at most four calls)
         ensures calls { IsTrue (D.is_honest self.old.disk) → D.moment self.new.disk ≤ D.moment self.old.disk + 8 }
     {
         self.going()?;
@@ -161,15 +166,16 @@ impl<D: Disk> Store<D> {
         }
     }
 
-    /// Goes on in the other bank, which is written whole, with this table and no groups. It takes no memory. After `Device`, and only
-    /// then, the store has stopped.
+    /// Writes this table to the other bank, without groups, and switches to that bank. Allocates nothing. Errors:
+    /// `Stopped`; `Device`, after which, and only then, the store has stopped.
     ///
-    /// That the table, its locks apart, is the committed one is a premise of what the images hold, not a condition of the call.
+    /// That the table, its locks apart, is the committed one is a premise of what the images hold, not a condition of
+    /// the call.
     pub fn checkpoint(&mut self, table: &Table) -> Result<(), WriteFault>
         requires fits { length (table_image table.now) + reserved_bytes ≤ body_bytes self.old.bank.shape }
         requires numbered { is_numbered table.now ≡ true }
 
-        // A crash at any moment leaves a store of the same table; and at `Ok` in the other bank.
+        // (a crash at any point in time leaves a store of the same table, and at `Ok` in the other bank)
         ensures leaves { Leaves D.Disk
             (IsSwitch self.old.bank.shape self.old.chosen self.old.bank.gate self.old.bank.shape (first_gate self.old.library.items table.now)
             self.old.library.items (unlocked_table table.now))
@@ -204,13 +210,15 @@ impl<D: Disk> Store<D> {
         }
     }
 
-    /// The same with another library, which later checkpoints then have too. Its bytes are kept in room that `open` has reserved.
+    /// Makes a checkpoint with another library, which later checkpoints then have, too. `open` has allocated the
+    /// memory for it. Errors as of `checkpoint`.
     pub fn checkpoint_with(&mut self, library: &[u8], table: &Table) -> Result<(), WriteFault>
         requires fits { length (table_image table.now) + reserved_bytes ≤ body_bytes self.old.bank.shape }
         requires numbered { is_numbered table.now ≡ true }
         requires short { length library.now ≤ max_library_bytes }
 
-        // A crash at any moment leaves the store of before, or one of the other library and the same table; and at `Ok` the latter.
+        // (a crash at any point in time leaves the old store, or one of the other library and the same table, and at
+        // `Ok` the latter)
         ensures leaves { Leaves D.Disk
             (IsReplacement self.old.bank.shape self.old.chosen self.old.bank.gate self.old.bank.shape (first_gate library.now table.now)
             self.old.library.items library.now (unlocked_table table.now))

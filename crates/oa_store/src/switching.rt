@@ -1,4 +1,4 @@
-//! Going on in the other bank.
+//! Switching to the other bank.
 ghost use Rattle.std.specs.Prelude.{◌≡◌, ◌+◌, ◌-◌, ◌<◌, length, IfOk, true, false};
 ghost use Rattle.std.specs.Int.{div_ceil};
 ghost use Rattle.oa_disk.specs.After.{AfterWrites, Leaves};
@@ -16,8 +16,8 @@ use oa_disk::{DeviceFault, Disk, flip};
 use oa_journal::{Bank, Shape};
 use oa_table::Table;
 
-/// Writes the bank that is not in use in format 2, with a body of that size, this library, this table and no groups, and then the selector
-/// that names it. Takes no memory.
+/// Writes the bank that is not in use in format 2, with a body of that size, this library, this table and no groups,
+/// and then the selector that names it. Allocates nothing.
 pub(crate) fn switch_to<D: Disk>(
     disk: &mut D,
     buffer: &mut [u8],
@@ -37,7 +37,7 @@ pub(crate) fn switch_to<D: Disk>(
     ensures bank { IfOk result (IsAt (Two size) (head_place (1 - chosen)) (body_place (Two size) (1 - chosen))
         (first_gate library.now table.now) false) }
     ensures buffer { length buffer.new ≡ length buffer.old }
-    // at most a call for the head, one for each piece of the body, a sync, the selector and a sync
+    // (at most one call for the head, one for each piece of the body, a sync, the selector and a sync)
     ensures after { AfterWrites D.Disk (4 + div_ceil (1 + first_gate library.now table.now) (length buffer.old)) disk.old disk.new result }
 {
     let other = 1 - chosen;

@@ -1,4 +1,4 @@
-//! Bringing a store of format 1 to format 2.
+//! Upgrading a store from format 1 to format 2.
 ghost use Rattle.std.specs.Prelude.{◌≡◌, ◌+◌, ◌-◌, ◌<◌, ◌≤◌, ℕ, IsTrue, true, length, OnOk, IfOk, IfErr};
 ghost use Rattle.oa_disk.specs.After.{AfterCalls, AfterWrites, Leaves};
 ghost use Rattle.oa_disk.specs.Disk.{LeavesStep};
@@ -25,8 +25,8 @@ use oa_model::MAX_LIBRARY_BYTES;
 use oa_table::Table;
 use std::alloc::Global;
 
-/// A store of format 1 that was found on a disk, and what it takes to go on in format 2: its library, its table, and the size of the bodies
-/// that these are to go into.
+/// A store of format 1 that was found on a disk: its library, its table, and the size of the bodies to which it is to
+/// be upgraded.
 #[derive(Drop)]
 pub struct OldStore {
     size: u32,
@@ -34,7 +34,7 @@ pub struct OldStore {
     chosen: u8,
     library: Vec<u8>,
     table: Table,
-    /// What the new bank is written from.
+    /// The buffer from which the new bank is written.
     buffer: Vec<u8>,
     ghost least: { least_bank_bytes ≤ size },
     ghost two: { chosen < 2 },
@@ -47,9 +47,8 @@ pub struct OldStore {
 impl OldStore {
     ghost use Rattle.oa_store.specs.Bringing.{FindsOld, HoldsOld};
 
-    /// The store of format 1 that is on the disk, of a library that a server takes and a table that a body of that size has room for: what
-    /// an upgrade to such bodies would bring over, were the disk as large as that takes. Its refusals are those of `upgrade`, but for
-    /// `TooSmall`. It writes nothing, and begins with a sync.
+    /// Reads the store of format 1 on the disk, if its library is one that a server accepts and its table fits into a
+    /// body of that size. Errors are those of `upgrade` except `TooSmall`. It writes nothing, and begins with a sync.
     pub fn find<D: Disk>(alloc: Global, disk: &mut D, size: u32) -> Result<OldStore, UpgradeFault>
         requires { least_bank_bytes ≤ size }
         ensures found { IfOk result (FindsOld D.Disk size disk.old disk.new) }
@@ -73,15 +72,15 @@ impl OldStore {
         })
     }
 
-    /// Brings the store to format 2 on a disk that holds it, the one that it was found on or a longer one: its library and its table go into
-    /// the bank that is not in use, and the selector then names it. It reads nothing, and takes no memory. `Write` where a write or a sync
-    /// failed, which is then the last call.
+    /// Upgrades the store on a disk that holds it: the disk on which it was found, or a longer one. Library and table
+    /// are written to the bank that is not in use, and the selector then names that bank. Reads and allocates
+    /// nothing. `Write` if a write or a sync failed; no call follows it.
     pub fn bring<D: Disk>(self, disk: &mut D) -> Result<(), DeviceFault>
         requires most { self.size ≤ most_bank_bytes }
         requires room { disk_bytes (Two self.size) ≤ D.size_of disk.old }
         requires held { IsTrue (D.is_honest disk.old) → HoldsOld D.Disk self disk.old }
-        // A crash at any moment leaves the same library and the same table, in the old format or in the new one, and at `Ok` in the new one
-        // alone.
+        // (a crash at any point in time leaves the same library and table, in the old format or the new one, and at
+        // `Ok` only in the new one)
         ensures leaves { Leaves D.Disk (IsUpgrade self.size) (λ d c. IsStoreIn (Two self.size) c self.library.items self.table)
             disk.old disk.new result }
         ensures after { AfterWrites D.Disk (checkpoint_calls self.library.items self.table) disk.old disk.new result }
@@ -98,14 +97,14 @@ impl OldStore {
     }
 }
 
-/// The number of the bank in use, the library and the table of the store of format 1 that is on the disk, and a buffer. It writes nothing,
-/// and begins with a sync.
+/// Reads the store of format 1 on the disk: the number of the bank in use, the library, the table; and allocates a
+/// buffer. It writes nothing, and begins with a sync.
 fn find_old<D: Disk>(
     alloc: Global,
     disk: &mut D,
 ) -> Result<(u8, Vec<u8>, Table, Vec<u8>), UpgradeFault>
     ensures found { IfOk result (λ r. FindsFormatOne D.Disk r.0 r.1.items r.2 r.3.items disk.old disk.new) }
-    // of bodies of whichever size
+    // (for bodies of any size)
     ensures refused { IfErr result (λ e. (size : ℕ) → RefusesReading D.Disk size disk.old disk.new e) }
     ensures reads { IsTrue (D.is_honest disk.new) → WritesNothing D.image D.moment D.image_since disk.old disk.new }
     ensures after { AfterCalls D.Disk disk.old disk.new result }
@@ -122,18 +121,19 @@ fn find_old<D: Disk>(
     Ok((chosen, library, table, buffer))
 }
 
-/// Brings a store of format 1 to format 2 with bodies of that size: its library and its table go into the bank that is not in use, and the
-/// selector then names it. It begins with a sync.
+/// Upgrades a store of format 1 to format 2 with bodies of that size: library and table are written to the bank that
+/// is not in use, and the selector then names that bank. It begins with a sync.
 ///
-/// Refused as `TooSmall` before the first call of the disk, and otherwise, but for a fault of the device, before the first write.
+/// Errors: `TooSmall` before the first call of the disk; `NotAStore`, `AlreadyNew`, `Damaged` and `Memory` before the
+/// first write; `Device`.
 pub fn upgrade<D: Disk>(alloc: Global, disk: &mut D, size: u32) -> Result<(), UpgradeFault>
     requires least { least_bank_bytes ≤ size }
     requires most { size ≤ most_bank_bytes }
 
-    // A crash at any moment leaves the same library and the same table, in the old format or in the new one.
+    // (a crash at any point in time leaves the same library and table, in the old format or the new one)
     ensures any_moment { IsTrue (D.is_honest disk.new)
         → LeavesStep D.moment D.image_since D.image disk.old disk.new (IsUpgrade size) }
-    // And at `Ok` in the new one alone, with what it held, none of it larger than a server takes.
+    // (and at `Ok` only in the new one, with the old contents, none of them larger than a server accepts)
     ensures done { OnOk result (IsTrue (D.is_honest disk.new) → IsBrought size (D.contents disk.old) (D.image disk.new)) }
     ensures small { RefusesSmall D.Disk UpgradeFault.TooSmall size disk.old disk.new result }
     ensures refused { IfErr result (λ e. RefusesUpgrade D.Disk size disk.old disk.new e) }

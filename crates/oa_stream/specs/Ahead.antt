@@ -6,15 +6,15 @@ use Rattle.oa_stream.specs.declared.ahead.More.{More}
 use Rattle.oa_stream.specs.declared.ahead.More.TheVariants as more
 use Rattle.oa_stream.specs.Source.{Input, later}
 
--- what was read ahead
+-- the bytes that were read ahead
 abbrev pub read_ahead : {R : Type 0} → Ahead R → List ℕ
 read_ahead a = slice_range a.front.bytes.items a.front.from a.front.to
 
--- what was taken of what the reader gave when it was last called
+-- the bytes consumed since the last call of the reader
 abbrev pub passed : {R : Type 0} → Ahead R → List ℕ
 passed a = take a.front.from a.front.bytes.items
 
--- a reader with these bytes before all that it has left
+-- a reader with these bytes before all others
 abbrev pub with_front : List ℕ → Input → Input
 with_front front i =
     record { left = prepend_known front i.left; calls = i.calls; faulted = i.faulted; steady = i.steady }
@@ -22,14 +22,14 @@ with_front front i =
 abbrev pub ahead : {R : Type 0} → (R → Input) → Ahead R → Input
 ahead input a = with_front (read_ahead a) (input a.reader)
 
--- these bytes were taken, and the reader was not called
+-- these bytes were consumed, and the reader was not called
 pub record TakesAhead (bytes : List ℕ) (old new : Input) : Type 0 where
   pub taken : Consumes old.left new.left bytes
   pub clock : new.calls ≡ old.calls
   pub fault : new.faulted ≡ old.faulted
   pub steady : new.steady ≡ old.steady
 
--- what is held after a wait
+-- the bytes in the buffer after a wait
 abbrev pub Brings : More → Option (List ℕ) → List ℕ → Type 0
 Brings more.Some left front = 0 < length front
 Brings more.End left front = (front ≡ []) × IsAtEnd left
@@ -49,7 +49,7 @@ IsSure more.End = ⊤
 IsSure more.Again = ⊥
 IsSure more.Fault = ⊥
 
--- one call of the reader, by which nothing was taken
+-- one call of the reader, which consumes nothing
 pub record Waits (result : More) (old new : Input) (front : List ℕ) : Type 0 where
   pub kept : Keeps old.left new.left
   pub brings : Brings result new.left front

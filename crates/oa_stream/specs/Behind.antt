@@ -4,7 +4,7 @@ use Rattle.std.proofs.Common.{arith, length-append, length-take}
 use Rattle.oa_stream.specs.declared.behind.Behind.{Behind}
 use Rattle.oa_stream.specs.Sink.{Output}
 
--- a writer before which these bytes are kept back
+-- a writer with these bytes kept back before it
 abbrev pub with_back : Output → List ℕ → Output
 with_back o back = record {
   reached = o.reached;
@@ -15,14 +15,14 @@ with_back o back = record {
   broken = o.broken;
 }
 
--- what is kept back before the writer
+-- the bytes kept back before the writer
 abbrev pub kept_back : {W : Type 0} → Behind W → List ℕ
 kept_back b = take b.back.len b.back.bytes.items
 
 abbrev pub behind : {W : Type 0} → (W → Output) → Behind W → Output
 behind out b = with_back (out b.writer) (kept_back b)
 
--- what is kept back, by the writer and before it
+-- the bytes kept back, by the writer and before it
 pub back_keeps : {W : Type 0} (out : W → Output) → ((w : W) → length (out w).kept ≤ (out w).back) → (b : Behind W)
     → length (behind out b).kept ≤ (behind out b).back
 back_keeps out keeps b =

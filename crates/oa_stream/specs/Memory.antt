@@ -6,7 +6,7 @@ use Rattle.oa_stream.specs.declared.interrupted.Interrupted.{Interrupted}
 use Rattle.oa_stream.specs.Source.{Input, in_memory}
 use Rattle.oa_stream.specs.Sink.{Output}
 
--- the bytes of the vector have left; it takes what its capacity has room for
+-- the bytes of the vector have left; it promises to accept as many as fit into its capacity
 abbrev pub gathered_output : Gathered → Output
 gathered_output g = record {
   reached = Some g.bytes.items;
@@ -17,11 +17,11 @@ gathered_output g = record {
   broken = g.broken;
 }
 
--- where the bytes are cut does not show
+-- the lengths of the chunks are not visible
 abbrev pub cutting : Cutting → Input
 cutting c = in_memory c.bytes.now
 
--- steady where no interruption is left and the reader within is steady
+-- steady if no interruption is left and the inner reader is steady
 abbrev pub interrupted : {R : Type 0} → (R → Input) → Interrupted R → Input
 interrupted input i =
     let inner = input i.reader in

@@ -6,16 +6,16 @@ use Rattle.oa_stream.specs.declared.outlet.Taken.{Taken}
 use Rattle.oa_stream.specs.declared.outlet.Taken.TheVariants.{Bytes, Again, Fault}
 use Rattle.oa_stream.specs.Sink.{Output}
 
--- what the standard library says that the writer within holds has left; no room is promised
+-- what the inner writer holds by the standard library has left; no space is promised
 abbrev pub outlet : {W : Type 0} → (W → Option (List ℕ)) → Outlet W → Output
 outlet contents o =
     record { reached = contents o.writer; kept = []; flushed = o.flushed; back = 0; room = 0; broken = o.broken }
 
--- so many calls in a row may be interrupted
+-- how many calls in a row may be interrupted
 abbrev pub most_tries : ℕ
 most_tries = 4194304
 
--- An interrupted call is counted, and a failed one remembered.
+-- An interrupted call is counted, and a failed one is remembered.
 abbrev pub Tried : Taken → ℕ → ℕ → Bool → Type 0
 Tried (Bytes n) old new failed = new ≡ old
 Tried Again old new failed = new ≡ old + 1

@@ -1,11 +1,11 @@
--- Writers as contracts see them, and what they take, keep back and hand on (this project's choice).
+-- Writers as contracts see them: what they accept, keep back and send (this project's choice).
 use Rattle.std.specs.Prelude.{◌≡◌, ℕ, ◌+◌, ◌≤◌, Bool, true, false, List, [], ◌++◌, length, Option, Result, Ok, Err}
 use Rattle.std.specs.Io.KnownBytes.{Appends}
 use Rattle.oa_stream.specs.declared.sink.Unwritten.{Unwritten}
 
--- A writer: what has left it for good, where that is known; what it took and keeps back; whether nothing waits below it
--- since the last delivery; how many bytes it keeps back at most; fewer bytes than `room` are taken and handed on
--- without a failure; whether it failed.
+-- A writer: what has left it for good, if that is known; what it accepted and keeps back; whether nothing has been
+-- written since the last flush; how many bytes it keeps back at most; it promises to accept and send fewer bytes than
+-- `room` without a failure; whether it failed.
 pub record Output : Type 0 where
   pub reached : Option (List ℕ)
   pub kept : List ℕ
@@ -14,13 +14,13 @@ pub record Output : Type 0 where
   pub room : ℕ
   pub broken : Bool
 
--- all that was put has left
+-- everything that was put has left, and is flushed
 pub record IsHandedOn (o : Output) : Type 0 where
   pub nothing : o.kept ≡ []
   pub flushed : o.flushed ≡ true
 
--- All bytes were taken: what was kept back and these bytes are what has left and what is kept back now. They took no
--- more room than they have bytes.
+-- All bytes were accepted: the bytes kept back before, and these, are now those that have left and those that are
+-- kept back. They used no more space than they have bytes.
 pub record Writes (old new : Output) (bytes : List ℕ) : Type 0 where
   pub gone : List ℕ
   pub whole : old.kept ++ bytes ≡ gone ++ new.kept
@@ -29,8 +29,8 @@ pub record Writes (old new : Output) (bytes : List ℕ) : Type 0 where
   pub back : new.back ≡ old.back
   pub sound : new.broken ≡ false
 
--- The writer failed: a first part of what was due has left, the rest is lost, and these bytes were more than it had
--- promised to take.
+-- The writer failed: a prefix of the bytes has left, the rest is lost, and these bytes were more than it had promised
+-- to accept.
 pub record Breaks (old new : Output) (bytes : List ℕ) : Type 0 where
   pub gone : List ℕ
   pub lost : List ℕ
@@ -43,7 +43,7 @@ abbrev pub Puts : Result (Unit {0}) Unwritten → Output → Output → List ℕ
 Puts (Ok u) old new bytes = Writes old new bytes
 Puts (Err e) old new bytes = Breaks old new bytes
 
--- all that was kept back has left, or the writer failed
+-- everything that was kept back has left, or the writer failed
 abbrev pub Delivers : Result (Unit {0}) Unwritten → Output → Output → Type 0
 Delivers (Ok u) old new = Writes old new [] × IsHandedOn new
 Delivers (Err e) old new = Breaks old new []

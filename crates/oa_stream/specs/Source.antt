@@ -5,15 +5,15 @@ use Rattle.std.specs.Io.KnownBytes.{Consumes, Keeps, IsAtEnd, prepend_known}
 use Rattle.oa_stream.specs.declared.source.Next.{Next}
 use Rattle.oa_stream.specs.declared.source.Next.TheVariants.{Bytes, End, Again, Fault}
 
--- A reader: the bytes that are still to come, where they are known; how often it was called, up to 2^64 - 1; whether it
--- failed; whether it promises that from here on no call fails or is interrupted.
+-- A reader: the bytes that are still to come, if they are known; how often it was called, up to 2^64 - 1; whether it
+-- failed; whether it promises that no further call fails or is interrupted.
 pub record Input : Type 0 where
   pub left : Option (List ℕ)
   pub calls : ℕ
   pub faulted : Bool
   pub steady : Bool
 
--- the count where it stops, which is also that of a reader that does not count
+-- the greatest count, also that of a reader that does not count
 abbrev pub most_calls : ℕ
 most_calls = 18446744073709551615
 
@@ -53,14 +53,14 @@ pub record Fills (result : Next) (old new : Input) (buffer : List ℕ) : Type 0 
   pub on : old.steady ≡ true → IsOn result
   pub steady : old.steady ≡ true → new.steady ≡ true
 
--- what stands in a buffer that one call filled anew
+-- the contents of a buffer that one call filled
 abbrev pub FillsBuffer : Next → Option (List ℕ) → List ℕ → Type 0
 FillsBuffer (Bytes n) left front = 0 < length front
 FillsBuffer End left front = (front ≡ []) × IsAtEnd left
 FillsBuffer Again left front = front ≡ []
 FillsBuffer Fault left front = front ≡ []
 
--- one call into a buffer, of which these bytes are not taken yet
+-- one call into a buffer with these bytes not yet consumed
 pub record Loads (result : Next) (old new : Input) (front : List ℕ) : Type 0 where
   pub kept : Keeps old.left (prepend_known front new.left)
   pub holds : FillsBuffer result new.left front

@@ -7,22 +7,22 @@ use crate::stretch::Front;
 use crate::{Next, Sink, Source};
 use std::alloc::{AllocError, Global};
 
-/// What a wait for more bytes brought.
+/// The result of waiting for more bytes.
 #[derive(Clone, Copy, Debug, PartialEq, Eq)]
 pub enum More {
     /// More bytes.
     Some,
     /// The end of the input.
     End,
-    /// Nothing, since the call was interrupted: it may be made again.
+    /// Nothing, since the call was interrupted: repeat it.
     Again,
     /// Nothing, since the reader failed.
     Fault,
 }
 
-/// A reader, and up to 8,192 bytes that were read ahead of what was taken.
+/// A reader with a read-ahead buffer of 8,192 bytes.
 ///
-/// To contracts its input is that of the reader with these bytes in front: it is steady where the reader is.
+/// In contracts its input is that of the reader with the buffered bytes in front; it is steady if the reader is.
 #[derive(Drop)]
 pub struct Ahead<R> {
     reader: R,
@@ -30,7 +30,7 @@ pub struct Ahead<R> {
 }
 
 impl<R: Source + Drop> Ahead<R> {
-    /// A reader of which nothing was read ahead. Err where the 8,192 bytes are refused.
+    /// Makes a reader with an empty buffer. Err: the allocation of 8,192 bytes failed.
     pub fn new(alloc: Global, reader: R) -> Result<Ahead<R>, AllocError>
         ensures { IfOk result (λ a. (a.reader ≡ reader) × (read_ahead a ≡ [])) }
     {
@@ -38,14 +38,14 @@ impl<R: Source + Drop> Ahead<R> {
         Ok(Ahead { reader, front })
     }
 
-    /// What was read ahead.
+    /// Returns the buffered bytes.
     pub fn buffered(&self) -> &[u8]
         ensures { result.now ≡ read_ahead self.now }
     {
         self.front.held()
     }
 
-    /// Takes the first `count` bytes of what was read ahead, with no call of the reader.
+    /// Consumes the first `count` buffered bytes, without a call of the reader.
     pub fn advance(&mut self, count: usize)
         requires { count ≤ length (read_ahead self.old) }
         ensures held { read_ahead self.new ≡ drop count (read_ahead self.old) }
@@ -55,7 +55,8 @@ impl<R: Source + Drop> Ahead<R> {
         self.front.advance(count);
     }
 
-    /// The last `count` bytes that were taken, of those that the reader gave when it was last called.
+    /// Returns the last `count` consumed bytes, which are still in the buffer: at most as many as were consumed since
+    /// the last call of the reader.
     #[inline(always)]
     pub fn passed(&self, count: usize) -> &[u8]
         requires { count ≤ length (passed self.now) }
@@ -64,9 +65,9 @@ impl<R: Source + Drop> Ahead<R> {
         self.front.passed(count)
     }
 
-    /// One call of the reader, for when all that was read ahead was taken. It takes nothing.
+    /// Calls the reader once, after all buffered bytes were consumed. It consumes nothing.
     ///
-    /// The writer has handed on all that was put: whoever sends what is read here may first wait for it.
+    /// The caller has flushed `writer`, so a peer that waits for its output before it sends more cannot deadlock.
     pub fn more<W: Sink>(&mut self, writer: &W) -> More
         requires none { read_ahead self.old ≡ [] }
         requires unbroken { (ahead R.input self.old).faulted ≡ false }

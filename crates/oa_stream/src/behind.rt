@@ -7,9 +7,10 @@ use crate::stretch::{Back, SIZE};
 use crate::{Sink, Unwritten};
 use std::alloc::{AllocError, Global};
 
-/// A writer, and up to 8,192 bytes that were put and are kept back.
+/// A writer with a buffer of 8,192 bytes for output.
 ///
-/// To contracts its output is that of the writer with these bytes kept back as well, and less room by as many.
+/// In contracts its output is that of the writer with the buffered bytes kept back as well, and with less space by as
+/// many.
 #[derive(Drop)]
 pub struct Behind<W> {
     writer: W,
@@ -17,7 +18,7 @@ pub struct Behind<W> {
 }
 
 impl<W: Sink + Drop> Behind<W> {
-    /// A writer before which nothing is kept back. Err where the 8,192 bytes are refused.
+    /// Makes a writer with an empty buffer. Err: the allocation of 8,192 bytes failed.
     pub fn new(alloc: Global, writer: W) -> Result<Behind<W>, AllocError>
         ensures { IfOk result (λ b. (b.writer ≡ writer) × (kept_back b ≡ [])) }
     {
@@ -25,7 +26,7 @@ impl<W: Sink + Drop> Behind<W> {
         Ok(Behind { writer, back })
     }
 
-    /// Passes on what is kept back.
+    /// Passes the buffered bytes to the writer.
     fn pass(&mut self) -> Result<(), Unwritten>
         requires unbroken { (W.out self.old.writer).broken ≡ false }
         ensures empty { IfOk result (λ _. kept_back self.new ≡ []) }
@@ -36,7 +37,7 @@ impl<W: Sink + Drop> Behind<W> {
         Ok(())
     }
 
-    /// Takes bytes for which there is no room behind what is kept back.
+    /// Writes bytes that do not fit into what is left of the buffer.
     #[inline(never)]
     fn put_past(&mut self, bytes: &[u8]) -> Result<(), Unwritten>
         requires unbroken { (W.out self.old.writer).broken ≡ false }

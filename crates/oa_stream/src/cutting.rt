@@ -1,11 +1,11 @@
-//! A reader in memory that cuts its bytes.
+//! A reader in memory that returns its bytes in chunks.
 ghost use Rattle.std.specs.Prelude.{◌≡◌, ◌<◌};
 ghost use Rattle.oa_stream.specs.Memory.{cutting};
 
 use crate::{Next, Source};
 
-/// Bytes in memory, of which a call gives no more than the next of some lengths, and after these what the buffer has room for. A length of
-/// 0 counts as 1.
+/// Bytes in memory. Each call returns at most as many as the next of the given lengths, and after the last length as
+/// many as fit. A length of 0 counts as 1.
 #[derive(Drop)]
 pub struct Cutting<'a> {
     bytes: &'a [u8],
@@ -13,14 +13,14 @@ pub struct Cutting<'a> {
 }
 
 impl<'a> Cutting<'a> {
-    /// These bytes, cut at these lengths in turn.
+    /// Makes a reader of these bytes in chunks of these lengths.
     pub fn new(bytes: &'a [u8], lengths: &'a [usize]) -> Cutting<'a>
         ensures { result.bytes.now ≡ bytes.entry.now }
     {
         Cutting { bytes, lengths }
     }
 
-    /// How many bytes the next call gives at most.
+    /// Returns how many bytes the next call returns at most.
     fn most(&mut self) -> usize
         ensures some { 0 < result }
         ensures bytes { self.new.bytes ≡ self.old.bytes }

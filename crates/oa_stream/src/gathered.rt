@@ -5,7 +5,7 @@ ghost use Rattle.oa_stream.specs.Memory.{gathered_output};
 
 use crate::{Sink, Unwritten};
 
-/// A vector that takes what it has the memory for, and more while memory is found. It keeps nothing back, and remembers that it failed.
+/// A vector that accepts bytes while they fit or allocations succeed. It keeps nothing back, and remembers a failure.
 #[derive(Drop)]
 pub struct Gathered {
     bytes: Vec<u8>,
@@ -13,7 +13,7 @@ pub struct Gathered {
 }
 
 impl Gathered {
-    /// A writer at the end of `bytes`.
+    /// Makes a writer that appends to `bytes`.
     pub fn new(bytes: Vec<u8>) -> Gathered
         ensures bytes { result.bytes ≡ bytes }
         ensures unbroken { result.broken ≡ false }
@@ -24,7 +24,7 @@ impl Gathered {
         }
     }
 
-    /// All bytes that it has.
+    /// Returns all bytes that were written.
     pub fn bytes(&self) -> &[u8]
         ensures { result.now ≡ self.now.bytes.items }
     {

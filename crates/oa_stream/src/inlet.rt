@@ -5,7 +5,7 @@ ghost use Rattle.oa_stream.specs.Inlet.{inlet};
 use crate::{Next, Source};
 use std::io::{ErrorKind, Read};
 
-/// A reader of the standard library. It promises nothing, counts its calls, and keeps that it failed.
+/// A reader of the standard library. It promises nothing, counts its calls, and remembers a failure.
 #[derive(Drop)]
 pub struct Inlet<R> {
     reader: R,
@@ -14,7 +14,7 @@ pub struct Inlet<R> {
 }
 
 impl<R: Read> Inlet<R> {
-    /// A reader that was not called yet.
+    /// Makes a reader that has not been called.
     pub fn new(reader: R) -> Inlet<R>
         ensures { inlet R.remaining result ≡ record { left = R.remaining reader; calls = 0; faulted = false; steady = false } }
     {
@@ -26,8 +26,8 @@ impl<R: Read> Inlet<R> {
     }
 }
 
-// What tells an interrupted call from a failure is `ErrorKind::Interrupted` alone: the standard library's word, of which no contract
-// speaks.
+// Only `ErrorKind::Interrupted` distinguishes an interrupted call from a failure. It comes from the standard library,
+// and no contract mentions it.
 impl<R: Read> Source for Inlet<R> {
     ghost input = { inlet R.remaining };
 

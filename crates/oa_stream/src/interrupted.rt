@@ -14,7 +14,7 @@ pub struct Interrupted<R> {
 }
 
 impl<R: Source> Interrupted<R> {
-    /// A reader of which the next `times` calls are interrupted.
+    /// Makes a reader whose next `times` calls are interrupted.
     pub fn new(reader: R, times: u64) -> Interrupted<R>
         ensures reader { result.reader ≡ reader }
         ensures times { result.times ≡ times }
@@ -27,7 +27,7 @@ impl<R: Source> Interrupted<R> {
         }
     }
 
-    /// How often it was called.
+    /// Returns how often it was called.
     pub fn calls(&self) -> u64
         ensures { result ≡ self.now.calls }
     {
@@ -38,7 +38,7 @@ impl<R: Source> Interrupted<R> {
 impl<R: Source> Source for Interrupted<R> {
     ghost input = { interrupted R.input };
 
-    // So many calls are interrupted, before the reader within is called, and no more.
+    // The inner reader is called only after all interruptions.
     fn fill(&mut self, buffer: &mut [u8]) -> Next
         requires room { 0 < length buffer.old }
         requires unbroken { (interrupted R.input self.old).faulted ≡ false }

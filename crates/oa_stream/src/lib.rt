@@ -1,9 +1,9 @@
 //! Readers and writers of bytes, and buffers between them and their callers.
 //!
-//! Its contract: `Source::fill` and `Sink::put` say what reads and writes do to bytes; no reader is called
-//! before the writer has handed on all that was put (`Ahead::more`).
+//! Contract: `Source::fill` and `Sink::put` state what reads and writes do to bytes. No reader is called before the
+//! writer is flushed (`Ahead::more`).
 //!
-//! What stands on it: oa_frame, and the program, whose standard input and output meet it.
+//! Used by oa_frame, and by the program over standard input and output.
 #![tactic(auto)]
 
 mod ahead;

@@ -7,22 +7,22 @@ ghost use Rattle.oa_stream.specs.Sink.{Delivers, Puts};
 use crate::{Sink, Unwritten};
 use std::io::{ErrorKind, Write};
 
-/// How many calls of a writer may be interrupted in one put, or in one delivery. So many count as a failure.
+/// How many calls of a writer may be interrupted in one put or one delivery. This many count as a failure.
 pub(crate) const MOST_TRIES: usize = 4_194_304;
 
-/// What became of one call of a writer.
+/// The result of one call of a writer.
 #[derive(Clone, Copy)]
 pub(crate) enum Taken {
-    /// So many bytes were taken.
+    /// This many bytes were written.
     Bytes(usize),
-    /// Nothing, since the call was interrupted: it may be made again.
+    /// Nothing, since the call was interrupted: repeat it.
     Again,
     /// Nothing, since the writer failed.
     Fault,
 }
 
-/// A writer of the standard library. It promises nothing, keeps nothing back itself, and remembers whether a flush is wanting, whether a
-/// call of it failed, and how many calls were interrupted since it was last asked.
+/// A writer of the standard library. It promises nothing and keeps nothing back. It remembers whether it needs a
+/// flush, whether a call has failed, and how many calls were interrupted since the last put or delivery.
 #[derive(Drop)]
 pub struct Outlet<W> {
     writer: W,
@@ -33,7 +33,7 @@ pub struct Outlet<W> {
 }
 
 impl<W: Write> Outlet<W> {
-    /// A writer to which nothing was written yet.
+    /// Makes a writer to which nothing has been written.
     pub fn new(writer: W) -> Outlet<W>
         ensures output { outlet W.contents result
             ≡ record { reached = W.contents writer; kept = []; flushed = true; back = 0; room = 0; broken = false } }
@@ -49,7 +49,7 @@ impl<W: Write> Outlet<W> {
         }
     }
 
-    /// One write call, after which a flush is wanting. A call that takes nothing is a failure.
+    /// Makes one write call, after which a flush is needed. A call that writes no bytes is a failure.
     fn take(&mut self, bytes: &[u8]) -> Taken
         requires unbroken { self.old.broken ≡ false }
         requires some { 0 < length bytes.now }
@@ -73,7 +73,7 @@ impl<W: Write> Outlet<W> {
         }
     }
 
-    /// A call of the writer has failed.
+    /// Notes that a call has failed.
     fn fail(&mut self) -> Taken
         ensures fault { result ≡ Taken.Fault }
         ensures broken { self.new.broken ≡ true }
@@ -87,7 +87,7 @@ impl<W: Write> Outlet<W> {
         Taken::Fault
     }
 
-    /// One flush.
+    /// Makes one flush.
     fn flush(&mut self) -> Taken
         requires unbroken { self.old.broken ≡ false }
         requires few { self.old.tries < most_tries }
@@ -111,7 +111,8 @@ impl<W: Write> Outlet<W> {
     }
 }
 
-// Both loops make an interrupted call again. Each other call of `put` takes a byte at least, so no loop comes to its end.
+// Both loops repeat an interrupted call. Every other call of `put` writes at least one byte, so no loop reaches its
+// limit.
 impl<W: Write> Sink for Outlet<W> {
     ghost out = { outlet W.contents };
 
@@ -120,7 +121,7 @@ impl<W: Write> Sink for Outlet<W> {
     fn put(&mut self, bytes: &[u8]) -> Result<(), Unwritten>
         requires unbroken { (outlet W.contents self.old).broken ≡ false }
         ensures puts { Puts result (outlet W.contents self.old) (outlet W.contents self.new) bytes.now }
-        // It fails where a call of the writer has failed, or so many were interrupted, and never else.
+        // (it fails only if a call has failed, or too many were interrupted)
         ensures cause { IsErr result → (self.new.failed ≡ true) ⊎ (self.new.tries ≡ most_tries) }
         ensures ends { self.new.tries ≤ most_tries }
     {

@@ -1,35 +1,36 @@
-//! Readers that give some bytes a call.
+//! Readers that return some bytes with each call.
 ghost use Rattle.std.specs.Prelude.{◌≡◌, ◌<◌, false, length};
 ghost use Rattle.oa_stream.specs.Source.{Fills, Input, in_memory};
 
-/// What one read call gave.
+/// The result of one read call.
 #[derive(Clone, Copy, Debug, PartialEq, Eq)]
 pub enum Next {
-    /// So many bytes, at least one, at the start of the buffer.
+    /// This many bytes, at least one, at the start of the buffer.
     Bytes(usize),
     /// The end of the input.
     End,
-    /// Nothing, since the call was interrupted: it may be made again.
+    /// Nothing, since the call was interrupted: repeat it.
     Again,
     /// Nothing, since the reader failed.
     Fault,
 }
 
-/// A reader of some bytes a call.
+/// A reader that returns some bytes with each call.
 ///
-/// Contracts see one as an `Input`: what is still to come, how often it was called, whether it failed, and whether it promises that no call
-/// fails or is interrupted.
+/// Contracts see it as an `Input`: the bytes that are still to come, how often it was called, whether it failed, and
+/// whether it promises that no call fails or is interrupted.
 pub trait Source {
     ghost input: { Self → Input };
 
-    /// One read call into the start of `buffer`, which has room for a byte at least. A reader that failed is never called again.
+    /// Makes one read call into the start of `buffer`, which has at least one byte. A reader that failed is never
+    /// called again.
     fn fill(&mut self, buffer: &mut [u8]) -> Next
         requires room { 0 < length buffer.old }
         requires unbroken { (input self.old).faulted ≡ false }
         ensures { Fills result (input self.old) (input self.new) buffer.new };
 }
 
-/// Bytes in memory never fail, are never interrupted, and their calls are not counted.
+/// Bytes in memory: reading never fails and is never interrupted, and calls are not counted.
 impl Source for &[u8] {
     ghost input = { λ s. in_memory s.now };
 

@@ -1,14 +1,14 @@
-//! The memory of the buffers: a stretch that was read ahead, and one that waits to be written.
+//! The two buffers: one for bytes that were read, one for bytes to be written.
 ghost use Rattle.std.specs.Prelude.{◌≡◌, ◌≤◌, ◌<◌, ◌+◌, ◌-◌, ◌++◌, [], length, drop, take, slice_range, vec_len, false, IfOk};
 ghost use Rattle.oa_stream.specs.Source.{Loads};
 
 use crate::{Next, Source};
 use std::alloc::{AllocError, Global};
 
-/// How many bytes a buffer has room for.
+/// The size of a buffer in bytes.
 pub(crate) const SIZE: usize = 8192;
 
-/// Bytes that were read and are not taken yet: those from `from` up to `to`.
+/// Bytes that were read and not consumed: those from `from` up to `to`.
 #[derive(Drop)]
 pub struct Front {
     bytes: Vec<u8>,
@@ -20,7 +20,7 @@ pub struct Front {
 }
 
 impl Front {
-    /// No bytes, with the memory for `SIZE`.
+    /// Makes an empty buffer of `SIZE` bytes.
     pub(crate) fn new(alloc: Global) -> Result<Front, AllocError>
         ensures { IfOk result (λ f. slice_range f.bytes.items f.from f.to ≡ []) }
     {
@@ -33,7 +33,7 @@ impl Front {
         })
     }
 
-    /// The bytes.
+    /// Returns the bytes.
     pub(crate) fn held(&self) -> &[u8]
         ensures { result.now ≡ slice_range self.now.bytes.items self.now.from self.now.to }
     {
@@ -42,7 +42,7 @@ impl Front {
         &all[from..to]
     }
 
-    /// Takes the first of them.
+    /// Consumes the first bytes.
     pub(crate) fn advance(&mut self, count: usize)
         requires { count ≤ length (slice_range self.old.bytes.items self.old.from self.old.to) }
         ensures held { slice_range self.new.bytes.items self.new.from self.new.to
@@ -53,7 +53,7 @@ impl Front {
         self.from += count;
     }
 
-    /// The last bytes before them, which were taken.
+    /// Returns the last bytes before them, which were consumed.
     #[inline(always)]
     pub(crate) fn passed(&self, count: usize) -> &[u8]
         requires { count ≤ self.now.from }
@@ -64,7 +64,7 @@ impl Front {
         &all[from..to]
     }
 
-    /// Forgets them all, and holds what one read call gives.
+    /// Replaces the contents by the result of one read call.
     pub(crate) fn load<S: Source>(&mut self, source: &mut S) -> Next
         requires unbroken { (S.input source.old).faulted ≡ false }
         ensures { Loads result (S.input source.old) (S.input source.new) (slice_range self.new.bytes.items self.new.from self.new.to) }
@@ -79,7 +79,7 @@ impl Front {
     }
 }
 
-/// Bytes that were put and are kept back: the first `len`, at most `SIZE`.
+/// Bytes that are kept back: the first `len`, at most `SIZE`.
 #[derive(Drop)]
 pub struct Back {
     bytes: Vec<u8>,
@@ -89,7 +89,7 @@ pub struct Back {
 }
 
 impl Back {
-    /// No bytes, with the memory for `SIZE`.
+    /// Makes an empty buffer of `SIZE` bytes.
     pub(crate) fn new(alloc: Global) -> Result<Back, AllocError>
         ensures { IfOk result (λ b. take b.len b.bytes.items ≡ []) }
     {
@@ -98,21 +98,21 @@ impl Back {
         Ok(Back { bytes, len: 0 })
     }
 
-    /// How many more there is room for.
+    /// Returns how many more bytes fit.
     pub(crate) fn room(&self) -> usize
         ensures { result + self.now.len ≡ 8192 }
     {
         SIZE - self.len
     }
 
-    /// The bytes.
+    /// Returns the bytes.
     pub(crate) fn bytes(&self) -> &[u8]
         ensures { result.now ≡ take self.now.len self.now.bytes.items }
     {
         &self.bytes[..self.len]
     }
 
-    /// Adds bytes at the end, for which there is room.
+    /// Appends bytes, which must fit.
     #[inline(always)]
     pub(crate) fn push(&mut self, bytes: &[u8])
         requires { length bytes.now + self.old.len ≤ 8192 }
@@ -123,7 +123,7 @@ impl Back {
         self.len = end;
     }
 
-    /// Forgets them all.
+    /// Empties the buffer.
     pub(crate) fn clear(&mut self)
         ensures { take self.new.len self.new.bytes.items ≡ [] }
     {

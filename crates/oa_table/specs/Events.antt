@@ -40,7 +40,7 @@ released_if_live number table (Some object) =
     if any_locked object.cells then Err (Array arrays.IsLocked)
     else Ok (record table { objects = remove_entry (is_at (nat_cmp number)) table.objects })
 
--- an object goes, unless one of its arrays is locked
+-- an object is removed, unless one of its arrays is locked
 abbrev pub released : ℕ → TableValue → Result TableValue TableFault
 released number table = released_if_live number table (object_at number table)
 
@@ -53,7 +53,7 @@ applied (PutElement name index value) table =
     on_object name.object (with_change name.place (with_element_put index value)) table
 applied (Redim name bound) table = on_object name.object (with_change name.place (redimensioned_value bound)) table
 
--- locks are those of a session: no event brings any
+-- locks are those of a session: no event contains any
 abbrev pub BringsNoLocks : Event → Type 0
 BringsNoLocks (Create number class) = ⊤
 BringsNoLocks (Release number) = ⊤

@@ -1,4 +1,4 @@
--- A member with what it was called with, as it lies in memory.
+-- A member with the arguments of a call, as it is in memory.
 use Rattle.std.specs.Prelude.{ℤ, List, [], ◌∷◌}
 use Rattle.oa_variant.specs.declared.scalar.Scalar.{Scalar}
 use Rattle.oa_table.specs.declared.place.MemberKey.{MemberKey}

@@ -4,16 +4,16 @@ use Rattle.std.specs.Map.{keys_of, values_of}
 use Rattle.oa_table.specs.Elements.{locks_of}
 use Rattle.oa_table.specs.Tables.{ObjectValue, TableValue}
 
--- the table of this next number, without objects
+-- the table with this next number, without objects
 abbrev pub table_with_next : ℕ → TableValue
 table_with_next next = record { next = next; objects = [] }
 
--- the table with one object more, behind the others
+-- the table with one more object after the others
 abbrev pub with_last : ℕ → ObjectValue → TableValue → TableValue
 with_last number object table = record table { objects = table.objects ++ (number, object) ∷ [] }
 
--- The object can be the last one: its number is from 1 to below the next one and above all others, and no array comes
--- locked.
+-- The object may be the last one: its number is from 1 to below the next one and above all others, and it has no
+-- locked array.
 pub record CanBeLast (number : ℕ) (object : ObjectValue) (table : TableValue) : Type 0 where
   pub positive : 1 ≤ number
   pub used : number < table.next

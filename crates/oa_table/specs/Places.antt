@@ -9,14 +9,13 @@ use Rattle.oa_model.specs.Limits.{max_key_scalars}
 use Rattle.oa_variant.specs.declared.scalar.Scalar.{Scalar}
 use Rattle.oa_variant.specs.Keys.{scalar_cmp, scalars_total}
 
--- a member of an interface (the interface's GUID as its 16 bytes in the order of print), and the arguments that it was
--- called with
+-- a member of an interface (the interface's GUID as 16 bytes in printed order), and the arguments of the call
 pub record PlaceValue : Type 0 where
   pub interface : List ℕ
   pub dispid : ℤ
   pub key : List Scalar
 
--- what holds of every place
+-- what is true of every place
 pub record IsPlace (place : PlaceValue) : Type 0 where
   pub guid : length place.interface ≡ 16
   pub few : length place.key ≤ max_key_scalars

@@ -13,12 +13,12 @@ pub record ObjectValue : Type 0 where
   pub class : List ℕ
   pub cells : List (PlaceValue × Variant)
 
--- next is the number of the next object; above the greatest one where the numbers are used up
+-- next is the number of the next object; it is above the greatest number if the numbers are used up
 pub record TableValue : Type 0 where
   pub next : ℕ
   pub objects : List (ℕ × ObjectValue)
 
--- the table at first
+-- the first table
 abbrev pub first_table : TableValue
 first_table = record { next = 1; objects = [] }
 
@@ -37,7 +37,7 @@ abbrev pub cell_in : PlaceValue → Option ObjectValue → Option Variant
 cell_in place None = None
 cell_in place (Some object) = cell_at place object.cells
 
--- What of a table an image holds: all but the locks, which last for a session.
+-- The part of a table that an image contains: all but the locks, which last for a session.
 abbrev pub unlocked_cell : PlaceValue × Variant → PlaceValue × Variant
 unlocked_cell cell = (cell.0, unlocked cell.1)
 

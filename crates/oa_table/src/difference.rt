@@ -1,4 +1,4 @@
-//! What a change takes from the size of an image, and what it adds.
+//! By how much a change makes an image shorter or longer.
 ghost use Rattle.std.specs.Prelude.{◌≡◌, ◌≤◌, ◌+◌};
 ghost use Rattle.std.specs.List.{sum_by};
 ghost use Rattle.oa_array.specs.Arrays.{kept_by_position};
@@ -14,14 +14,14 @@ use oa_layout::{element_len, elements_len};
 use oa_model::Bound;
 use oa_variant::{Scalar, Variant};
 
-/// What goes from a size, and what comes. Both are 0 of a change that is refused.
+/// The bytes that a change removes from an image, and those that it adds. Both are 0 for a change that is refused.
 #[derive(Clone, Copy)]
 pub(crate) struct Difference {
     pub gone: u64,
     pub come: u64,
 }
 
-/// No change of a size.
+/// Returns the difference of no change.
 pub(crate) fn no_difference() -> Difference
     ensures gone { result.gone ≡ 0 }
     ensures come { result.come ≡ 0 }
@@ -29,7 +29,7 @@ pub(crate) fn no_difference() -> Difference
     Difference { gone: 0, come: 0 }
 }
 
-/// An element of the array in a value is set.
+/// Returns the difference of setting an element of the array in a value.
 #[tactic(auto, unfolding(oa_layout::specs::Lengths::value_size))]
 pub(crate) fn element_difference(value: &Variant, index: &[i32], element: &Scalar) -> Difference
     ensures size { size_due value_size (with_element_put index.now element.now value.now) value.now + result.gone
@@ -64,7 +64,7 @@ fn element_set(array: &SafeArray<Scalar>, index: &[i32], element: &Scalar) -> Di
     }
 }
 
-/// The array in a value gets another first bound.
+/// Returns the difference of replacing the first bound of the array in a value.
 #[tactic(auto, unfolding(oa_layout::specs::Lengths::value_size))]
 pub(crate) fn redim_difference(value: &Variant, bound: Bound) -> Difference
     ensures size { size_due value_size (redimensioned_value bound value.now) value.now + result.gone ≡ value_size value.now + result.come }
@@ -82,7 +82,7 @@ fn array_resized(array: &SafeArray<Scalar>, bound: Bound) -> Difference
         size_due value_size (redimensioned_value bound value) value + result.gone ≡ value_size value + result.come }
     ensures small { result.come ≤ max_value_image }
 {
-    // For the prover: an array has a bound, which is what the other one replaces.
+    // For the prover: an array has a bound, which the new one replaces.
     let _cells = array.cells();
     if array.locks() > 0 {
         return no_difference();
@@ -93,7 +93,8 @@ fn array_resized(array: &SafeArray<Scalar>, bound: Bound) -> Difference
     }
 }
 
-/// So many elements stay, or zeros are added to them. Looks at those that go.
+/// Returns the difference of keeping the first `count` elements, or of adding zeros up to `count`. Reads the elements
+/// that are removed.
 fn elements_kept(array: &SafeArray<Scalar>, count: usize) -> Difference
     requires { count ≤ max_cells }
     ensures size { sum_by (element_size array.now.elem) (kept_by_position (zero_of array.now.elem) count array.now.cells) + result.gone

@@ -8,39 +8,39 @@ use uuid::Uuid;
 /// A change of a table.
 #[derive(Drop)]
 pub enum Event {
-    /// A new object of a coclass, without cells.
+    /// Adds an object of a coclass, without cells.
     Create {
         /// The object's number: the table's next one.
         number: u32,
         /// The GUID of the coclass.
         class: Uuid,
     },
-    /// An object goes, with all its cells.
+    /// Removes an object with all its cells.
     Release {
         /// The object's number.
         number: u32,
     },
-    /// A cell is set.
+    /// Sets a cell.
     Put {
-        /// The object and the place in it.
+        /// The object, and the place of the cell in it.
         name: CellName,
-        /// What the cell holds from then on: it has no locks.
+        /// The new value of the cell; it has no locks.
         value: Variant,
     },
-    /// An element of the array in a cell is set.
+    /// Sets an element of the array in a cell.
     PutElement {
-        /// The object and the place in it.
+        /// The object, and the place of the cell in it.
         name: CellName,
         /// An index for each bound of the array, in the order of the bounds.
         index: Indices,
         /// The element, of the type of the array's elements; any scalar in an array of VARIANT.
         value: Scalar,
     },
-    /// The array in a cell gets another first bound; elements stay at their positions.
+    /// Replaces the first bound of the array in a cell; elements keep their positions.
     Redim {
-        /// The object and the place in it.
+        /// The object, and the place of the cell in it.
         name: CellName,
-        /// The count and the lowest index in place of those of the first bound.
+        /// The count and the lowest index that replace those of the first bound.
         bound: Bound,
     },
 }

@@ -15,19 +15,19 @@ pub enum TableFault {
     /// A new object's number is not the table's next one, or the numbers are used up.
     #[error("the number is not the next one")]
     WrongNumber,
-    /// There is no array: the cell was never put, or holds another value.
+    /// There is no array: the cell was never put, or has another value.
     #[error("the cell holds no array")]
     NotArray,
-    /// What the array refuses; an array of the object is locked.
+    /// The array refuses the change; for a release, an array of the object is locked.
     #[error("{0}")]
     Array(ArrayFault),
-    /// No memory was found.
+    /// An allocation failed.
     #[error("out of memory")]
     Memory,
 }
 
 impl TableFault {
-    /// The code of a reply with this refusal (MS-ERREF section 2.1).
+    /// Returns the code of a reply with this refusal (MS-ERREF section 2.1).
     pub fn code(self) -> HResult
         ensures { result ≡ table_code self }
     {

@@ -1,10 +1,11 @@
-//! Laws of the definitions, each the contract of a function with an empty body.
+//! Theorems about the definitions, each the contract of a function with an empty body.
 ghost use Rattle.std.specs.Prelude.{◌≡◌, Ok, IfOk};
 ghost use Rattle.oa_table.specs.declared.event.Event.{Event as AnEvent};
 ghost use Rattle.oa_table.specs.Events.{BringsNoLocks, applied};
 ghost use Rattle.oa_table.specs.Tables.{TableValue, unlocked_table};
 
-/// Where an event applies to a table, it applies to what an image holds of this table, and gives what an image holds of the new one.
+/// If an event applies to a table, it also applies to the table without its locks, and results in the new table
+/// without its locks.
 pub fn locks_change_no_event()
     ensures { (event : AnEvent) (table : TableValue) → BringsNoLocks event →
         IfOk (applied event table) (λ new. applied event (unlocked_table table) ≡ Ok (unlocked_table new)) }

@@ -1,11 +1,11 @@
-//! The table of objects: a cell for each property and each list of arguments, the changes that it takes, and
-//! the locks of a session.
+//! The table of objects: a cell for each property and each list of arguments, the changes of a table, and the locks
+//! of a session.
 //!
-//! Its contract: `apply` of an event gives the one new table, or the reason why the event does not apply, or
-//! want of memory with nothing changed (`applied`).
+//! Contract: `apply` of an event results in the one new table (`applied`), or returns the reason why the event does
+//! not apply, or out of memory with nothing changed.
 //!
-//! What stands on it: oa_image writes it, oa_fits judges it, oa_decision answers from it, oa_turn changes it; the storage
-//! crates, whose stores are of such tables.
+//! Used by oa_image, which encodes it; by oa_fits, oa_decision and oa_turn; and by the storage crates, whose stores
+//! contain such tables.
 #![tactic(auto)]
 
 mod difference;

@@ -38,7 +38,7 @@ impl Model for LiveObject {
 }
 
 impl LiveObject {
-    /// An object of a coclass, without cells.
+    /// Makes an object of a coclass, without cells.
     pub(crate) fn new(alloc: Global, class: Uuid) -> LiveObject
         ensures { result ≡ record { class = class; cells = [] } }
     {
@@ -48,35 +48,35 @@ impl LiveObject {
         }
     }
 
-    /// An object of a coclass with these cells.
+    /// Makes an object of a coclass with these cells.
     pub(crate) fn of_cells(class: Uuid, cells: OrderedMap<Place, Variant>) -> LiveObject
         ensures { result ≡ record { class = class; cells = cells } }
     {
         LiveObject { class, cells }
     }
 
-    /// The GUID of its coclass.
+    /// Returns the GUID of its coclass.
     pub fn class(&self) -> Uuid
         ensures { result ≡ self.now.class }
     {
         self.class
     }
 
-    /// The value that was put last at a place; None where none was.
+    /// Returns the last value that was put at a place; None if there was none.
     pub fn get(&self, place: &Place) -> Option<&Variant>
         ensures { option_map (λ x. x.now) result ≡ cell_at place.now self.now.cells }
     {
         self.cells.get(place)
     }
 
-    /// The cells that were put, in the order of their places. Takes no memory.
+    /// Returns the cells that were put, in the order of their places. Allocates nothing.
     pub fn cells(&self) -> Iter<'_, Place, Variant>
         ensures { result ≡ self.now.cells }
     {
         self.cells.iter()
     }
 
-    /// A fact and no work: the places of the cells rise.
+    /// Does nothing; its contract states that the places of the cells rise.
     pub fn places_rise(&self)
         ensures { IsStrictlySortedBy place_cmp (keys_of self.now.cells) }
     {
@@ -84,7 +84,7 @@ impl LiveObject {
         let _count = self.cells.len();
     }
 
-    /// How many bytes the object has in an image. Looks at each cell of the object.
+    /// Returns the length in bytes of the object's image. Reads each cell of the object.
     #[tactic(auto, unfolding(crate::specs::Sizes::object_size))]
     pub(crate) fn size(&self) -> u128
         ensures value { result ≡ object_size self.now }
@@ -99,7 +99,7 @@ impl LiveObject {
         size
     }
 
-    /// What a put takes from the size of the image, and what it adds. Looks at the elements of the two values.
+    /// Returns the difference in size that a put makes. Reads the elements of both values.
     pub(crate) fn put_difference(&self, place: &Place, value: &Variant) -> Difference
         ensures size { size_due object_size (with_put place.now value.now self.now) self.now + result.gone
             ≡ object_size self.now + result.come }
@@ -123,7 +123,7 @@ impl LiveObject {
         }
     }
 
-    /// The same where an element of the array in a cell is set.
+    /// Returns the difference in size of setting an element of the array in a cell.
     pub(crate) fn element_difference(
         &self,
         place: &Place,
@@ -140,7 +140,8 @@ impl LiveObject {
         }
     }
 
-    /// The same where the array in a cell gets another first bound. Looks at the elements that go.
+    /// Returns the difference in size of replacing the first bound of the array in a cell. Reads the elements that
+    /// are removed.
     pub(crate) fn redim_difference(&self, place: &Place, bound: Bound) -> Difference
         ensures size { size_due object_size (with_change place.now (redimensioned_value bound) self.now) self.now + result.gone
             ≡ object_size self.now + result.come }
@@ -152,7 +153,7 @@ impl LiveObject {
         }
     }
 
-    /// Whether the array in some cell is locked. Looks at each cell of the object.
+    /// Returns whether the array in some cell is locked. Reads each cell of the object.
     pub(crate) fn is_locked(&self) -> bool
         ensures { result ≡ any_locked self.now.cells }
     {
@@ -164,7 +165,7 @@ impl LiveObject {
         false
     }
 
-    /// Sets a cell, unless its array is locked. Answers what that takes from the size of the image, and what it adds.
+    /// Sets a cell, unless its array is locked. Returns the difference in size.
     pub(crate) fn put(
         &mut self,
         place: Place,
@@ -182,8 +183,8 @@ impl LiveObject {
         replace(old, value).map_err(|(value, fault)| ((place, value), fault))
     }
 
-    /// Sets a cell that was put before to a value for which there is room, unless its array is locked, and answers the same. Else hands the
-    /// value back, and nothing changes.
+    /// Overwrites a cell that was put before, if the new value is within the given sizes and the array is not locked,
+    /// and returns the difference in size. Otherwise it returns the value, and nothing changes.
     pub(crate) fn put_again(
         &mut self,
         place: &Place,
@@ -257,7 +258,7 @@ impl LiveObject {
         redim(alloc, value, bound)
     }
 
-    /// Adds a lock of the array in a cell, and answers the new count.
+    /// Adds a lock to the array in a cell, and returns the new count.
     pub(crate) fn lock(&mut self, place: &Place) -> Result<u16, TableFault>
         ensures { CountsLocks (with_change place.now locked_value self.old) (locks_of_cell place.now) self.old self.new result }
     {
@@ -267,7 +268,7 @@ impl LiveObject {
         lock(value)
     }
 
-    /// Takes a lock of the array in a cell away, and answers the new count.
+    /// Removes a lock from the array in a cell, and returns the new count.
     pub(crate) fn unlock(&mut self, place: &Place) -> Result<u16, TableFault>
         ensures { CountsLocks (with_change place.now released_value self.old) (locks_of_cell place.now) self.old self.new result }
     {

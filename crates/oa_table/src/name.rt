@@ -1,7 +1,7 @@
 //! Names of cells.
 use crate::Place;
 
-/// The name of a cell: an object, and a place there.
+/// The name of a cell: an object, and a place in it.
 #[derive(Drop)]
 pub struct CellName {
     /// The number of the object.

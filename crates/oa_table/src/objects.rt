@@ -24,7 +24,7 @@ use std::alloc::{AllocError, Global};
 use std::marker::Model;
 use uuid::Uuid;
 
-/// The next number, and the live objects by their numbers: a table without what is counted of it.
+/// The next number, and the live objects by their numbers: a table without its size.
 #[derive(Drop)]
 pub(crate) struct Objects {
     alloc: Global,
@@ -40,13 +40,13 @@ impl Model for Objects {
     ghost view = { λ t. record { next = t.next; objects = t.objects } };
 }
 
-/// Where an object stands among all as long as none before it was released.
+/// The place of an object among all, if none before it was released.
 fn near(number: u32) -> usize {
     number.saturating_sub(1) as usize
 }
 
 impl Objects {
-    /// No objects, and this next number. Takes no memory.
+    /// Makes a table with no objects and this next number. Allocates nothing.
     pub(crate) fn with_next(alloc: Global, next: u32) -> Objects
         ensures { result ≡ table_with_next next }
     {
@@ -57,7 +57,7 @@ impl Objects {
         }
     }
 
-    /// Puts an object behind all others. Where no memory is found, nothing changes.
+    /// Appends an object. Err: an allocation failed, and nothing changed.
     pub(crate) fn push(&mut self, number: u32, object: LiveObject) -> Result<(), AllocError>
         requires { All (λ other. other < number) (keys_of self.old.objects) }
         ensures pushed { OnOk result (self.new ≡ with_last number object self.old) }
@@ -67,28 +67,28 @@ impl Objects {
         Ok(())
     }
 
-    /// The number of the next object; above the greatest one where the numbers are used up.
+    /// Returns the number of the next object; it is above the greatest number if the numbers are used up.
     pub(crate) fn next(&self) -> u32
         ensures { result ≡ self.now.next }
     {
         self.next
     }
 
-    /// How many objects are live.
+    /// Returns how many objects are live.
     pub(crate) fn len(&self) -> usize
         ensures { result ≡ length self.now.objects }
     {
         self.objects.len()
     }
 
-    /// The objects by rising number, each with its cells. Takes no memory.
+    /// Returns the objects by rising number, each with its cells. Allocates nothing.
     pub(crate) fn objects(&self) -> Iter<'_, u32, LiveObject>
         ensures { result ≡ self.now.objects }
     {
         self.objects.iter()
     }
 
-    /// A fact and no work: the numbers of the objects rise.
+    /// Does nothing; its contract states that the numbers of the objects rise.
     pub(crate) fn numbers_rise(&self)
         ensures { IsStrictlySortedBy nat_cmp (keys_of self.now.objects) }
     {
@@ -96,14 +96,14 @@ impl Objects {
         let _count = self.objects.len();
     }
 
-    /// An object, if it is live.
+    /// Returns an object, if it is live.
     pub(crate) fn get(&self, number: u32) -> Option<&LiveObject>
         ensures { option_map (λ o. o.now) result ≡ object_at number self.now }
     {
         self.objects.get_near(&number, near(number))
     }
 
-    /// Whether an array of an object is locked. Looks at the object's own cells.
+    /// Returns whether an array of an object is locked. Reads the cells of that object.
     pub(crate) fn locked(&self, number: u32) -> bool
         ensures { result ≡ locked_in (object_at number self.now) }
     {
@@ -113,8 +113,8 @@ impl Objects {
         }
     }
 
-    /// Makes a change: the table is the one after the event. An event that does not apply, or for which no memory is found, is handed
-    /// back with the reason, and nothing changes. A value that is put has no locks.
+    /// Applies an event. If it does not apply, or an allocation fails, the event is returned with the reason, and
+    /// nothing changes. A value that is put has no locks.
     pub(crate) fn apply(&mut self, event: Event) -> Result<(), (Event, TableFault)>
         requires { BringsNoLocks event }
         ensures does { Does event (applied event self.old) self.old self.new result }
@@ -132,8 +132,8 @@ impl Objects {
         }
     }
 
-    /// Adds a lock of the array in a cell, and answers the new count. NoObject where there is no such object, NotArray where the cell was
-    /// never put or holds no array, and else what the array refuses. Takes no memory.
+    /// Adds a lock to the array in a cell, and returns the new count. Errors: NoObject; NotArray if the cell was
+    /// never put or has no array; otherwise what the array refuses. Allocates nothing.
     pub(crate) fn lock(&mut self, name: &CellName) -> Result<u16, TableFault>
         ensures { CountsLocks (with_lock name.now self.old) (locks_at name.now) self.old self.new result }
     {
@@ -143,7 +143,7 @@ impl Objects {
         found.lock(&name.place)
     }
 
-    /// Takes a lock of the array in a cell away, and answers the new count. Refused as `lock` is. Takes no memory.
+    /// Removes a lock from the array in a cell, and returns the new count. Errors as of `lock`. Allocates nothing.
     pub(crate) fn unlock(&mut self, name: &CellName) -> Result<u16, TableFault>
         ensures { CountsLocks (without_lock name.now self.old) (locks_at name.now) self.old self.new result }
     {
@@ -187,7 +187,7 @@ impl Objects {
         }
     }
 
-    /// Sets a cell. Answers what that takes from the size of the image, and what it adds.
+    /// Sets a cell. Returns the difference in size.
     #[inline(always)]
     pub(crate) fn put(
         &mut self,
@@ -214,8 +214,8 @@ impl Objects {
         Ok(change)
     }
 
-    /// Sets a cell that was put before to a value for which there is room, unless its array is locked, and answers the same. Else hands the
-    /// value back, and nothing changes.
+    /// Overwrites a cell that was put before, if the new value is within the given sizes and the array is not locked,
+    /// and returns the difference in size. Otherwise it returns the value, and nothing changes.
     #[inline(always)]
     pub(crate) fn put_again(
         &mut self,

@@ -14,24 +14,24 @@ use std::marker::Model;
 use std::slice::from_ref;
 use uuid::Uuid;
 
-/// Where a cell stands in its object: the member of an interface that it belongs to, and the arguments that this was called with. A
-/// key has at most 65,535 arguments.
+/// The place of a cell in its object: the member of an interface to which it belongs, and the arguments of the call.
+/// A key has at most 65,535 arguments.
 ///
-/// It takes 48 bytes, in which one argument has its place; more are in a block of their own.
+/// A place has 48 bytes with space for one argument; more are in a block of their own.
 #[derive(Drop)]
 pub struct Place {
     interface: Uuid,
     member: MemberKey,
 }
 
-/// A member with what it was called with. The DISPID stands beside the tag, in one word.
+/// A member with the arguments of a call. The DISPID is in one word with the tag.
 #[derive(Drop)]
 enum MemberKey {
     /// No argument.
     Bare(i32),
     /// One argument.
     One(i32, Scalar),
-    /// More.
+    /// Two or more arguments.
     Many(i32, Vec<Scalar>),
 }
 
@@ -47,7 +47,7 @@ impl Model for Place {
 }
 
 impl MemberKey {
-    /// The member that was called with a list of arguments. Takes no memory.
+    /// Makes the key of a member with a list of arguments. Allocates nothing.
     fn of_key(dispid: i32, key: Vec<Scalar>) -> MemberKey
         ensures dispid { dispid_in result ≡ dispid }
         ensures key { key_in result ≡ key.items }
@@ -82,7 +82,7 @@ impl MemberKey {
         }
     }
 
-    /// By DISPID, then by arguments. Of two without any, as most are, no lists are compared.
+    /// Compares by DISPID, then by arguments. If neither has any, as usual, no lists are compared.
     fn order(&self, other: &MemberKey) -> Ordering
         ensures { result ≡ then_cmp (on dispid_in int_cmp) (on key_in key_cmp) self.now other.now }
     {
@@ -97,12 +97,12 @@ impl MemberKey {
 }
 
 impl Place {
-    /// The place of a member of an interface, by its DISPID, for a list of arguments.
+    /// Makes the place of a member of an interface, by its DISPID, for a list of arguments.
     pub fn new(interface: Uuid, dispid: i32, key: Vec<Scalar>) -> Place
         requires { length key.items ≤ max_key_scalars }
         ensures { result ≡ record { interface = interface; dispid = dispid; key = key.items } }
     {
-        // For the prover: a GUID has 16 bytes, as the invariant wants.
+        // For the prover: a GUID has 16 bytes, as the invariant requires.
         let _ = interface.as_bytes();
         Place {
             interface,
@@ -110,21 +110,21 @@ impl Place {
         }
     }
 
-    /// The GUID of the interface.
+    /// Returns the GUID of the interface.
     pub fn interface(&self) -> Uuid
         ensures { result ≡ self.now.interface }
     {
         self.interface
     }
 
-    /// The DISPID of the member.
+    /// Returns the DISPID of the member.
     pub fn dispid(&self) -> i32
         ensures { result ≡ self.now.dispid }
     {
         self.member.dispid()
     }
 
-    /// The arguments, in the order of the parameters.
+    /// Returns the arguments, in the order of the parameters.
     pub fn key(&self) -> &[Scalar]
         ensures value { result.now ≡ self.now.key }
         ensures place { IsPlace self.now }
@@ -157,7 +157,7 @@ impl PartialOrd for Place {
     }
 }
 
-/// By interface, then by DISPID, then by key. See the definition `place_cmp`.
+/// Compares by interface, then by DISPID, then by key: see the definition `place_cmp`.
 impl Ord for Place {
     ghost cmp = { place_cmp };
 

@@ -1,4 +1,4 @@
-//! How many bytes the parts of an image have.
+//! The lengths of the parts of an image.
 ghost use Rattle.std.specs.Prelude.{◌≡◌, ◌≤◌};
 ghost use Rattle.oa_layout.specs.Lengths.{max_value_image, value_size};
 ghost use Rattle.oa_table.specs.Sizes as sizes;
@@ -8,7 +8,7 @@ use oa_layout::{elements_len, value_image_len};
 use oa_model::VarType;
 use oa_variant::Variant;
 
-/// A value.
+/// Returns the length in bytes of a value's image.
 #[inline(always)]
 pub(crate) fn value_size(value: &Variant) -> u64
     ensures value { result ≡ value_size value.now }
@@ -17,7 +17,8 @@ pub(crate) fn value_size(value: &Variant) -> u64
     value_image_len(value) as u64
 }
 
-/// How many bytes a place has in an image: its interface, its DISPID and how many scalars its key has, and these.
+/// Returns the length in bytes of a place's image: its interface, its DISPID, the number of scalars in its key, and
+/// the scalars.
 #[tactic(auto, unfolding(crate::specs::Sizes::place_size, oa_layout::specs::Lengths::element_size))]
 pub fn place_size(place: &Place) -> u64
     ensures value { result ≡ sizes.place_size place.now }

@@ -27,18 +27,19 @@ use std::alloc::{AllocError, Global};
 use std::marker::Model;
 use uuid::Uuid;
 
-/// The greatest size of an image in bytes whose table fits in memory. A change to more than that finds none.
+/// The greatest size of an image in bytes. A change that would exceed it fails as out of memory.
 pub const LARGEST_IMAGE: u64 = 0x7FFF_FFFF_FFFF_FFFF;
 
-/// The most bytes that a cell has in an image: its place, and its value, an array of the most bounds and of the longest texts.
+/// The most bytes that a cell has in an image: its place, and its value, an array with the most bounds and the
+/// longest texts.
 const LARGEST_CELL: u64 = 2
     * (4 + 8 * MAX_DIMENSIONS as u64 + (6 + MAX_TEXT_BYTES as u64) * MAX_CELLS as u64);
 
-/// A put that finds no more than this before it leaves no more than `LARGEST_IMAGE`.
+/// A put into a table whose image has at most this many bytes leaves at most `LARGEST_IMAGE`.
 const ROOM_FOR_ANY_PUT: u64 = LARGEST_IMAGE - LARGEST_CELL;
 
-/// The table of objects: the next number, and the live objects by their numbers. A number is never used again. How many bytes its image
-/// has is kept beside it.
+/// The table of objects: the next number, and the live objects by their numbers. A number is never used again. The
+/// length of its image is kept with it.
 #[derive(Drop)]
 pub struct Table {
     objects: Objects,
@@ -57,14 +58,14 @@ impl Model for Table {
 }
 
 impl Table {
-    /// The table at first: no objects, and the next number is 1. Takes no memory.
+    /// Makes the first table: no objects, and the next number is 1. Allocates nothing.
     pub fn new(alloc: Global) -> Table
         ensures { result ≡ first_table }
     {
         Table::with_next(alloc, 1)
     }
 
-    /// A table without objects that has this next number, from 1 on. Takes no memory.
+    /// Makes a table without objects with this next number, at least 1. Allocates nothing.
     pub fn with_next(alloc: Global, next: u32) -> Table
         requires { 1 ≤ next }
         ensures { result ≡ table_with_next next }
@@ -75,8 +76,8 @@ impl Table {
         }
     }
 
-    /// Puts an object behind all others: its number is above theirs and below the next one, and none of its cells has locks. Err where no
-    /// memory is found, or the image would have 2^63 bytes or more: then nothing changes.
+    /// Appends an object, with a number above all others and below the next one, and without locks. Err: an
+    /// allocation failed, or the image would have 2^63 bytes or more, and nothing changed.
     pub fn push(
         &mut self,
         number: u32,
@@ -97,72 +98,72 @@ impl Table {
         Ok(())
     }
 
-    /// The number of the next object; above the greatest one where the numbers are used up.
+    /// Returns the number of the next object; it is above the greatest number if the numbers are used up.
     pub fn next(&self) -> u32
         ensures { result ≡ self.now.next }
     {
         self.objects.next()
     }
 
-    /// How many objects are live.
+    /// Returns how many objects are live.
     pub fn len(&self) -> usize
         ensures { result ≡ length self.now.objects }
     {
         self.objects.len()
     }
 
-    /// The objects by rising number, each with its cells. Takes no memory.
+    /// Returns the objects by rising number, each with its cells. Allocates nothing.
     pub fn objects(&self) -> Iter<'_, u32, LiveObject>
         ensures { result ≡ self.now.objects }
     {
         self.objects.objects()
     }
 
-    /// A fact and no work: the numbers of the objects rise.
+    /// Does nothing; its contract states that the numbers of the objects rise.
     pub fn numbers_rise(&self)
         ensures { IsStrictlySortedBy nat_cmp (keys_of self.now.objects) }
     {
         self.objects.numbers_rise();
     }
 
-    /// The GUID of an object's coclass; None where there is no such object.
+    /// Returns the GUID of an object's coclass; None if there is no such object.
     pub fn class_of(&self, number: u32) -> Option<Uuid>
         ensures { result ≡ class_in (object_at number self.now) }
     {
         Some(self.objects.get(number)?.class())
     }
 
-    /// An object; None where there is none of that number.
+    /// Returns the object with this number; None if there is none.
     pub fn object(&self, number: u32) -> Option<&LiveObject>
         ensures { option_map (λ o. o.now) result ≡ object_at number self.now }
     {
         self.objects.get(number)
     }
 
-    /// The value that was put last into a cell; None where none was, or where there is no such object.
+    /// Returns the last value that was put into a cell; None if there was none, or no such object.
     pub fn get(&self, name: &CellName) -> Option<&Variant>
         ensures { option_map (λ x. x.now) result ≡ cell_in name.now.place (object_at name.now.object self.now) }
     {
         self.objects.get(name.object)?.get(&name.place)
     }
 
-    /// Whether an array of an object is locked. Looks at the object's own cells.
+    /// Returns whether an array of an object is locked. Reads the cells of that object.
     pub fn locked(&self, number: u32) -> bool
         ensures { result ≡ locked_in (object_at number self.now) }
     {
         self.objects.locked(number)
     }
 
-    /// How many bytes the table's image has. It is kept, and not counted here.
+    /// Returns the length in bytes of the table's image, which is kept, in constant time.
     pub fn image_size(&self) -> u64
         ensures { result ≡ table_size self.now }
     {
         self.size
     }
 
-    /// How many bytes the image has after an event; of one that does not apply, how many it has now. Takes no memory, and looks at the
-    /// event's own cell alone: at the elements of a value that is put or replaced, or that a shorter array loses. For a release it looks
-    /// at the cells of the object.
+    /// Returns the length in bytes of the image after an event; if the event does not apply, that of the image now.
+    /// Allocates nothing. It reads only the event's own cell: the elements of a value that is put or replaced, or
+    /// those that a shorter array loses; for a release, the cells of the object.
     pub fn size_after(&self, event: &Event) -> u64
         ensures { result ≡ sizes.size_after event.now self.now }
     {
@@ -175,7 +176,7 @@ impl Table {
         }
     }
 
-    /// How many bytes the image has after the creation of an object with a number.
+    /// Returns the length of the image after the creation of an object.
     fn size_with(&self, number: u32) -> u64
         ensures { (class : List ℕ) → result ≡ sizes.size_after (Event.Create number class) self.now }
     {
@@ -186,7 +187,7 @@ impl Table {
         self.size + 24 - self.size_of(number)
     }
 
-    /// How many bytes the image has after the release of an object.
+    /// Returns the length of the image after the release of an object.
     fn size_without(&self, number: u32) -> u64
         ensures { result ≡ sizes.size_after (Event.Release number) self.now }
     {
@@ -196,7 +197,7 @@ impl Table {
         self.size - self.size_of(number)
     }
 
-    /// How many bytes the image has after a put.
+    /// Returns the length of the image after a put.
     fn size_with_put(&self, name: &CellName, value: &Variant) -> u64
         ensures { result ≡ sizes.size_after (Event.Put name.now value.now) self.now }
     {
@@ -209,7 +210,7 @@ impl Table {
         }
     }
 
-    /// How many bytes the image has after an element of an array is set.
+    /// Returns the length of the image after an element of an array is set.
     fn size_with_element(&self, name: &CellName, index: &Indices, value: &Scalar) -> u64
         ensures { result ≡ sizes.size_after (Event.PutElement name.now index.now value.now) self.now }
     {
@@ -222,7 +223,7 @@ impl Table {
         }
     }
 
-    /// How many bytes the image has after an array gets another first bound.
+    /// Returns the length of the image after an array gets another first bound.
     fn size_with_bound(&self, name: &CellName, bound: Bound) -> u64
         ensures { result ≡ sizes.size_after (Event.Redim name.now bound) self.now }
     {
@@ -235,7 +236,7 @@ impl Table {
         }
     }
 
-    /// How many bytes an object has in the image; none where there is no such object.
+    /// Returns the length of an object's image; 0 if there is no such object.
     fn size_of(&self, number: u32) -> u64
         ensures { result ≡ size_in (object_at number self.now) }
     {
@@ -245,9 +246,9 @@ impl Table {
         }
     }
 
-    /// Makes a change: the table is the one after the event. An event that does not apply, or for which no memory is found, is handed
-    /// back with the reason, and nothing changes. A value that is put has no locks. Memory is taken by a `Create`, by a `Put` into a cell
-    /// that was never put and by a `Redim`, and refused where the image would have 2^63 bytes or more: never to a `Release`.
+    /// Applies an event. If it does not apply, or an allocation fails, the event is returned with the reason, and
+    /// nothing changes. A value that is put has no locks. A `Create`, a `Put` into a cell that was never put, and a
+    /// `Redim` allocate. Each event but a `Release` fails as out of memory if the image would have 2^63 bytes or more.
     #[inline(always)]
     pub fn apply(&mut self, event: Event) -> Result<(), (Event, TableFault)>
         requires { BringsNoLocks event }
@@ -260,14 +261,14 @@ impl Table {
         }
     }
 
-    /// `apply` of the event that makes an object: its number is the next one.
+    /// Applies the event that creates an object: its number is the next one.
     pub fn create(&mut self, number: u32, class: Uuid) -> Result<(), (Event, TableFault)>
         ensures { let event = Event.Create number class in Does event (applied event self.old) self.old self.new result }
     {
         self.apply(Event::Create { number, class })
     }
 
-    /// `apply` of the event that takes an object away. It is never refused for want of memory.
+    /// Applies the event that releases an object. It never fails as out of memory.
     pub fn release(&mut self, number: u32) -> Result<(), (Event, TableFault)>
         ensures does { let event = Event.Release number in Does event (applied event self.old) self.old self.new result }
         ensures starved { IfErr result (λ e. e.1 ≡ TableFault.Memory → ⊥) }
@@ -275,14 +276,14 @@ impl Table {
         self.apply(Event::Release { number })
     }
 
-    /// `apply` of the event that sets a cell: one look-up finds what this changes of the size too.
+    /// Applies the event that sets a cell, with one look-up for the cell and for the difference in size.
     #[inline(always)]
     pub fn put(&mut self, name: CellName, value: Variant) -> Result<(), (Event, TableFault)>
         requires { locks_of value ≡ 0 }
         ensures does { let event = Event.Put name value in Does event (applied event self.old) self.old self.new result }
         ensures starved { IfErr result (λ e. e.1 ≡ TableFault.Memory → MayWantMemory (Event.Put name value) self.old) }
     {
-        // Most puts are over a value that is there: these have no event to hand back.
+        // Most puts overwrite a value: these have no event to return.
         let value = match self.put_again(&name, value, u64::MAX, LARGEST_IMAGE) {
             Ok(()) => return Ok(()),
             Err(value) => value,
@@ -290,7 +291,7 @@ impl Table {
         if self.size > ROOM_FOR_ANY_PUT {
             return self.change(Event::Put { name, value });
         }
-        // A match: `?` would move the whole answer, which has room for a refused event, on each put.
+        // A match: `?` would move the whole result, which has space for a refused event, on each put.
         match self.objects.put(name, value) {
             Ok(change) => {
                 self.size = self.size + change.come - change.gone;
@@ -300,8 +301,9 @@ impl Table {
         }
     }
 
-    /// `apply` of the event that sets a cell, where it was put before, the value has at most `longest` bytes in an image, and the image then
-    /// has at most `most`. Else, and where the array in the cell is locked, the value is handed back, and nothing changes. Takes no memory.
+    /// Overwrites a cell that was put before, if the new value's image has at most `longest` bytes and the table's
+    /// image then at most `most`. Otherwise (no such cell, too long, locked) it returns the value, and nothing
+    /// changes. Allocates nothing.
     pub fn put_again(
         &mut self,
         name: &CellName,
@@ -331,7 +333,7 @@ impl Table {
         }
     }
 
-    /// `apply` of the event that sets an element of the array in a cell.
+    /// Applies the event that sets an element of the array in a cell.
     pub fn put_element(
         &mut self,
         name: CellName,
@@ -344,14 +346,14 @@ impl Table {
         self.apply(Event::PutElement { name, index, value })
     }
 
-    /// `apply` of the event that gives the array in a cell another first bound.
+    /// Applies the event that replaces the first bound of the array in a cell.
     pub fn redim(&mut self, name: CellName, bound: Bound) -> Result<(), (Event, TableFault)>
         ensures { let event = Event.Redim name bound in Does event (applied event self.old) self.old self.new result }
     {
         self.apply(Event::Redim { name, bound })
     }
 
-    /// Makes a change whose size is counted before.
+    /// Applies an event, after computing the size that it leaves.
     fn change(&mut self, event: Event) -> Result<(), (Event, TableFault)>
         requires { BringsNoLocks event }
         ensures does { Does event (applied event self.old) self.old self.new result }
@@ -370,15 +372,15 @@ impl Table {
         }
     }
 
-    /// Adds a lock of the array in a cell, and answers the new count. NoObject where there is no such object, NotArray where the cell was
-    /// never put or holds no array, and else what the array refuses. Takes no memory.
+    /// Adds a lock to the array in a cell, and returns the new count. Errors: NoObject; NotArray if the cell was
+    /// never put or has no array; otherwise what the array refuses. Allocates nothing.
     pub fn lock(&mut self, name: &CellName) -> Result<u16, TableFault>
         ensures { CountsLocks (with_lock name.now self.old) (locks_at name.now) self.old self.new result }
     {
         self.objects.lock(name)
     }
 
-    /// Takes a lock of the array in a cell away, and answers the new count. Refused as `lock` is. Takes no memory.
+    /// Removes a lock from the array in a cell, and returns the new count. Errors as of `lock`. Allocates nothing.
     pub fn unlock(&mut self, name: &CellName) -> Result<u16, TableFault>
         ensures { CountsLocks (without_lock name.now self.old) (locks_at name.now) self.old self.new result }
     {

@@ -15,7 +15,7 @@ use oa_model::Bound;
 use oa_variant::{Scalar, Variant};
 use std::alloc::Global;
 
-/// How many locks the array of a value has; 0 for another value.
+/// Returns how many locks the array of a value has; 0 for another value.
 pub(crate) fn locks_of(value: &Variant) -> u16
     ensures { result ≡ locks_of value.now }
 {
@@ -25,7 +25,7 @@ pub(crate) fn locks_of(value: &Variant) -> u16
     }
 }
 
-/// Replaces a value, unless its array is locked. Answers what that takes from the size of an image, and what it adds.
+/// Replaces a value, unless its array is locked. Returns the difference in size.
 pub(crate) fn replace(
     old: &mut Variant,
     value: Variant,
@@ -45,8 +45,8 @@ pub(crate) fn replace(
     Ok(Difference { gone, come })
 }
 
-/// How far a value may be replaced: how many bytes the new one has in an image at most, how many the image has now, and how many it may
-/// have then.
+/// The limits of a replaced value: the greatest length of the new value's image, the present length of the table's
+/// image, and its greatest length afterwards.
 #[derive(Clone, Copy)]
 pub(crate) struct Room {
     pub longest: u64,
@@ -54,7 +54,8 @@ pub(crate) struct Room {
     pub most: u64,
 }
 
-/// Replaces a value by one for which there is room, unless its array is locked, and answers the same. Else hands the new value back.
+/// Replaces a value, if the new one is within the limits and the array is not locked, and returns the difference in
+/// size. Otherwise it returns the new value.
 pub(crate) fn replace_within(
     old: &mut Variant,
     value: Variant,
@@ -104,7 +105,7 @@ fn put_into(
         (variants.Array array.old) (variants.Array array.new) result }
     ensures starved { IfErr result (λ e. e.1 ≡ TableFault.Memory → ⊥) }
 {
-    // For the prover: what `fits` answers is what the definition `fits_type` says.
+    // For the prover: the result of `fits` is the definition `fits_type`.
     let _fits = element.fits(array.elem());
     match array.put_element(index, element) {
         Ok(_) => Ok(()),
@@ -128,7 +129,7 @@ pub(crate) fn redim(
     }
 }
 
-/// What an array refuses, as the refusal of a change.
+/// Converts the refusal of an array into that of a change of the table.
 fn of_array(fault: ArrayFault) -> TableFault
     ensures { result ≡ of_array fault }
 {
@@ -138,7 +139,7 @@ fn of_array(fault: ArrayFault) -> TableFault
     }
 }
 
-/// Adds a lock of the array, and answers the new count.
+/// Adds a lock to the array, and returns the new count.
 pub(crate) fn lock(value: &mut Variant) -> Result<u16, TableFault>
     ensures { CountsLocks (locked_value value.old) locks_of value.old value.new result }
 {
@@ -148,7 +149,7 @@ pub(crate) fn lock(value: &mut Variant) -> Result<u16, TableFault>
     }
 }
 
-/// Takes a lock of the array away, and answers the new count.
+/// Removes a lock from the array, and returns the new count.
 pub(crate) fn unlock(value: &mut Variant) -> Result<u16, TableFault>
     ensures { CountsLocks (released_value value.old) locks_of value.old value.new result }
 {

@@ -16,7 +16,7 @@ use Rattle.oa_tokens.specs.Bytes.{is_in, run, end_from, one_more, closes, marks,
 use Rattle.oa_tokens.specs.Tokens.{closed, front, AreTokens, IsPiece, AreInOrder}
 use Rattle.oa_tokens.specs.Tokens.AreTokens.{End, Apart, Next, Rest}
 
--- ---- what is at the front lies within
+-- ---- The first piece is inside the bytes.
 
 run_within : (p : ℕ → Bool) (bs : List ℕ) → run p bs ≤ length bs
 unfolding run
@@ -95,7 +95,7 @@ earlier : (p q end : ℕ) (ts : List Token) → p ≤ q → AreInOrder q end ts 
 earlier p q end [] le h = omega (arith, le, h)
 earlier p q end (t ∷ ts) le h = (omega (arith, le, h.0), h.1, h.2)
 
--- what lies behind n bytes
+-- The tokens after n bytes.
 behind : (p n : ℕ) (bs : List ℕ) (ts : List Token) → n ≤ length bs → AreInOrder (p + n) (p + n + length (drop n bs)) ts
     → AreInOrder (p + n) (p + length bs) ts
 behind p n bs ts le h = subst (λ (end : ℕ). AreInOrder (p + n) end ts) (omega (arith, le, length-drop n bs)) h

@@ -1,4 +1,4 @@
--- Bytes by their classes, and where a stretch of them ends.
+-- Classes of bytes, and the ends of strings and comments.
 use Rattle.std.specs.Prelude.{ℕ, suc, ◌==◌, ◌≤◌, ◌&&◌, ◌||◌, Bool, not, nat_lt, nat_le, if◌then◌else◌, List, [], ◌∷◌}
 use Rattle.std.specs.Prelude.{length, drop, get_or, Option, Some, None}
 use Rattle.std.specs.Char.{is_ascii_digit, is_ascii_hexdigit, is_ascii_alphabetic, is_ascii_alphanumeric}
@@ -7,6 +7,7 @@ use Rattle.oa_tokens.specs.declared.scan.Class.TheVariants.{Digit, Hexadecimal, 
 use Rattle.oa_tokens.specs.declared.scan.Close.{Close}
 use Rattle.oa_tokens.specs.declared.scan.Close.TheVariants.{Quote, Comment}
 
+-- The byte is in the class.
 unfoldable pub is_in : Class → ℕ → Bool
 is_in Digit b = is_ascii_digit b
 is_in Hexadecimal b = is_ascii_hexdigit b
@@ -17,12 +18,13 @@ is_in Line b = not (b == 10) && not (b == 13)
 is_in Mark b = b == 91 || b == 93 || b == 40 || b == 41 || b == 123 || b == 125 || b == 44 || b == 59 || b == 58
     || b == 46 || b == 45
 
--- how many bytes at the front are of a class
+-- The number of bytes at the front that pass the test.
 unfoldable pub run : (ℕ → Bool) → List ℕ → ℕ
 run p [] = 0
 run p (b ∷ bs) = if p b then suc (run p bs) else 0
 
--- whether a byte closes a stretch, after a byte that is marked or not; and whether it is marked itself
+-- The byte ends a string or comment; `marked` is whether the byte before it is marked. The second definition says that
+-- the byte itself is marked: it is an escaping backslash, or a `*` in a comment.
 abbrev pub closes : Close → Bool → ℕ → Bool
 closes Quote marked b = not marked && b == 34
 closes Comment marked b = marked && b == 47
@@ -31,25 +33,27 @@ abbrev pub marks : Close → Bool → ℕ → Bool
 marks Quote marked b = not marked && b == 92
 marks Comment marked b = b == 42
 
+-- One more, if there is a number.
 abbrev pub one_more : Option ℕ → Option ℕ
 one_more None = None
 one_more (Some n) = Some (suc n)
 
--- how many bytes there are up to and with the one that closes
+-- The number of bytes up to and including the one that ends the string or comment.
 unfoldable pub end_from : Close → Bool → List ℕ → Option ℕ
 end_from close marked [] = None
 end_from close marked (b ∷ bs) = if closes close marked b then Some 1
     else one_more (end_from close (marks close marked b) bs)
 
+-- The number is at most the length.
 abbrev pub EndsInside : Option ℕ → ℕ → Type 0
 EndsInside None len = Unit {0}
 EndsInside (Some n) len = n ≤ len
 
--- n hexadecimal digits, and a hyphen
+-- n hexadecimal digits, and a hyphen.
 unfoldable pub group : ℕ → List ℕ → Bool
 group n bs = run (is_in Hexadecimal) bs == n && (nat_lt n (length bs) && get_or bs n 0 == 45)
 
--- 8-4-4-4-12 hexadecimal digits
+-- 8-4-4-4-12 hexadecimal digits.
 unfoldable pub is_guid : List ℕ → Bool
 is_guid bs = group 8 bs
     && (group 4 (drop 9 bs) && (group 4 (drop 14 bs) && (group 4 (drop 19 bs) && nat_le 12 (run (is_in Hexadecimal)

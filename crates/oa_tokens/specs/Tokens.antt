@@ -12,12 +12,12 @@ use Rattle.oa_tokens.specs.declared.lexer.Piece.{Piece}
 use Rattle.oa_tokens.specs.declared.lexer.Piece.TheVariants.{Word, Gap, Broken}
 use Rattle.oa_tokens.specs.Bytes.{is_in, run, end_from, is_guid}
 
--- a stretch that has to be closed
+-- A piece that must be closed; `Broken` if it is not.
 abbrev pub closed : (ℕ → Piece) → ℕ → Option ℕ → Piece
 closed make before None = Broken
 closed make before (Some n) = make (before + n)
 
--- what stands at the front of bytes
+-- The first piece of some bytes: a token, a blank or a comment.
 unfoldable pub front : List ℕ → Piece
 front bs =
     if is_guid bs then Word Guid 36
@@ -35,7 +35,7 @@ front bs =
 abbrev pub token : TokenKind → ℕ → ℕ → Token
 token kind start end = record { kind = kind; start = start; end = end }
 
--- which tokens the bytes have that begin at a place
+-- These are the tokens of the bytes that begin at an offset.
 pub data AreTokens : ℕ → List ℕ → List Token → Type 0 where
   End : (p : ℕ) → AreTokens p [] []
   Apart : (p n : ℕ) (bs : List ℕ) (ts : List Token) → 0 < length bs → front bs ≡ Gap n
@@ -44,13 +44,13 @@ pub data AreTokens : ℕ → List ℕ → List Token → Type 0 where
       → AreTokens (p + n) (drop n bs) ts → AreTokens p bs (token kind p (p + n) ∷ ts)
   Rest : (p : ℕ) (bs : List ℕ) → 0 < length bs → front bs ≡ Broken → AreTokens p bs (token Junk p (p + length bs) ∷ [])
 
--- Each token has a byte at least and begins behind those before it, from one place on; the last ends at another or
--- before.
+-- Each token has at least one byte and begins at or after the end of the one before it, the first at or after `from`;
+-- the last ends at or before `end`.
 abbrev pub AreInOrder : ℕ → ℕ → List Token → Type 0
 AreInOrder from end [] = from ≤ end
 AreInOrder from end (t ∷ ts) = (from ≤ t.start) × (t.start < t.end) × AreInOrder t.end end ts
 
--- what is at the front has a byte at least, and lies within
+-- The first piece has at least one byte, and at most all of them.
 abbrev pub IsPiece : Piece → ℕ → Type 0
 IsPiece (Word kind n) len = (0 < n) × (n ≤ len)
 IsPiece (Gap n) len = (0 < n) × (n ≤ len)

@@ -1,42 +1,42 @@
-//! The tokens of a library text.
+//! The lexer of library texts.
 ghost use Rattle.std.specs.Prelude.{◌≡◌, ◌-◌, ◌<◌, length, take, drop, IfOk};
 ghost use Rattle.oa_tokens.specs.Tokens.{front, IsPiece, AreTokens};
 
 use crate::scan::{Class, Close, after, end_of, is_guid, is_in, run};
 use std::alloc::{AllocError, Global};
 
-/// What a token is.
+/// The kind of a token.
 #[derive(Clone, Copy, Debug, PartialEq, Eq)]
 pub enum TokenKind {
     /// 36 bytes of the form 8-4-4-4-12.
     Guid,
-    /// A name, or a word of the language.
+    /// A name or a keyword.
     Name,
-    /// A decimal or hexadecimal number, without sign.
+    /// A decimal or hexadecimal number, without a sign.
     Number,
-    /// A string with its quotes.
+    /// A string, including its quotes.
     Text,
     /// One of `[ ] ( ) { } , ; : . -`.
     Mark,
-    /// Bytes that form no token, to the text's end.
+    /// Bytes that form no token, up to the end of the text.
     Junk,
     /// The end of the text, which a parser reads as a token.
     End,
 }
 
-/// A token, and where it stands in its text.
+/// A token and its position in the text.
 #[derive(Clone, Copy, Debug, PartialEq, Eq)]
 pub struct Token {
-    /// What it is.
+    /// The kind of the token.
     pub kind: TokenKind,
-    /// The place of its first byte.
+    /// The offset of its first byte.
     pub start: usize,
-    /// The place behind its last byte.
+    /// The offset after its last byte.
     pub end: usize,
 }
 
 impl Token {
-    /// Its bytes in its text. A text that ends before it gives those that there are.
+    /// Returns the bytes of the token in `text`. If the text ends earlier, the result ends there.
     pub fn bytes_in(self, text: &[u8]) -> &[u8]
         ensures { result.now ≡ take (self.end - self.start) (drop self.start text.now) }
     {
@@ -46,16 +46,17 @@ impl Token {
     }
 }
 
-/// What stands at the front of bytes.
+/// The first piece of some bytes.
 pub enum Piece {
-    /// A token, and how many bytes it has.
+    /// A token, with its number of bytes.
     Word(TokenKind, usize),
-    /// What separates tokens, and how many bytes that has.
+    /// A separator of tokens, with its number of bytes.
     Gap(usize),
-    /// No token, to the end.
+    /// Bytes that form no token, up to the end.
     Broken,
 }
 
+/// Returns the first piece of the bytes: a token, a blank or a comment.
 #[tactic(auto, unfolding(crate::specs::Tokens::front))]
 fn front(bytes: &[u8]) -> Piece
     requires { 0 < length bytes.now }
@@ -101,7 +102,8 @@ fn front(bytes: &[u8]) -> Piece
     Piece::Broken
 }
 
-/// The tokens of a text, in order. Bytes that form no token make one last token, to the text's end. Err where memory is refused.
+/// Returns the tokens of a text, in order. Bytes that form no token are one last token, up to the end of the text. Err: an allocation
+/// fails.
 pub fn tokens(alloc: Global, text: &str) -> Result<Vec<Token>, AllocError>
     ensures { IfOk result (λ found. AreTokens 0 text.now found.items) }
 {

@@ -1,9 +1,9 @@
-//! The tokens of a library text: GUIDs, names, numbers, strings and marks, with what lies between them left out.
+//! The tokens of a library text: GUIDs, names, numbers, strings and marks, without the blanks and comments between them.
 //!
-//! Its contract: `tokens` answers the one list of tokens that the bytes of a text have (`AreTokens`), each with its place;
-//! bytes that form no token are a last one, so that each text has such a list.
+//! Contract: `tokens` returns the one list of tokens of a text (`AreTokens`), each with its position. Bytes that form no token are a last
+//! token, so that each text has such a list.
 //!
-//! What stands on it: oa_idl, whose grammar is one of tokens; oa_canonical, whose texts have the tokens that were meant.
+//! Used by oa_idl, whose grammar is over tokens, and by oa_canonical, which proves that its texts have the intended tokens.
 #![tactic(auto)]
 
 pub mod laws;

@@ -1,4 +1,4 @@
-//! Classes of bytes, and how far a stretch of them goes.
+//! Classes of bytes, and the length of runs of them.
 ghost use Rattle.std.specs.Prelude.{◌≡◌, ◌≤◌, ◌<◌, length, drop, IsTrue, false};
 ghost use Rattle.oa_tokens.specs.Bytes.{is_in, run, end_from, is_guid, group, EndsInside, closes, marks};
 
@@ -9,27 +9,28 @@ pub enum Class {
     Digit,
     /// A hexadecimal digit, in either case.
     Hexadecimal,
-    /// An ASCII letter or `_`, with which a name begins.
+    /// An ASCII letter or `_`, which can begin a name.
     Letter,
-    /// An ASCII letter, a digit or `_`, which stand in a name.
+    /// An ASCII letter, a digit or `_`, which can be in a name.
     Named,
-    /// A blank, a tab, CR or LF.
+    /// A space, a tab, CR or LF.
     Blank,
-    /// What stands on a line: any byte but CR and LF.
+    /// Any byte of a line: all except CR and LF.
     Line,
     /// One of `[ ] ( ) { } , ; : . -`.
     Mark,
 }
 
-/// What closes a stretch.
+/// The end of a string or comment.
 #[derive(Clone, Copy)]
 pub enum Close {
-    /// A quote that stands behind no backslash.
+    /// A quote that does not follow a backslash.
     Quote,
-    /// `*/`.
+    /// The end of a comment, `*/`.
     Comment,
 }
 
+/// Returns whether a byte is in a class.
 #[tactic(auto, unfolding(crate::specs::Bytes::is_in))]
 pub(crate) fn is_in(class: Class, byte: u8) -> bool
     ensures { result ≡ is_in class byte }
@@ -48,6 +49,7 @@ pub(crate) fn is_in(class: Class, byte: u8) -> bool
     }
 }
 
+/// Returns whether a byte ends the string or comment; `marked` describes the byte before it, as `marks` does.
 fn closes(close: Close, marked: bool, byte: u8) -> bool
     ensures { result ≡ closes close marked byte }
 {
@@ -57,6 +59,7 @@ fn closes(close: Close, marked: bool, byte: u8) -> bool
     }
 }
 
+/// Returns whether the byte is an escaping backslash, or a `*` in a comment.
 fn marks(close: Close, marked: bool, byte: u8) -> bool
     ensures { result ≡ marks close marked byte }
 {
@@ -66,7 +69,7 @@ fn marks(close: Close, marked: bool, byte: u8) -> bool
     }
 }
 
-/// How many bytes at the front are of a class.
+/// Returns the number of bytes of a class at the front.
 #[tactic(auto, using(crate::proofs::Scans::run_goes_on, crate::proofs::Scans::run_stops, crate::proofs::Scans::run_ends))]
 pub(crate) fn run(class: Class, bytes: &[u8]) -> usize
     ensures value { result ≡ run (is_in class) bytes.now }
@@ -79,7 +82,7 @@ pub(crate) fn run(class: Class, bytes: &[u8]) -> usize
     n
 }
 
-/// How many bytes there are to the end of a stretch, with what closes it.
+/// Returns the number of bytes up to the end of a string or comment, including those that end it. None if it does not end.
 #[tactic(auto, using(crate::proofs::Scans::end_goes_on, crate::proofs::Scans::end_found, crate::proofs::Scans::end_none))]
 pub(crate) fn end_of(close: Close, bytes: &[u8]) -> Option<usize>
     ensures value { result ≡ end_from close false bytes.now }
@@ -98,7 +101,7 @@ pub(crate) fn end_of(close: Close, bytes: &[u8]) -> Option<usize>
     None
 }
 
-/// The bytes from a place on.
+/// Returns the bytes after the first `n`, or none.
 pub(crate) fn after(bytes: &[u8], n: usize) -> &[u8]
     ensures { result.now ≡ drop n bytes.now }
 {
@@ -109,6 +112,7 @@ pub(crate) fn after(bytes: &[u8], n: usize) -> &[u8]
     }
 }
 
+/// Returns whether exactly `n` hexadecimal digits and a hyphen are at the front.
 #[tactic(auto, unfolding(crate::specs::Bytes::group))]
 fn group(n: usize, bytes: &[u8]) -> bool
     ensures { result ≡ group n bytes.now }
@@ -116,6 +120,7 @@ fn group(n: usize, bytes: &[u8]) -> bool
     run(Class::Hexadecimal, bytes) == n && n < bytes.len() && bytes[n] == b'-'
 }
 
+/// Returns whether the form 8-4-4-4-12 of a GUID is at the front.
 #[tactic(auto, unfolding(crate::specs::Bytes::is_guid))]
 pub(crate) fn is_guid(bytes: &[u8]) -> bool
     ensures long { IsTrue result → 36 ≤ length bytes.now }

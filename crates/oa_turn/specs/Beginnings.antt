@@ -1,4 +1,4 @@
--- With which tables a server begins. (This project's choice.)
+-- The states with which a server may begin. (This project's choice.)
 use Rattle.std.specs.Prelude.{◌≡◌, ℕ, true}
 use Rattle.oa_fits.specs.Fits.{fits}
 use Rattle.oa_idl.specs.Trees.{TreeValue}
@@ -7,12 +7,12 @@ use Rattle.oa_table.specs.Tables.{TableValue}
 use Rattle.oa_typelib.specs.Checked.{IsChecked}
 use Rattle.oa_decision.specs.States.{State}
 
--- the library can have the table, and its image leaves what has to be free of a bank of this size
+-- the table fits the library, and its image leaves enough of a bank of this size free
 pub record CanServe (bank : ℕ) (library : TreeValue) (table : TableValue) : Type 0 where
   pub fit : fits library table ≡ true
   pub small : FitsBank bank table
 
--- a server can begin with this state: its library is one that was checked, and can have its table, whose objects are
+-- a server may begin with this state: its library is a checked one, its table fits the library, and the objects are
 -- numbered
 pub record CanBegin (state : State) : Type 0 where
   pub checked : IsChecked state.library

@@ -1,4 +1,4 @@
--- What a change makes of a table, and of a state. (This project's choice.)
+-- Changes of a table, and of a state. (This project's choice.)
 use Rattle.std.specs.Prelude.{◌≡◌, ◌⊎◌, ℕ, Result, Ok, Err, IsOk}
 use Rattle.oa_model.specs.declared.hresult.HResult.{HResult}
 use Rattle.oa_model.specs.Codes.{e_outofmemory}
@@ -11,22 +11,22 @@ use Rattle.oa_decision.specs.Limits.{allowed}
 use Rattle.oa_decision.specs.States.{State}
 use Rattle.oa_turn.specs.Steps.{relocked}
 
--- a change of the table is made, or nothing changes
+-- an event is applied to the table, or nothing changes
 abbrev pub MakesTable : {E : Type 0} → Event → TableValue → TableValue → Result (Unit {0}) E → Type 0
 MakesTable event old new (Ok u) = applied event old ≡ Ok new
 MakesTable event old new (Err e) = new ≡ old
 
--- the same of a state: its table is another one, and the rest stays
+-- an event is applied to the table of a state, or nothing changes
 abbrev pub MakesChange : {E : Type 0} → Event → State → State → Result (Unit {0}) E → Type 0
 MakesChange event old new (Ok u) = (applied event old.table ≡ Ok new.table) × (new ≡ record old { table = new.table })
 MakesChange event old new (Err e) = new ≡ old
 
--- the same of a change of locks, which takes no memory, with the reason
+-- a lock is changed, or nothing changes and the reason is returned; nothing is allocated
 abbrev pub RelocksTable : LockChange → TableValue → TableValue → Result (Unit {0}) TableFault → Type 0
 RelocksTable change old new (Ok u) = relocked change old ≡ Ok new
 RelocksTable change old new (Err fault) = (new ≡ old) × (relocked change old ≡ Err fault)
 
--- A change is made where it is allowed; else the reason is told, or that memory was wanted, and nothing changes.
+-- An event is applied if it is allowed. Otherwise the reason is returned, or out of memory, and nothing changes.
 abbrev pub ChangesTable : ℕ → Event → TableValue → TableValue → Result (Unit {0}) HResult → Type 0
 ChangesTable bank event old new (Ok u) = allowed bank event old ≡ Ok new
 ChangesTable bank event old new (Err code) =

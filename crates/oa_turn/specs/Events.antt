@@ -1,4 +1,4 @@
--- What images hold of a state, and the event that a turn makes. (This project's choice.)
+-- What images contain of a state, and the event of a turn. (This project's choice.)
 use Rattle.std.specs.Prelude.{◌≡◌, ℕ, ◌==◌, Bool, false, true, List, [], Option, Some, None}
 use Rattle.oa_image.specs.Events.{event_image}
 use Rattle.oa_record.specs.Asks.{Asks}
@@ -10,7 +10,7 @@ use Rattle.oa_table.specs.Tables.{TableValue, unlocked_table}
 use Rattle.oa_decision.specs.States.{State}
 use Rattle.oa_turn.specs.Steps.{outcome}
 
--- what images hold of a state: its table without locks
+-- what images contain of a state: its table without locks
 abbrev pub held_of : State → TableValue
 held_of state = unlocked_table state.table
 
@@ -22,7 +22,7 @@ abbrev pub change_bytes : Option Event → List ℕ
 change_bytes None = []
 change_bytes (Some event) = event_image event
 
--- the bytes of the event that a body made, and no others: none where its reply is not S_OK
+-- the bytes of the event that a body made, and no others: none if its reply is not S_OK
 pub record HasEvent (old : State) (body : List ℕ) (reply : ReplyValue) (event : List ℕ) : Type 0 where
   pub done : (request : Request) → is_replacement body ≡ false → Asks body request → is_done reply ≡ true
       → event ≡ change_bytes (outcome old request).event

@@ -1,4 +1,4 @@
--- Which lock a body asks to be changed. (This project's choice.)
+-- Which lock a body changes. (This project's choice.)
 use Rattle.std.specs.Prelude.{◌≡◌, ◌⊎◌, ℕ, Bool, true, false, if◌then◌else◌, List, Option, Some, None, Result, Ok, Err}
 use Rattle.oa_record.specs.Asks.{Asks, MayStarve, request_opcode}
 use Rattle.oa_record.specs.Opcodes.{opcode_in}
@@ -40,11 +40,11 @@ is_lock_in (Some opcode) = is_lock opcode
 abbrev pub asks_lock : List ℕ → Bool
 asks_lock body = is_lock_in (opcode_in body)
 
--- the change of a lock that a request asks for, where its library and its table allow it to be asked for
+-- the change of a lock that a request asks for, if its library and its table allow the request
 abbrev pub lock_asked_by : State → Request → Option LockChange
 lock_asked_by state request = if changes_lock request then lock_decided (decided state request) else None
 
--- the same of a body
+-- the same for a body
 pub record AsksLock (state : State) (body : List ℕ) (change : LockChange) : Type 0 where
   pub request : Request
   pub asked : Asks body request
@@ -56,12 +56,12 @@ FindsLock state body (Ok None) = (change : LockChange) → AsksLock state body c
 FindsLock state body (Ok (Some change)) = AsksLock state body change
 FindsLock state body (Err e) = MayStarve body ⊎ MayLack state body
 
--- the same of a request
+-- the same for a request
 abbrev pub FindsLockBy : {E : Type 0} → State → Request → Result (Option LockChange) E → Type 0
 FindsLockBy state request (Ok found) = found ≡ lock_asked_by state request
 FindsLockBy state request (Err e) = RequestTakesMemory state request
 
--- the table without a lock that it has, else as it is
+-- the table without one of its locks, or unchanged if it has none
 abbrev pub table_or : TableValue → Result TableValue TableFault → TableValue
 table_or table (Ok new) = new
 table_or table (Err fault) = table

@@ -1,4 +1,4 @@
--- What is left of a turn once its body was looked at. (This project's choice.)
+-- What is left to do in a turn after its body was read. (This project's choice.)
 use Rattle.std.specs.Prelude.{◌≡◌, List, [], ℕ, None, Ok, Err, IsOk, ⊤}
 use Rattle.oa_model.specs.Codes.{e_outofmemory}
 use Rattle.oa_model.specs.declared.hresult.HResult.{HResult}
@@ -25,50 +25,50 @@ use Rattle.oa_decision.specs.States.{State}
 use Rattle.oa_decision.specs.Decided.{decided, refusal}
 use Rattle.oa_turn.specs.Turns.{Ordinary}
 
--- the body asks a call, of which this is planned
+-- the body is a call, and this is the plan for it
 abbrev pub PlansCall : State → List ℕ → ValuePlan → Type 0
 PlansCall state body plan =
     (call : Call) × Asks body (ByCall Invoke call) × PlansValue state (tag_at body) (ByCall Invoke call) plan
 
--- a put of a value as a change that is told without fields
+-- a put of a value as a change whose reply has no fields
 abbrev pub put_planned : ℕ → ValuePut → Planned
 put_planned tag put = record { tag = tag; event = put_event put; fields = [] }
 
--- the body asks a request of which this change is decided
+-- the body is a request, and this is the decided change
 pub record IsDrafted (state : State) (body : List ℕ) (planned : Planned) : Type 0 where
   pub request : Request
   pub asked : Asks body request
   pub tag : planned.tag ≡ tag_at body
   pub decided_is : decided state request ≡ Ok (decisions.Change planned.event planned.fields)
 
--- the same, and the change is allowed
+-- the body is a request, this is the decided change, and it is allowed
 pub record IsPlanned (state : State) (body : List ℕ) (planned : Planned) : Type 0 where
   pub drafted : IsDrafted state body planned
   pub allows : IsOk (allowed state.bank planned.event state.table)
 
--- what images hold of a state, and its library, are the same
+-- the library of a state, and what images contain of it, are the same
 pub record HoldsSame (old new : State) : Type 0 where
   pub table : unlocked_table new.table ≡ unlocked_table old.table
   pub library : new.library ≡ old.library
 
--- the turn was taken, and changed nothing that images hold; or a change was decided
+-- the turn was taken, and changed nothing in images; or a change was decided
 abbrev pub Drafts : State → List ℕ → State → Plan → Type 0
 Drafts old body new (Answered reply) = Ordinary old body reply new × HoldsSame old new
 Drafts old body new (Change planned) = IsDrafted old body planned × BringsNoLocks planned.event × (new ≡ old)
 
--- the turn was taken, and changed nothing that images hold; or a change is to be made
+-- the turn was taken, and changed nothing in images; or a change is to be made
 abbrev pub Plans : State → List ℕ → State → Plan → Type 0
 Plans old body new (Answered reply) = Ordinary old body reply new × HoldsSame old new
 Plans old body new (Change planned) = IsPlanned old body planned × BringsNoLocks planned.event × (new ≡ old)
 
--- a change that was decided is refused, or to be made
+-- a decided change is refused, or to be made
 abbrev pub PlansChange : State → ℕ → Event → List ℕ → Plan → Type 0
 PlansChange state tag event fields (Answered reply) =
     (code : HResult) × (allowed state.bank event state.table ≡ Err code) × (reply ≡ refusal tag code None)
 PlansChange state tag event fields (Change planned) =
     (planned ≡ record { tag = tag; event = event; fields = fields }) × IsOk (allowed state.bank event state.table)
 
--- a RELEASE takes no memory: what was answered to one is not want of it
+-- a RELEASE allocates nothing: its reply is not out of memory
 abbrev pub ReleasesWithoutMemory : List ℕ → ReplyValue → Type 0
 ReleasesWithoutMemory body reply = (number : ℕ) → Asks body (ByNumber Release number) → reply.code ≡ e_outofmemory → ⊥
 
@@ -76,7 +76,7 @@ abbrev pub PlansWithoutMemory : List ℕ → Plan → Type 0
 PlansWithoutMemory body (Answered reply) = ReleasesWithoutMemory body reply
 PlansWithoutMemory body (Change planned) = ⊤
 
--- what was answered made no event
+-- a request that was answered made no event
 abbrev pub HasNoEvent : State → List ℕ → Plan → Type 0
 HasNoEvent old body (Answered reply) = HasEvent old body reply []
 HasNoEvent old body (Change planned) = ⊤

@@ -1,4 +1,4 @@
--- What becomes of a body that asks for another library, before anything is changed. (This project's choice.)
+-- The plan for a request to replace the library, before anything is changed. (This project's choice.)
 use Rattle.std.specs.Prelude.{◌≡◌, ◌⊎◌, ℕ, false, List, Some, None, Result, Ok, Err}
 use Rattle.oa_idl.specs.Trees.{TreeValue}
 use Rattle.oa_model.specs.Codes.{bad_stub_data, e_outofmemory}
@@ -15,19 +15,19 @@ use Rattle.oa_turn.specs.Events.{is_done}
 use Rattle.oa_decision.specs.States.{State}
 use Rattle.oa_decision.specs.Decided.{refusal}
 
--- what is answered where a text gives no library
+-- the code for a text that is no library
 abbrev pub text_code : TextError → HResult
 text_code NoLibrary = bad_stub_data
 text_code Memory = e_outofmemory
 
--- the library that the body asks for, or why it asks for none, or that memory was refused to its text
+-- the library in the body, or why there is none, or an allocation for its text failed
 abbrev pub IsLibraryOf : List ℕ → Result TreeValue HResult → Type 0
 IsLibraryOf body (Ok library) = AsksLibrary body library
 IsLibraryOf body (Err code) =
     ((code ≡ bad_stub_data) × ((library : TreeValue) → AsksLibrary body library → ⊥))
     ⊎ ((code ≡ e_outofmemory) × BringsText body)
 
--- what is lost is told, or memory was refused to the reply
+-- the reply reports the first incompatibility, or an allocation for it failed
 abbrev pub RefusesLoss : ℕ → Lost → ReplyValue → Type 0
 RefusesLoss tag lost reply = (reply ≡ replacement_reply tag (Some lost)) ⊎ (reply ≡ refusal tag e_outofmemory None)
 

@@ -1,5 +1,4 @@
--- REPLACE LIBRARY: the library of the body's text takes the place of the one that the server has (this project's
--- choice).
+-- REPLACE LIBRARY: the library in the body's text replaces the server's (this project's choice).
 use Rattle.std.specs.Prelude.{◌≡◌, ◌⊎◌, ℕ, List, Option, Some, None}
 use Rattle.oa_idl.specs.Trees.{TreeValue}
 use Rattle.oa_model.specs.Codes.{bad_stub_data, e_invalidarg, e_outofmemory, s_ok}
@@ -20,7 +19,7 @@ pub record AsksLibrary (body : List ℕ) (library : TreeValue) : Type 0 where
   pub lies : text_in body ≡ Some text
   pub stands : StandsFor text library
 
--- its fields have a text that is UTF-8 and not too long, which takes memory to be read
+-- its fields have a text that is UTF-8 and not too long; reading it allocates
 pub record BringsText (body : List ℕ) : Type 0 where
   pub text : List ℕ
   pub lies : text_in body ≡ Some text
@@ -28,7 +27,7 @@ pub record BringsText (body : List ℕ) : Type 0 where
 
 -- ---- what becomes of it
 
--- the reply: what of the old library would be lost, in the order in which that is sought, or that nothing is
+-- the reply: the first incompatibility in the documented order, or success
 abbrev pub replacement_reply : ℕ → Option Lost → ReplyValue
 replacement_reply tag None = refusal tag s_ok None
 replacement_reply tag (Some lost) =
@@ -39,20 +38,20 @@ abbrev pub after_replacement : State → TreeValue → Option Lost → State
 after_replacement old library None = record old { library = library }
 after_replacement old library (Some lost) = old
 
--- the body asks for this library, which replaces the one of the state, or not all of that is kept in it
+-- the body has this library, which replaces the one of the state if it is compatible with it
 pub record Replaces (old : State) (body : List ℕ) (reply : ReplyValue) (new : State) : Type 0 where
   pub library : TreeValue
   pub asked : AsksLibrary body library
   pub answers : reply ≡ replacement_reply (tag_at body) (first_lost library old.library)
   pub leaves : new ≡ after_replacement old library (first_lost library old.library)
 
--- the body is laid out otherwise, or its text is that of no library; nothing changes
+-- the body has another layout, or its text is no library; nothing changes
 pub record RefusesText (old : State) (body : List ℕ) (reply : ReplyValue) (new : State) : Type 0 where
   pub why : (library : TreeValue) → AsksLibrary body library → ⊥
   pub answers : reply ≡ refusal (tag_at body) bad_stub_data None
   pub leaves : new ≡ old
 
--- memory was refused to a text; nothing changes
+-- an allocation for a text failed; nothing changes
 pub record LacksText (old : State) (body : List ℕ) (reply : ReplyValue) (new : State) : Type 0 where
   pub may : BringsText body
   pub answers : reply ≡ refusal (tag_at body) e_outofmemory None

@@ -1,4 +1,4 @@
--- The step of a request: its outcome, and so its reply and the state after it. A request that is refused changes
+-- The step of a request: its outcome, which determines its reply and the next state. A refused request changes
 -- nothing. (This project's choice.)
 use Rattle.std.specs.Prelude.{◌≡◌, ℕ, List, [], Option, Some, None, Result, Ok, Err}
 use Rattle.oa_model.specs.declared.hresult.HResult.{HResult}
@@ -25,8 +25,8 @@ abbrev pub relocked : LockChange → TableValue → Result TableValue TableFault
 relocked (Lock name) table = with_lock name table
 relocked (Unlock name) table = without_lock name table
 
--- The change that is made, and what the reply tells. An event changes what images hold; a change of locks is none of it
--- and ends with the session.
+-- The change that is made, and the contents of the reply. An event changes what images contain; a change of locks
+-- does not, and it ends with the session.
 pub record Outcome : Type 0 where
   pub event : Option Event
   pub locks : Option LockChange
@@ -47,7 +47,7 @@ changed event fields (Ok table) =
     record { event = Some event; locks = None; code = s_ok; index = None; fields = fields }
 changed event fields (Err code) = refused_outcome (record { code = code; index = None })
 
--- the same of a change of locks
+-- a change of locks is refused, or made
 abbrev pub relocking : LockChange → List ℕ → Result TableValue TableFault → Outcome
 relocking change fields (Ok table) =
     record { event = None; locks = Some change; code = s_ok; index = None; fields = fields }
@@ -77,7 +77,7 @@ after_locks state (Some change) = with_table state (relocked change state.table)
 abbrev pub after_outcome : State → Outcome → State
 after_outcome state o = after_locks (after_event state o.event) o.locks
 
--- what becomes of it
+-- the outcome of a request in a state
 abbrev pub outcome : State → Request → Outcome
 outcome state request = outcome_of state (decided state request)
 

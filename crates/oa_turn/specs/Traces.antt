@@ -1,4 +1,4 @@
--- What is left of a run without turns that were not answered with S_OK. (This project's choice.)
+-- A run without turns that were not answered with S_OK. (This project's choice.)
 use Rattle.std.specs.Prelude.{ℕ, ◌==◌, ◌&&◌, not, Bool, if◌then◌else◌, List, [], ◌∷◌}
 use Rattle.oa_record.specs.Replies.{ReplyValue}
 
@@ -14,11 +14,11 @@ abbrev pub done_replies : List ReplyValue → List ReplyValue
 done_replies [] = []
 done_replies (reply ∷ replies) = if reply.code.0 == 0 then reply ∷ done_replies replies else done_replies replies
 
--- a turn is left out where it is chosen and was not answered with S_OK
+-- a turn is left out if it is chosen and was not answered with S_OK
 abbrev pub leaves_out : Bool → ReplyValue → Bool
 leaves_out chosen reply = chosen && not (reply.code.0 == 0)
 
--- the bodies without some that were not answered with S_OK: those that a list of choices names, one for each in turn
+-- the bodies without some of those that were not answered with S_OK, chosen by a list with an entry for each
 abbrev pub kept_bodies : List Bool → List (List ℕ) → List ReplyValue → List (List ℕ)
 kept_bodies [] bodies replies = bodies
 kept_bodies (chosen ∷ choices) [] replies = []

@@ -10,14 +10,14 @@ use Rattle.oa_decision.specs.States.{State}
 use Rattle.oa_turn.specs.Steps.{after, reply_to}
 use Rattle.oa_decision.specs.Decided.{RequestTakesMemory, refusal}
 
--- the body asks a request, and this is its step
+-- the body is a request, and this is its step
 pub record Steps (old : State) (body : List ℕ) (reply : ReplyValue) (new : State) : Type 0 where
   pub request : Request
   pub asked : Asks body request
   pub answers : reply ≡ reply_to old (tag_at body) request
   pub leaves : new ≡ after old request
 
--- the body is laid out as no request, or the field of a value is broken; nothing changes
+-- the body has the layout of no request, or the field of a value is invalid; nothing changes
 pub record RefusesStub (old : State) (body : List ℕ) (reply : ReplyValue) (new : State) : Type 0 where
   pub why : IsStub body
   pub answers : reply ≡ refusal (tag_at body) bad_stub_data None
@@ -30,13 +30,13 @@ pub record RefusesType (old : State) (body : List ℕ) (reply : ReplyValue) (new
   pub answers : reply ≡ refusal (tag_at body) disp_e_badvartype index
   pub leaves : new ≡ old
 
--- the body asks a request that takes memory to be decided, or to make its change
+-- the body is a request that allocates when it is decided or when its change is made
 pub record MayLack (old : State) (body : List ℕ) : Type 0 where
   pub request : Request
   pub asked : Asks body request
   pub takes : RequestTakesMemory old request
 
--- memory was refused, where reading the body or carrying out its request takes some; nothing changes
+-- an allocation failed, and reading the body or executing its request needs some; nothing changes
 pub record LacksMemory (old : State) (body : List ℕ) (reply : ReplyValue) (new : State) : Type 0 where
   pub may : MayStarve body ⊎ MayLack old body
   pub answers : reply ≡ refusal (tag_at body) e_outofmemory None

@@ -1,4 +1,4 @@
-//! The ways in which a table changes.
+//! Changing a table.
 ghost use Rattle.std.specs.Prelude.{◌≡◌, [], ℕ, None, Ok, IfErr, IsOk, OnErr, OnOk};
 ghost use Rattle.oa_model.specs.Codes.{e_outofmemory};
 ghost use Rattle.oa_turn.specs.Changes.{ChangesTable, MakesTable, RelocksTable};
@@ -19,8 +19,8 @@ use oa_table::{CellName, Event, LARGEST_IMAGE, Table, TableFault};
 use oa_variant::Variant;
 use std::alloc::AllocError;
 
-/// Makes a change that is allowed. Err only where memory is refused; then nothing changes. Most are puts over a value that is there, which
-/// have no event to hand back.
+/// Applies an event that is allowed. Err: an allocation failed, and nothing changed. Most are puts over an existing
+/// value, which have no event to return.
 pub(crate) fn apply(table: &mut Table, event: Event) -> Result<(), AllocError>
     requires unlocked { BringsNoLocks event }
     ensures change { MakesTable event table.old table.new result }
@@ -36,7 +36,7 @@ pub(crate) fn apply(table: &mut Table, event: Event) -> Result<(), AllocError>
     }
 }
 
-/// The same of any change.
+/// Applies any event that is allowed.
 #[inline(never)]
 fn apply_any(table: &mut Table, event: Event) -> Result<(), AllocError>
     requires unlocked { BringsNoLocks event }
@@ -50,7 +50,7 @@ fn apply_any(table: &mut Table, event: Event) -> Result<(), AllocError>
     Ok(())
 }
 
-/// Makes a change where it is allowed. Err tells why it is not, or that no memory was found; then nothing changes.
+/// Applies an event if it is allowed. Err: why it is not, or E_OUTOFMEMORY; then nothing changed.
 pub(crate) fn change(bank: u32, table: &mut Table, event: SizedEvent) -> Result<(), HResult>
     requires unlocked { BringsNoLocks event }
     requires sound { IsSoundTable bank table.old }
@@ -58,7 +58,7 @@ pub(crate) fn change(bank: u32, table: &mut Table, event: SizedEvent) -> Result<
     ensures released { (number : ℕ) → event ≡ ARelease number → IfErr result (λ code. code ≡ e_outofmemory → ⊥) }
     ensures sound { IsSoundTable bank table.new }
 {
-    // Far from the limits, as most changes are, the table alone tells whether the event applies, as it makes the change.
+    // Far from the limits, as usual, the table itself reports whether the event applies, when it applies it.
     if is_surely_within(bank, table, &event) {
         return change_within(table, event.into_event());
     }
@@ -68,10 +68,11 @@ pub(crate) fn change(bank: u32, table: &mut Table, event: SizedEvent) -> Result<
     apply(table, event.into_event()).map_err(|_| HResult::E_OUTOFMEMORY)
 }
 
-/// The most bytes of a value whose put into a cell without a key has no more than an event may have.
+/// The most bytes of a value's image with which a put into a cell without a key is within the limit of an event.
 const LONGEST_VALUE: u64 = MAX_EVENT_BYTES as u64 - 27;
 
-/// Sets a cell without a key that was put before, where that is within the limits. Else hands the value back, and nothing changes.
+/// Overwrites a cell without a key that was put before, if that is within the limits. Otherwise it returns the value,
+/// and nothing changes.
 pub(crate) fn put_again(
     bank: u32,
     table: &mut Table,
@@ -88,8 +89,8 @@ pub(crate) fn put_again(
     table.put_again(name, value, LONGEST_VALUE, most_of(bank))
 }
 
-/// Makes a change that is within the limits, where it applies. Err tells why it does not, or that no memory was found; then nothing
-/// changes.
+/// Applies an event that is within the limits, if the table accepts it. Err: why it does not, or E_OUTOFMEMORY; then
+/// nothing changed.
 fn change_within(table: &mut Table, event: Event) -> Result<(), HResult>
     requires unlocked { BringsNoLocks event }
     ensures change { (bank : ℕ) → StaysWithin bank event table.old → ChangesTable bank event table.old table.new result }
@@ -102,7 +103,7 @@ fn change_within(table: &mut Table, event: Event) -> Result<(), HResult>
     Ok(())
 }
 
-/// Changes the locks of an array. Takes no memory.
+/// Changes the locks of an array. Allocates nothing.
 pub(crate) fn change_locks(table: &mut Table, change: LockChange) -> Result<(), TableFault>
     ensures change { RelocksTable change table.old table.new result }
     ensures same { unlocked_table table.new ≡ unlocked_table table.old }
@@ -132,7 +133,7 @@ fn unlock(table: &mut Table, name: CellName) -> Result<(), TableFault>
     Ok(())
 }
 
-/// Takes a lock of an array away, where it has one. Takes no memory.
+/// Removes a lock of an array, if it has one. Allocates nothing.
 pub(crate) fn take_lock_back(table: &mut Table, name: &CellName)
     ensures change { table.new ≡ table_or table.old (relocked (AnUnlock name.now) table.old) }
     ensures same { unlocked_table table.new ≡ unlocked_table table.old }

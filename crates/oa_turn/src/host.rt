@@ -1,4 +1,4 @@
-//! A library and a table in memory, and one turn after another.
+//! The state machine: a library and a table in memory, and turns that answer requests.
 ghost use Rattle.std.specs.Prelude.{◌≡◌, ◌≤◌, List, ℕ, [], false, map, IsOk, IfOk, IfSome, OnErr};
 ghost use Rattle.oa_decision.specs.Decisions.{ChangesNoLocks, Decides};
 ghost use Rattle.oa_turn.specs.Changes.{MakesChange};
@@ -36,16 +36,16 @@ use std::marker::Model;
 pub(crate) mod locking;
 pub(crate) mod replacement;
 
-/// A library and a table of its objects, in memory, and how large the table may grow: what a server's answers depend on.
+/// The state on which replies depend: a library, a table of its objects, and how large the table may grow.
 pub struct Host {
     alloc: Global,
-    /// How many bytes the body of a bank has that the table has to fit.
+    /// The size in bytes of a bank's body, into which the table must fit.
     bank: u32,
     library: Library,
     table: Table,
 }
 
-// Its own, so that a function that holds a host, or a server, lets go of it in one step.
+// A `Drop` of its own, so that a function that holds a host, or a server, drops it in one step.
 impl Drop for Host {
     fn drop(self) {
         let Host {
@@ -69,7 +69,7 @@ impl Model for Host {
 }
 
 impl Host {
-    /// A library, and the table at first, over banks of this size. It refuses what one over a new store of such banks refuses.
+    /// Makes a host with a library and the first table, with the limits of a new store with banks of this size.
     pub fn new(alloc: Global, bank: u32, library: Library) -> Host
         requires { least_bank ≤ bank }
         ensures { result ≡ record { bank = bank; library = library; table = first_table } }
@@ -82,7 +82,7 @@ impl Host {
         }
     }
 
-    /// A library, and a table that was made before, over banks of this size.
+    /// Makes a host with a library and an existing table, with the limits of banks of this size.
     pub fn over(alloc: Global, bank: u32, library: Library, table: Table) -> Host
         requires { IsSoundTable bank table }
         ensures { result ≡ record { bank = bank; library = library; table = table } }
@@ -95,7 +95,8 @@ impl Host {
         }
     }
 
-    /// One turn. Want of memory is told in the reply, which then leaves all as it was; never for a RELEASE.
+    /// Answers one request. If an allocation fails, the reply is E_OUTOFMEMORY, and nothing changes; a RELEASE never
+    /// fails so.
     pub fn turn(&mut self, body: &[u8]) -> Reply
         ensures turn { Turn self.old body.now result self.new }
         ensures bank { self.new.bank ≡ self.old.bank }
@@ -108,8 +109,11 @@ impl Host {
         self.ordinary_turn(body)
     }
 
-    /// One turn of a body with another opcode than 12. A call that brings no more than a new value is looked at first, since most are such
-    /// calls.
+    /// Answers one request with another opcode than 12. It tries the fast path for calls with no more than a new
+    /// value first, since most requests are such calls.
+    ///
+    /// The fast path (`value_plan`, `put_value`) and the general one (`other_turn`) part here; both meet this
+    /// contract.
     pub fn ordinary_turn(&mut self, body: &[u8]) -> Reply
         requires plain { is_replacement body.now ≡ false }
         ensures turn { Turn self.old body.now result self.new }
@@ -124,7 +128,7 @@ impl Host {
         }
     }
 
-    /// What is left of the turn of a call that brings no more than a new value. None, of which nothing is said, of any other body.
+    /// Plans a call with no more than a new value. None, without a further meaning, for any other body.
     fn value_plan(&self, body: &[u8]) -> Option<ValuePlan>
         ensures { IfSome result (PlansCall self.now body.now) }
     {
@@ -132,8 +136,8 @@ impl Host {
         self.decider().plan_value(tag_of(body), &head, value)
     }
 
-    /// Sets a cell, and tells it, or why it is refused. Most puts are over a value that is there, and far from the limits: no event is made
-    /// of these.
+    /// Sets a cell, and returns the reply. Most puts overwrite an existing value, far from the limits: no event is
+    /// made for these.
     fn put_value(&mut self, tag: u32, put: ValuePut) -> Reply
         requires { BringsNoLocks (put_event put) }
         ensures { (body : List ℕ) → IsDrafted self.old body (put_planned tag put) → Ordinary self.old body result self.new }
@@ -152,7 +156,8 @@ impl Host {
         }
     }
 
-    /// The same of any put, as an event. Its own, so that a put over a value that is there keeps no room for an event.
+    /// Sets a cell by an event. A function of its own, so that a put over an existing value reserves no space for an
+    /// event.
     #[inline(never)]
     fn put_any(&mut self, tag: u32, name: CellName, value: Variant) -> Reply
         requires { BringsNoLocks (Put name value) }
@@ -164,7 +169,7 @@ impl Host {
         self.make(Planned { tag, event, fields })
     }
 
-    /// One turn of a body with another opcode than 12, as of any request.
+    /// Answers one request with another opcode than 12, by the general path.
     #[inline(never)]
     fn other_turn(&mut self, body: &[u8]) -> Reply
         ensures turn { Ordinary self.old body.now result self.new }
@@ -177,7 +182,7 @@ impl Host {
         }
     }
 
-    /// The turn of a body with another opcode than 12, but for the change that an event makes of the table: that is planned.
+    /// Answers one request with another opcode than 12, except for the change of the table: that is planned.
     pub fn plan(&mut self, body: &[u8]) -> Plan
         ensures plans { Plans self.old body.now self.new result }
         ensures quiet { HasNoEvent self.old body.now result }
@@ -194,7 +199,7 @@ impl Host {
         }
     }
 
-    /// The same, as of any request.
+    /// Plans the answer to a request, by the general path.
     #[inline(never)]
     fn plan_other(&mut self, body: &[u8]) -> Plan
         ensures plans { Plans self.old body.now self.new result }
@@ -208,7 +213,7 @@ impl Host {
         }
     }
 
-    /// What becomes of any request; a change that was decided may still be refused.
+    /// Decides about any request; a decided change may still be refused.
     fn draft(&mut self, body: &[u8]) -> Plan
         ensures drafts { Drafts self.old body.now self.new result }
         ensures quiet { HasNoEvent self.old body.now result }
@@ -239,7 +244,7 @@ impl Host {
         }
     }
 
-    /// A change that was decided: it is refused, or to be made.
+    /// Checks a decided change: it is refused, or planned.
     fn plan_change(&self, tag: u32, event: SizedEvent, fields: Fields) -> Plan
         ensures { PlansChange self.now tag event fields result }
     {
@@ -249,7 +254,7 @@ impl Host {
         }
     }
 
-    /// Makes a change in memory, and tells it, or why it is refused.
+    /// Makes a planned change in memory, and returns the reply.
     #[inline(never)]
     fn make(&mut self, planned: Planned) -> Reply
         requires { BringsNoLocks planned.event }
@@ -263,8 +268,8 @@ impl Host {
         Reply::new(tag, HResult::S_OK, None, fields.into_vec())
     }
 
-    /// Makes a change that was planned, or another that is allowed. Err only where memory is refused, so never for a `Release`; then nothing
-    /// changes.
+    /// Applies an event that was planned, or another that is allowed. Err: an allocation failed, which never happens
+    /// for a `Release`, and nothing changed.
     pub fn apply(&mut self, event: Event) -> Result<(), AllocError>
         requires unlocked { BringsNoLocks event }
         requires allowed { IsOk (allowed self.old.bank event self.old.table) }
@@ -274,7 +279,7 @@ impl Host {
         apply(&mut self.table, event)
     }
 
-    /// One turn after another. Err only where memory is refused before anything was done.
+    /// Answers requests one after another. Err: an allocation failed before anything was done.
     pub fn run(&mut self, bodies: &[Vec<u8>]) -> Result<Vec<Reply>, AllocError>
         ensures run { IfOk result (λ replies. Run self.old (map (λ b. b.items) bodies.now) replies.items self.new) }
         ensures bank { self.new.bank ≡ self.old.bank }
@@ -288,7 +293,7 @@ impl Host {
         Ok(replies)
     }
 
-    /// The table, which is sound.
+    /// Returns the table.
     pub fn table(&self) -> &Table
         ensures table { result.now ≡ self.now.table }
         ensures sound { IsSoundTable self.now.bank self.now.table }
@@ -296,14 +301,14 @@ impl Host {
         &self.table
     }
 
-    /// Takes a library in the place of the one that it has. The table stays, with its locks.
+    /// Replaces the library. The table stays, with its locks.
     pub fn replace_library(&mut self, library: Library)
         ensures { self.new ≡ record self.old { library = library } }
     {
         self.library = library;
     }
 
-    /// What becomes of a request. Only reads.
+    /// Decides a request. It only reads.
     fn decide(&self, request: Request) -> Result<Decision, Undecided>
         ensures decided { Decides (decided self.now request) (DecidingTakesMemory self.now request) result }
         ensures unlocked { IfOk result ChangesNoLocks }
@@ -311,14 +316,15 @@ impl Host {
         self.decider().decide(request)
     }
 
-    /// What decides requests over the library and the table.
+    /// Returns the decider over the library and the table.
     fn decider(&self) -> Decider<'_>
         ensures { result ≡ self.now }
     {
         Decider::new(self.alloc, self.bank, &self.library, &self.table)
     }
 
-    /// Changes the locks of an array and tells it with these fields, or why the table refuses it. Takes no memory.
+    /// Changes the locks of an array, and replies with these fields, or with why the table refuses it. Allocates
+    /// nothing.
     fn relock(&mut self, tag: u32, change: LockChange, fields: Fields) -> Reply
         ensures reply { result ≡ reply_with tag (relocking change fields (relocked change self.old.table)) }
         ensures state { self.new ≡ after_outcome self.old (relocking change fields (relocked change self.old.table)) }
@@ -330,7 +336,7 @@ impl Host {
         }
     }
 
-    /// A refusal as a reply.
+    /// Returns the reply of a refusal.
     fn refuse(&self, tag: u32, refusal: Refusal) -> Reply
         ensures { result ≡ record { tag = tag; code = refusal.code; index = refusal.index; body = [] } }
     {

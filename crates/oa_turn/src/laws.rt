@@ -1,4 +1,4 @@
-//! Laws of the definitions that turns are stated by.
+//! Theorems about the definitions of turns.
 ghost use Rattle.std.specs.Prelude.{◌≡◌, ◌↔◌, ℕ, true, Bool, List, None, Ok};
 ghost use Rattle.oa_record.specs.declared.request.Request.{Request as ARequest};
 ghost use Rattle.oa_record.specs.Replies.{ReplyValue};
@@ -20,9 +20,9 @@ use oa_fits::laws::changes_that_fit;
 use oa_idl::laws::one_tree;
 use oa_record::laws::one_request;
 
-/// A request that is answered with another code than S_OK leaves no trace: its outcome has no event and no change of locks, so its turn
-/// leaves the state as it was, and the other turns of a run alone are a run, with the same replies; so are they together with any of the
-/// turns that leave no trace.
+/// A request that is answered with another code than S_OK leaves no trace: it makes no event and changes no lock, so
+/// its turn does not change the state. The other turns of a run alone are a run with the same replies, also together
+/// with any of the turns that leave no trace.
 pub fn no_trace()
     ensures outcome { (state : State) (tag : ℕ) (request : ARequest) → ((reply_to state tag request).code.0 ≡ 0 → ⊥)
         → IsQuiet (outcome state request) }
@@ -33,8 +33,8 @@ pub fn no_trace()
         → Run old bodies replies new → Run old (kept_bodies choices bodies replies) (kept_replies choices replies) new }
 {}
 
-/// A table that a library can have is one that each library can have that keeps it. Locks are no part of that. A library replaces another
-/// exactly where it keeps it.
+/// A table that fits a library fits each library that is compatible with it. Locks do not matter for that. A library
+/// may replace another exactly if it is compatible with it.
 pub fn kept_fits()
     ensures fits { (new old : TreeValue) → IsChecked new → KeepsLibrary new old → (table : TableValue) → fits old table ≡ true
         → fits new table ≡ true }
@@ -43,7 +43,7 @@ pub fn kept_fits()
     oa_fits::laws::kept_fits();
 }
 
-/// From a table that a library can have, a turn leaves one that the library of then can have, and so does a run.
+/// If a table fits its library, it still does after a turn and after a run, for the library of then.
 pub fn fits_stays()
     ensures turn { (old new : State) (body : List ℕ) (reply : ReplyValue) → IsChecked old.library
         → fits old.library old.table ≡ true → Turn old body reply new → IsChecked new.library × (fits new.library new.table ≡ true) }
@@ -53,13 +53,13 @@ pub fn fits_stays()
     changes_that_fit();
 }
 
-/// No turn answers STG_E_WRITEFAULT or E_FAIL: these tell of the device alone.
+/// No turn answers STG_E_WRITEFAULT or E_FAIL: these report faults of the device.
 pub fn own_codes()
     ensures step { (state : State) (tag : ℕ) (request : ARequest) → is_own (reply_to state tag request).code ≡ true }
     ensures turn { (old : State) (body : List ℕ) (reply : ReplyValue) (new : State) → Turn old body reply new → is_own reply.code ≡ true }
 {}
 
-/// A turn that is told by this reply leads to one state, and so does a run that is told by these.
+/// A turn with this reply leads to one state, and so does a run with these replies.
 pub fn one_state()
     ensures turn { (old a b : State) (body : List ℕ) (reply : ReplyValue) → Turn old body reply a → Turn old body reply b → a ≡ b }
     ensures run { (old a b : State) (bodies : List (List ℕ)) (replies : List ReplyValue)
@@ -69,7 +69,7 @@ pub fn one_state()
     one_tree();
 }
 
-/// A lock more or less changes nothing that an image holds of a table.
+/// A lock more or fewer changes nothing in the image of a table.
 pub fn locks_are_in_no_image()
     ensures lock { (name : AName) (old new : TableValue) → with_lock name old ≡ Ok new → unlocked_table new ≡ unlocked_table old }
     ensures unlock { (name : AName) (old new : TableValue) → without_lock name old ≡ Ok new → unlocked_table new ≡ unlocked_table old }

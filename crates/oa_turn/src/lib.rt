@@ -1,9 +1,10 @@
-//! The step of a request: what becomes of it over a library, a table of objects and its locks, in memory alone.
+//! The state machine of the server, in memory: how a request is answered by a library, a table of objects and its
+//! locks.
 //!
-//! Its contract: `Host::turn` is one turn (`Turn`), `Host::run` one after another (`Run`), and `Host::plan` a turn but
-//! for the change of the table that it calls for (`Plans`).
+//! Contract: `Host::turn` is one turn (`Turn`), `Host::run` several (`Run`), and `Host::plan` a turn without the
+//! change of the table that it asks for (`Plans`).
 //!
-//! What stands on it: oa_server, which keeps the table in a store, and oa_history.
+//! Used by oa_server, which keeps the table in a store, and by oa_history.
 #![tactic(auto)]
 
 mod changes;

@@ -1,4 +1,4 @@
--- What follows of a checked tree: each coclass has a default interface, and each of its entries has a description.
+-- Consequences for a checked tree: each coclass has a default interface, and each of its entries has a description.
 use Rattle.std.proofs.Common.{◌≡◌, ◌≤◌, ℕ, Bool, true, false, cond, ◌||◌, if◌then◌else◌, List, [], ◌∷◌, length, map, find, position}
 use Rattle.std.proofs.Common.{slice_get, nat_lt, Option, None, Some, is_some, IsSome, IfSome, refl, sym, ap, subst, ◌∙◌, true≢false, arith}
 use Rattle.std.proofs.lemmas.Bool.Decides.{nat_tests}

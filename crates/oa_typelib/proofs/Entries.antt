@@ -1,4 +1,4 @@
--- The entries of a map from keys to the places at which they stand.
+-- The entries of a map from keys to their places.
 use Rattle.std.proofs.Common.{◌≡◌, ◌+◌, ℕ, Bool, true, false, cond, not, ◌||◌, List, [], ◌∷◌, ◌++◌, map}
 use Rattle.std.proofs.Common.{position, slice_get, Option, None, Some, refl, sym, ap, ◌∙◌, if◌then◌else◌}
 use Rattle.std.specs.List.{list_any, position_or_len}
@@ -51,7 +51,7 @@ group_starts f eq k n (e ∷ es) w h is = by (eq k e.0) h (λ r. group_starts f 
     by true h rest = absurd (cc)
     by false h rest = ap (λ pss. f e.1 ∷ pss) (rest h) ∙ sym (later (position_or_len (eq k) (keys_of es)) n (f e.1) (map f (values_of es)))
 
--- ---- what a look-up finds, and what an addition leaves
+-- ---- The result of a look-up, and the effect of an addition.
 module _ {K V : Type 0} (f : V → List ℕ) (es : List (K × V)) where
   pub found_places : (t : K → Bool) (o : Option V) → o ≡ lookup t es → unwrap_or (option_map f o) [] ≡ places_in (position t (keys_of es)) (map f (values_of es))
   found_places t o is = ap (λ r. unwrap_or (option_map f r) []) (is ∙ sym (by_place t es)) ∙ sym (mapped_places f (position t (keys_of es)) (values_of es))

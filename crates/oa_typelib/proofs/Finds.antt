@@ -1,4 +1,4 @@
--- What the indexes of a library find.
+-- The results of look-ups in the indexes of a library.
 use Rattle.std.proofs.Common.{◌≡◌, ◌≤◌, ℕ, Bool, List, [], ◌∷◌, length, map}
 use Rattle.std.proofs.Common.{IfOk, Result, Ok, Err}
 use Rattle.std.proofs.Common.{slice_get, position, find, Option, None, Some, true, false, refl, sym, ap, ◌∙◌, arith}
@@ -26,7 +26,7 @@ use Rattle.oa_checks.specs.Libraries.{folded_names}
 use Rattle.oa_checks.proofs.Lists.{position_finds}
 use Rattle.oa_checks.proofs.Passes.{interface_by_place}
 
--- what is found, by its place
+-- The entry that is found, by its place.
 pub found_by_place : {X Y : Type 0} (f : X → Option Y) (p : X → Bool) (xs : List X) (o : Option ℕ) → o ≡ position p xs → option_and_then f (find p xs) ≡ option_and_then f (option_and_then (slice_get xs) o)
 found_by_place f p xs o e = ap (option_and_then f) (sym (position_finds p xs) ∙ ap (option_and_then (slice_get xs)) (sym e))
 
@@ -49,7 +49,7 @@ pub flat : {X Y : Type 0} (f : X → Option Y) (o : Option X) (d : Option Y) →
 flat f None d e = absurd (cc)
 flat f (Some x) d e = cc
 
--- what the marks keep
+-- The parts that marking leaves unchanged.
 pub kept : {Y : Type 0} (f : Item → Y) → ((i : Item) → f (marked_item i) ≡ f i) → (items : List Item) → map f (map marked_item items) ≡ map f items
 kept f same_f [] = refl
 kept f same_f (i ∷ items) = ap (λ y. y ∷ map f (map marked_item items)) (same_f i) ∙ ap (λ ys. f i ∷ ys) (kept f same_f items)
@@ -67,7 +67,7 @@ pub length_of_marked : (tree t : TreeValue) → t ≡ marked tree → text_breac
 unfolding text_breach
 length_of_marked tree t is = rw is refl
 
--- where there is no breach, the library is that of each text that stands for the tree
+-- If there is no error, the library is that of each text with this tree.
 pub library_of_texts : (tree : TreeValue) (r : Result TreeValue CheckError) → RefusesBreach (first_breach tree) (λ library. library ≡ marked tree) r
     → IfOk r (λ library. (text : List ℕ) → IsTree text tree → IsLibrary text library)
 library_of_texts tree (Ok library) h = λ text is. record { tree = tree; stands = is; unbroken = h.0; says = h.1 }
@@ -83,7 +83,7 @@ fits_text t h = by (nat_le (length (canonical t)) max_library_bytes) refl h
     by true is none = short_text (canonical t) is
     by false is none = absurd (none-some TextTooLong (sym none))
 
--- ---- the interface at a place, where an entry of a coclass names it
+-- ---- The interface at a place, if an entry of the coclass names it.
 pub never : (k : Option CoclassValue) → None ≡ option_and_then (λ c. option_and_then (if_entered c) None) k
 never None = refl
 never (Some c) = refl
@@ -112,7 +112,7 @@ chosen items class place i b at flag =
     (sym (flag_is items place i (slice_get items class) at) ∙ ap (λ o. flag_of o place) (sym (slice_get-map (entered_in (folded_names items)) items class)) ∙ sym flag)
     ∙ ap (λ o. option_and_then (λ c. option_and_then (if_entered c) o) (option_and_then as_class (slice_get items class))) at
 
--- the same by GUIDs
+-- As above, by GUIDs.
 pub by_places : (t : TreeValue) (class interface : List ℕ) (m n : Option ℕ) → m ≡ position (λ (i : Item). same class (item_guid i)) t.items → n ≡ position (λ (i : Item). same interface (item_guid i)) t.items
     → option_and_then (λ c. option_and_then (if_entered c) (option_and_then as_interface (option_and_then (slice_get t.items) n))) (option_and_then as_class (option_and_then (slice_get t.items) m)) ≡ option_and_then (λ c. option_and_then (if_entered c) (interface_of t interface)) (class_of t class)
 by_places t class interface m n e f =

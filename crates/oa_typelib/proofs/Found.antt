@@ -1,4 +1,4 @@
--- What is found among declarations that calls can be bound to.
+-- The declarations that are found, if calls can be bound to all of them.
 use Rattle.std.proofs.Common.{◌≡◌, ◌≤◌, refl, ℕ, zero, suc, ◌-◌, length, take, ℤ, Bool, true, false, cond}
 use Rattle.std.proofs.Common.{if◌then◌else◌, find, List, [], ◌∷◌, Option, Some, None, IfSome, IfOk, Result, Ok, Err, slice_get, arith}
 use Rattle.std.proofs.lemmas.List.{length-take}
@@ -26,7 +26,7 @@ use Rattle.oa_typelib.specs.declared.access.Kind.TheVariants as kinds
 use Rattle.oa_typelib.specs.declared.access.MemberFault.{MemberFault}
 use Rattle.oa_typelib.specs.declared.access.MemberFault.TheVariants.{MemberNotFound}
 
--- ---- what holds of each of a list holds of what is taken from it
+-- ---- A property of all entries of a list holds for the entries that are selected from it.
 
 picked : {X : Type 0} (P : X → Type 0) (b : Bool) (y : X) (o : Option X) → P y → IfSome o P → IfSome (cond b (Some y) o) P
 picked P true y o here rest = here
@@ -49,7 +49,7 @@ filter_all : {X : Type 0} (P : X → Type 0) (test : X → Bool) (xs : List X) �
 filter_all P test [] all = tt
 filter_all P test (y ∷ ys) all = kept_all P (test y) y (filter test ys) all.0 (filter_all P test ys all.1)
 
--- ---- what a declaration holds
+-- ---- The properties of a declaration.
 
 mapped_type : (o : Option Parameter) → IfSome o (λ (p : Parameter). HasZero p.value_type) → IfSome (option_map (λ (p : Parameter). p.value_type) o) HasZero
 mapped_type None h = tt

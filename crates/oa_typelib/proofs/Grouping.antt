@@ -1,4 +1,4 @@
--- The keys of a list, each once, with the places at which it stands.
+-- The distinct keys of a list, with the places of each.
 use Rattle.std.proofs.Common.{◌≡◌, ◌<◌, ◌+◌, ℕ, zero, suc, Bool, true, false, cond, not, ◌||◌, List, [], ◌∷◌}
 use Rattle.std.proofs.Common.{◌++◌, length, map, fold, find, position, slice_get, Option, None, Some, is_some}
 use Rattle.std.proofs.Common.{refl, sym, ap, ◌∙◌, true≢false, nat_lt, take, get_or, ◌≤◌, if◌then◌else◌, arith}
@@ -23,7 +23,7 @@ at_place : {X : Type 0} (b : Bool) (x : X) (xs : List X) (ns : List ℕ) → fil
 at_place true x xs ns = ap (λ ys. x ∷ ys) (filter_later x xs ns)
 at_place false x xs ns = filter_later x xs ns
 
--- what stands at the places of a key
+-- The entries at the places of a key.
 pub at_places : {X K : Type 0} (eq : K → K → Bool) (key : X → K) (k : K) (xs : List X) → filter_map (slice_get xs) (places_of eq k (map key xs)) ≡ filter (λ x. eq k (key x)) xs
 unfolding places_of
 at_places eq key k [] = refl

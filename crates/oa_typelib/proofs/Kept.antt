@@ -24,7 +24,7 @@ module _ {X Y : Type 0} (f : X → Option Y) (xs : List X) (i : ℕ) (x : X) (h 
   count_more y some = ap length (one_more y some) ∙ length-append (filter_map f (take i xs)) (y ∷ [])
 
 module _ {X Y : Type 0} (f : X → Option Y) (xs : List X) (i : ℕ) (x : X) (h : i < length xs) (is : x ≡ get_or xs i x) where
-  -- the next one that is kept, where there is one at this place
+  -- The next one that is kept, if there is one at this place.
   pub nth_here : (y : Y) → f x ≡ Some y → option_and_then f (slice_get xs i) ≡ slice_get (filter_map f (drop i xs)) 0
   nth_here y some =
       let e = drop-cons xs i x h in
@@ -38,7 +38,7 @@ described_more front g xs more x old new y o n e m = n ∙ rw (o, m, e, map-appe
 pub seen_more : {X Y Z : Type 0} (f : X → Z) (g : Y → Z) (old new : List X) (ys more : List Y) (x : X) (y : Y) → map f old ≡ map g ys → new ≡ old ++ x ∷ [] → f x ≡ g y → more ≡ ys ++ y ∷ [] → map f new ≡ map g more
 seen_more f g old new ys more x y o n e m = rw (n, m, map-append, map-append, o, e) refl
 
--- ---- those that pass a test, of what a function gives
+-- ---- The results of a function that pass a test.
 filter_step : {Y : Type 0} (p : Y → Bool) (o : Option Y) (ys : List Y) → filter p (cons_option o ys) ≡ cons_option (option_and_then (λ y. if p y then Some y else None) o) (filter p ys)
 filter_step p None ys = refl
 filter_step p (Some y) ys = by (p y)

@@ -1,4 +1,4 @@
--- what the crates above cite
+-- The modules that other crates cite.
 pub mod Classes
 pub mod Finds
 pub mod Found
@@ -7,7 +7,7 @@ pub mod Looks
 pub mod Naming
 pub mod Same
 pub mod Sound
--- what this crate alone does
+-- The modules of this crate alone.
 mod Entries
 mod Grouping
 mod Named

@@ -1,4 +1,4 @@
--- What the index of an interface finds.
+-- The results of look-ups in the index of an interface.
 use Rattle.std.proofs.Common.{◌≡◌, ◌-◌, ◌++◌, ◌∷◌, [], zero, suc, length, arith, append_assoc, if◌then◌else◌, Option, Some, None, is_some}
 use Rattle.std.proofs.Common.{ℕ, ℤ, Bool, true, false, List, Bor, Vec, Global, map, fold, position, slice_get, refl, sym, ap, ◌∙◌}
 use Rattle.std.proofs.lemmas.Cmp.{int_eq_equiv, nat_list_eq_equiv}
@@ -56,7 +56,7 @@ kept_at ds vs n d v kept here there =
 pub names_folded : {Y : Type 0} (name : Y → List ℕ) (ns : List (Bor (List ℕ))) (ys : List Y) → map (λ (n : Bor (List ℕ)). n.now) ns ≡ map name ys → map (λ (n : Bor (List ℕ)). folded_name n.now) ns ≡ map (λ y. folded_name (name y)) ys
 names_folded name ns ys h = sym (map_twice (λ (n : Bor (List ℕ)). n.now) folded_name ns) ∙ ap (map folded_name) h ∙ map_twice name folded_name ys
 
--- ---- the members in the order in which their names first stand
+-- ---- The members in the order in which their names first appear.
 flat_map-map : {X Y Z : Type 0} (f : X → Y) (g : Y → List Z) (xs : List X) → flat_map g (map f xs) ≡ flat_map (λ x. g (f x)) xs
 flat_map-map f g [] = refl
 flat_map-map f g (x ∷ xs) = ap (λ zs. g (f x) ++ zs) (flat_map-map f g xs)

@@ -1,4 +1,4 @@
--- A look-up by name answers what the name names, and that alone.
+-- A look-up by name returns exactly what the name means.
 use Rattle.std.proofs.Common.{◌≡◌, ◌-◌, ◌<◌, ◌≤◌, ℕ, ℤ, pos, zero, suc, Bool, true, false, cond, not, ◌&&◌, ◌||◌}
 use Rattle.std.proofs.Common.{if◌then◌else◌, List, [], ◌∷◌, ◌++◌, length, map, take, position, slice_get}
 use Rattle.std.proofs.Common.{nat_lt, Option, None, Some, refl, sym, ap, subst, ◌∙◌, true≢false, arith}
@@ -39,7 +39,7 @@ use Rattle.oa_checks.proofs.Rules.{agree_equiv}
 use Rattle.oa_typelib.proofs.Same.{found_at, inside}
 use Rattle.oa_typelib.proofs.Sound.{neither, unmapped, none_of, breaks_none, tree_sound}
 
--- ---- lists and what stands at their places
+-- ---- Lists and the entries at their places.
 
 abbrev pub Passing : {X : Type 0} → (X → Bool) → List X → X → Type 0
 Passing test xs x = (n : ℕ) × (slice_get xs n ≡ Some x) × (test x ≡ true)
@@ -223,14 +223,14 @@ one_place before (x ∷ names) none (suc m) (suc n) a b at there is =
     let h = unless (list_any (same (folded_name x)) before) x (first_repeat same folded_name (before ++ folded_name x ∷ []) names) none in
     ap (λ k. suc k) (one_place (before ++ folded_name x ∷ []) names h.1 m n a b at there is)
 
--- where no member answers, none does after some members
+-- If the function has no result for any entry, it has none after some entries.
 none_after : {X Y : Type 0} (f : List X → X → Option Y) (before xs : List X) → first_after f before xs ≡ None → (n : ℕ) (x : X) → slice_get xs n ≡ Some x → (bs : List X) × (f bs x ≡ None)
 unfolding first_after
 none_after f before [] none n x at = absurd cc
 none_after f before (y ∷ ys) none zero x at = (before, subst (λ z. f before z ≡ None) (inside y x at) (neither (f before y) (first_after f (before ++ y ∷ []) ys) none).0)
 none_after f before (y ∷ ys) none (suc n) x at = none_after f (before ++ y ∷ []) ys (neither (f before y) (first_after f (before ++ y ∷ []) ys) none).1 n x at
 
--- ---- what a library's checks give for an interface
+-- ---- Consequences of a library's checks for an interface.
 
 abbrev name_of_parameter : Parameter → List ℕ
 name_of_parameter p = p.name
@@ -266,7 +266,7 @@ names_well t n i is at =
       sound = all_at IsSoundItem t.items (tree_sound t is) n (Interface i) at;
     }
 
--- ---- the declaration that speaks for a member
+-- ---- The declaration with the name and parameters of the member.
 
 pub main_in : (forms : List DeclarationValue) (d : DeclarationValue) → main_form forms ≡ Some d → Has forms d
 main_in forms d e = by (form_for kinds.Get forms) refl e
@@ -361,7 +361,7 @@ parameter_told d name id e = by (position (λ (p : Parameter). same_name name p.
     by None is h = absurd cc
     by (Some k) is h = let one = position_in (λ (p : Parameter). same_name name p.name) (own_parameters d) k is in (k, one.0, one.1, one.2, place_of_id k id h)
 
--- what is answered at a place of a list that is answered name by name
+-- The result at a place of a list that is computed name by name.
 answer_at : (f : List ℕ → Option ℤ) (names : List (List ℕ)) (n : ℕ) (name : List ℕ) → slice_get names n ≡ Some name → slice_get (map f names) n ≡ Some (f name)
 answer_at f names n name at = slice_get-map f names n ∙ ap (option_map f) at
 

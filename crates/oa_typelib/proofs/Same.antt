@@ -19,7 +19,7 @@ use Rattle.oa_typelib.proofs.Sound.{neither}
 pub inside : {X : Type 0} (x y : X) → Some x ≡ Some y → x ≡ y
 inside x y e = cc
 
--- ---- the first answer
+-- ---- The first result.
 
 pub none_at : {X Y : Type 0} (f : X → Option Y) (xs : List X) → first_answer f xs ≡ None → (n : ℕ) (x : X) → slice_get xs n ≡ Some x → f x ≡ None
 unfolding first_answer
@@ -41,7 +41,7 @@ unfolding first_answer
 answer_append f [] ys = refl
 answer_append f (x ∷ xs) ys = ap (option_or (f x)) (answer_append f xs ys) ∙ sym (or_more (f x) (first_answer f xs) (first_answer f ys))
 
--- of what a function gives
+-- For the results of a function.
 pub answer_mapped : {X Y Z : Type 0} (f : Y → Option Z) (g : X → Option Y) (xs : List X) → first_answer f (filter_map g xs) ≡ first_answer (λ x. option_and_then f (g x)) xs
 unfolding first_answer
 answer_mapped f g [] = refl
@@ -57,7 +57,7 @@ unfolding first_answer
 answer_flat f g [] = refl
 answer_flat f g (x ∷ xs) = answer_append f (g x) (flat_map g xs) ∙ ap (option_or (first_answer f (g x))) (answer_flat f g xs)
 
--- of what is left from a place on
+-- For the rest of a list from a place on.
 pub answer_here : {X Y Z : Type 0} (f : Y → Option Z) (g : X → Option Y) (xs : List X) (n : ℕ) → n < length xs → first_answer f (filter_map g (drop n xs)) ≡ option_or (option_and_then f (option_and_then g (slice_get xs n))) (first_answer f (filter_map g (drop (suc n) xs)))
 unfolding first_answer
 answer_here f g [] n h = absurd (omega (arith, h))
@@ -77,7 +77,7 @@ all_here p g (x ∷ xs) zero h = by (g x)
     by (Some y) = refl
 all_here p g (x ∷ xs) (suc n) h = all_here p g xs n (omega (arith, h))
 
--- ---- what stands in a list
+-- ---- The entries of a list.
 
 pub any_at : {X : Type 0} (test : X → Bool) (xs : List X) → list_any test xs ≡ true → (n : ℕ) × (x : X) × (slice_get xs n ≡ Some x) × (test x ≡ true)
 any_at {X = X} test [] e = absurd (true≢false (sym e))

@@ -1,4 +1,4 @@
--- What follows of a checked tree: calls can be bound to each of its properties.
+-- Consequences for a checked tree: calls can be bound to each of its properties.
 use Rattle.std.proofs.Common.{ℕ, ◌≡◌, ◌≤◌, ◌++◌, refl, sym, subst, ap, ◌∙◌, Bool, true, false, cond, not, if◌then◌else◌}
 use Rattle.std.proofs.Common.{find, length, List, [], ◌∷◌, map, Option, Some, None, IfSome, IsSome, is_some, arith}
 use Rattle.std.proofs.lemmas.Option.{none-some}
@@ -35,7 +35,7 @@ use Rattle.oa_checks.specs.declared.fault.CheckError.TheVariants.{UnknownInterfa
 use Rattle.oa_typelib.proofs.Found.{holds_typed}
 use Rattle.oa_typelib.proofs.TypedTrees.{marked_typed}
 
--- ---- where no answer is found, no member has one
+-- ---- If there is no result, no entry has one.
 
 pub neither : {Y : Type 0} (o p : Option Y) → option_or o p ≡ None → (o ≡ None) × (p ≡ None)
 neither None p e = (refl, e)

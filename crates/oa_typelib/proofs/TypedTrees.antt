@@ -50,13 +50,13 @@ unfolding value_type
 type_typed (One t) ws f = tt
 type_typed (Array t) ws f = ⊎_elim (λ u. word_typed true t u.second.word u.second.is) (λ o. word_typed false t o.word o.is) f.second.second.first
 
--- what holds of each form of a list holds of each member of it
+-- A property of each form of a list holds for each of its entries.
 listed_all : {S A B : Type 0} (F : S → A → Form) (grow : S → A → S) (apart : A → Word → Bool) (E : S → B → Form) (P : A → Type 0)
     → ((s : S) (x : A) (ws : List Word) → F s x ws → P x) → (s : S) (xs : List A) (b : B) (ws : List Word) → listed F grow apart E s xs b ws → AllByRecursion P xs
 listed_all F grow apart E P each s [] b ws l = tt
 listed_all F grow apart E P each s (x ∷ xs) b ws l = (each s x l.front l.first, listed_all F grow apart E P each (grow s x) xs b l.second.back l.second.second)
 
--- and what holds of each form of what ends it holds of that
+-- A property of each form of the end holds for the end.
 listed_end : {S A B : Type 0} (F : S → A → Form) (grow : S → A → S) (apart : A → Word → Bool) (E : S → B → Form) (P : B → Type 0)
     → ((s : S) (b : B) (ws : List Word) → E s b ws → P b) → (s : S) (xs : List A) (b : B) (ws : List Word) → listed F grow apart E s xs b ws → P b
 listed_end F grow apart E P each s [] b ws l = each s b ws l
@@ -90,7 +90,7 @@ methods_typed n ms ws f = ⊎_elim
     (λ l. listed_all _ _ _ _ (λ (m : MethodValue). IsTypedDeclaration (of_method m)) (λ k. method_typed) n ms tt l.second.back l.second.second)
     (λ none. subst (AllByRecursion (λ (m : MethodValue). IsTypedDeclaration (of_method m))) (sym none.0) tt) f
 
--- what holds of two lists holds of one after the other
+-- A property of two lists holds for both, one after the other.
 both_typed : (ps : List Property) (ms : List MethodValue) → AllByRecursion (λ p. IsTypedDeclaration (of_property p)) ps → AllByRecursion (λ m. IsTypedDeclaration (of_method m)) ms → AllByRecursion IsTypedDeclaration (map of_property ps ++ map of_method ms)
 both_typed (p ∷ ps) ms all rest = (all.0, both_typed ps ms all.1 rest)
 both_typed [] [] all rest = tt
@@ -107,7 +107,7 @@ item_typed : (x : Item) (ws : List Word) → item x ws → IsTypedItem x
 item_typed (Interface d) ws f = let body = f.form.second.1 in members_typed d.properties d.methods body.second.second.second.front body.second.second.second.first
 item_typed (Coclass c) ws f = tt
 
--- what holds of each item of the grammar holds of each of a tree
+-- A property of each item of the grammar holds for each item of a tree.
 module _ (P : Item → Type 0) (each : (x : Item) (ws : List Word) → item x ws → P x) where
   abbrev OfContent : LibraryContent → Type 0
   OfContent Import = Unit {0}

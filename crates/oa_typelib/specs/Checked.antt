@@ -10,19 +10,22 @@ use Rattle.oa_typelib.specs.Descriptions.{entry_description, interfaces_of}
 use Rattle.oa_checks.specs.IsLibrary.{IsLibrary}
 use Rattle.oa_checks.specs.Libraries.{as_class, default_interface}
 
--- the library of some text: its tree breaks none of the checks, and one default interface is marked in each coclass
+-- The tree is that of a library: it is parsed from some text, passes all checks, and one default interface is marked in
+-- each coclass.
 abbrev pub IsChecked : TreeValue → Type 0
 IsChecked tree = (text : List ℕ) × IsLibrary text tree
 
--- A coclass has a default interface, and each of its entries a description, so none is left out.
+-- The coclass has a default interface, and each of its entries has a description, so that its description omits none.
 pub record IsClass (items : List Item) (c : CoclassValue) : Type 0 where
   pub default : IsSome (default_interface items c)
   pub entries : AllByRecursion (λ (e : Entry). IsSome (entry_description (interfaces_of items) e)) c.entries
 
+-- The item is an interface, or a coclass with a default interface and a description of each entry.
 abbrev pub HasClass : List Item → Item → Type 0
 HasClass items x = IfSome (as_class x) (IsClass items)
 
--- What follows for its items: calls can be bound to each property, and each coclass is one.
+-- A consequence for the items of a library: a call can be bound to each property, and each coclass has a default
+-- interface and a description of each entry.
 pub record HasSoundItems (tree : TreeValue) : Type 0 where
   pub sound : AllByRecursion IsSoundItem tree.items
   pub classes : AllByRecursion (HasClass tree.items) tree.items

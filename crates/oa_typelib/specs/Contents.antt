@@ -1,4 +1,4 @@
--- What contracts see of a description's content, and of the answer to an index.
+-- The content of a description in contracts, and the result of `describe`.
 use Rattle.std.specs.Prelude.{◌≡◌, Option, Some, None, Result, Ok, Err, IsSome}
 use Rattle.oa_typelib.specs.declared.described.Content.{Content}
 use Rattle.oa_typelib.specs.declared.described.Content.TheVariants.{Interface, Coclass}
@@ -7,12 +7,13 @@ use Rattle.oa_typelib.specs.declared.described.DescribeError.TheVariants.{BadInd
 use Rattle.oa_typelib.specs.DescriptionValues.{ContentDescription, DescriptionValue}
 use Rattle.oa_typelib.specs.DescriptionValues.ContentDescription.{OfInterface, OfCoclass}
 
+-- The content as contracts see it.
 abbrev pub content_of : Content → ContentDescription
 content_of (Interface members) = OfInterface members.items
 content_of (Coclass entries) = OfCoclass entries.items
 
--- A description only where there is one, and BadIndex only where there is none; want of memory stands in the place of a
--- description alone.
+-- The result of `describe` is right: `Ok` with the description if there is one, `BadIndex` only if there is none,
+-- `Memory` only if there is one.
 abbrev pub Describes : Option DescriptionValue → Result DescriptionValue DescribeError → Type 0
 Describes found (Ok d) = found ≡ Some d
 Describes found (Err BadIndex) = found ≡ None

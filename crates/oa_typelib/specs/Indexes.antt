@@ -1,4 +1,4 @@
--- What a library keeps beside its tree, so that look-ups are quick.
+-- The indexes of a library, which make its look-ups fast.
 use Rattle.std.specs.Prelude.{◌≡◌, ℕ, Bool, false, not, if◌then◌else◌, List, [], Option, Some, None, map, find}
 use Rattle.std.specs.Prelude.{position, slice_get}
 use Rattle.std.specs.List.{filter_map, list_any}
@@ -22,17 +22,17 @@ use Rattle.oa_typelib.specs.Groups.{GroupsValue, keys_with_places, places_in}
 use Rattle.oa_typelib.specs.IndexValues.{MembersValue, IndexValue}
 use Rattle.oa_checks.specs.Libraries.{same, item_guid, folded_names}
 
--- the place of the interface of the default entry in a list of folded names
+-- The place in a list of folded names of the interface that the default entry names.
 abbrev pub default_among : List (List ℕ) → List Entry → Option ℕ
 default_among names entries =
     option_and_then (λ (e : Entry). position (same (folded_name e.interface)) names) (find (λ e. e.is_default) entries)
 
--- the place of a coclass's default interface
+-- The place of a coclass's default interface; None for an interface.
 abbrev pub default_in : List (List ℕ) → Item → Option ℕ
 default_in names (Interface i) = None
 default_in names (Coclass c) = default_among names c.entries
 
--- the declarations by their names, folded, and by their DISPIDs, and their defaults
+-- The declarations by their folded names and by their DISPIDs, and the values of their defaults.
 abbrev pub grouped : List DeclarationValue → MembersValue
 grouped ds =
     record {
@@ -41,28 +41,31 @@ grouped ds =
       defaults = map defaults_of ds;
     }
 
+-- The members of an item; a coclass has none.
 abbrev pub members_in : Item → MembersValue
 members_in (Interface i) = grouped (declarations i)
 members_in (Coclass c) = grouped []
 
--- whether one of a coclass's entries has an item's name, which is given folded
+-- Some entry of the coclass has the name of an item, which is given folded.
 abbrev pub enters : CoclassValue → List ℕ → Bool
 enters c key = list_any (λ (e : Entry). same (folded_name e.interface) key) c.entries
 
--- for each item whether one of a coclass's entries names it
+-- For each item whether an entry of the coclass names it; the empty list for an interface.
 abbrev pub entered_in : List (List ℕ) → Item → List Bool
 entered_in names (Interface i) = []
 entered_in names (Coclass c) = map (enters c) names
 
--- a flag in such lists
+-- The flag at a place of a row; false if there is none.
 abbrev pub flag_of : Option (List Bool) → ℕ → Bool
 flag_of None place = false
 flag_of (Some row) place = unwrap_or (slice_get row place) false
 
+-- The flag at a row and a place; false if there is none.
 abbrev pub flag_at : List (List Bool) → ℕ → ℕ → Bool
 flag_at rows class place = flag_of (slice_get rows class) place
 
--- the members of each item, the interfaces by their names, folded, and which items each coclass names
+-- The index of a tree: the members of each item, the interfaces by their folded names, and the items that each coclass
+-- names.
 abbrev pub index_of : TreeValue → IndexValue
 index_of tree =
     record {
@@ -71,15 +74,15 @@ index_of tree =
       interfaces = keys_with_places same (map (λ (i : InterfaceValue). folded_name i.name) (interfaces_of tree.items));
     }
 
--- one of the two parts of a member's declarations: those that are puts, or those that are not
+-- The kind is a put, if `puts` is true; otherwise it is no put.
 abbrev pub is_put_or_not : Bool → DeclarationKind → Bool
 is_put_or_not puts kind = if puts then is_put kind else not (is_put kind)
 
--- the place of the interface with a folded name, among the interfaces
+-- The place among the interfaces of the interface with a folded name.
 abbrev pub first_in : GroupsValue (List ℕ) → List ℕ → Option ℕ
 first_in groups name = slice_get (places_in (position (same name) groups.keys) groups.places) 0
 
--- an entry, and a coclass, by it
+-- The description of an entry, and of a coclass, by the index of the interfaces.
 abbrev pub entry_in : GroupsValue (List ℕ) → Entry → Option EntryDescription
 entry_in groups e = option_and_then (described_entry e.is_default) (first_in groups (folded_name e.interface))
 
@@ -87,6 +90,8 @@ abbrev pub described_class : GroupsValue (List ℕ) → CoclassValue → Descrip
 described_class groups c =
     record { guid = c.guid; name = c.name; content = OfCoclass (filter_map (entry_in groups) c.entries) }
 
+-- The other parts of a library agree with its tree: the GUIDs of its items, the index, the default interfaces and the
+-- canonical text.
 abbrev pub IsIndexed : TreeValue → List (List ℕ) → IndexValue → List (Option ℕ) → List ℕ → Type 0
 IsIndexed tree guids index defaults text =
     (guids ≡ map item_guid tree.items)

@@ -1,4 +1,4 @@
--- The codes of the library's refusals (MS-ERREF section 2.1).
+-- The codes of replies for the errors of a library's look-ups (MS-ERREF section 2.1).
 use Rattle.oa_model.specs.declared.hresult.HResult.{HResult}
 use Rattle.oa_model.specs.Codes.{disp_e_badindex, disp_e_membernotfound, e_notimpl, e_outofmemory}
 use Rattle.oa_typelib.specs.declared.access.MemberFault.{MemberFault}

@@ -1,4 +1,4 @@
--- What contracts see of a member that is a property.
+-- A property as contracts see it.
 use Rattle.std.specs.Prelude.{ℕ, ℤ, Bool, List}
 use Rattle.oa_model.specs.declared.var_type.ValueType.{ValueType}
 use Rattle.oa_idl.specs.declared.parts.Parameter.{Parameter}

@@ -10,20 +10,21 @@ use Rattle.oa_variant.specs.Variants.{HasZero}
 use Rattle.oa_checks.specs.DeclarationValues.{DeclarationValue}
 use Rattle.oa_checks.specs.Declarations.{declarations}
 
--- some text stands for the tree
+-- The tree is parsed from some text.
 abbrev pub IsOfText : TreeValue → Type 0
 IsOfText tree = (text : List ℕ) × IsTree text tree
 
--- what it declares has a type with a zero (MS-OAUT section 2.2.8: cells of an array have an sfType) or is void, and
--- each parameter has such a type
+-- The declared type is void or has a zero value, and so has the type of each parameter (MS-OAUT section 2.2.8: the
+-- elements of an array have an sfType).
 abbrev pub IsTypedDeclaration : DeclarationValue → Type 0
 IsTypedDeclaration d =
     IfSome d.value_type HasZero × AllByRecursion (λ (p : Parameter). HasZero p.value_type) d.parameters
 
+-- Each declaration of the item is typed, if it is an interface.
 abbrev pub IsTypedItem : Item → Type 0
 IsTypedItem (Interface i) = AllByRecursion IsTypedDeclaration (declarations i)
 IsTypedItem (Coclass c) = Unit {0}
 
--- each declaration of the tree is typed
+-- Each declaration of the tree is typed.
 abbrev pub IsTyped : TreeValue → Type 0
 IsTyped tree = AllByRecursion IsTypedItem tree.items

@@ -1,4 +1,4 @@
-//! What a call asks of a member, and why there is none.
+//! Which form of a member a call uses, and why there may be none.
 ghost use Rattle.std.specs.Prelude.{◌≡◌};
 ghost use Rattle.oa_typelib.specs.Members.{is_method, kind_asked, lets, method_fault};
 
@@ -9,26 +9,26 @@ use thiserror::Error;
 /// The form of a property that a call uses.
 #[derive(Clone, Copy, Debug, PartialEq, Eq)]
 pub enum Kind {
-    /// The property is read.
+    /// The call reads the property.
     Get,
-    /// The property is set.
+    /// The call sets the property.
     Put,
 }
 
-/// How a call names the form that it asks for.
+/// How a call chooses the form of the property.
 #[derive(Clone, Copy, Debug, PartialEq, Eq)]
 pub enum Access {
     /// By the flags of a call of Invoke (MS-OAUT section 3.1.4.4): METHOD 1, PROPERTYGET 2, PROPERTYPUT 4, PROPERTYPUTREF 8.
     Flags(u16),
-    /// The get form, whatever the flags.
+    /// The get form, whatever the flags are.
     Get,
-    /// The put form, whatever the flags.
+    /// The put form, whatever the flags are.
     Put,
 }
 
 impl Access {
-    /// The form of a property that is asked for. With flags: a put where PROPERTYPUT is set, else a get where PROPERTYGET is set, else
-    /// None. Other bits are ignored.
+    /// Returns the form of the property that the call uses. With flags: a put if PROPERTYPUT is set, otherwise a get if PROPERTYGET is set,
+    /// otherwise None. Other bits are ignored.
     pub fn kind(self) -> Option<Kind>
         ensures { result ≡ kind_asked self }
     {
@@ -47,7 +47,7 @@ impl Access {
         }
     }
 
-    /// What is answered where the member is a method: NotImplemented where METHOD is set and PROPERTYPUT is not, else MemberNotFound.
+    /// Returns the error of a call of a method: `NotImplemented` if METHOD is set and PROPERTYPUT is not, otherwise `MemberNotFound`.
     pub(crate) fn of_method(self) -> MemberFault
         ensures { result ≡ method_fault self }
     {
@@ -64,7 +64,7 @@ impl Access {
     }
 }
 
-/// Whether a declaration lets a call use the form.
+/// Returns whether a declaration of this kind has the form.
 pub(crate) fn lets(declared: DeclarationKind, kind: Kind) -> bool
     ensures { result ≡ lets kind declared }
 {
@@ -77,19 +77,20 @@ pub(crate) fn lets(declared: DeclarationKind, kind: Kind) -> bool
     }
 }
 
+/// Returns whether a declaration of this kind is a method.
 pub(crate) fn is_method(declared: DeclarationKind) -> bool
     ensures { result ≡ is_method declared }
 {
     matches!(declared, DeclarationKind::Method)
 }
 
-/// Why a call finds no member to use.
+/// Why a call finds no member.
 #[derive(Clone, Copy, Debug, PartialEq, Eq, Error)]
 pub enum MemberFault {
-    /// The interface has no member with that DISPID, or none with the form that is asked for (DISP_E_MEMBERNOTFOUND).
+    /// The interface has no member with that DISPID, or the member does not have the form that the call uses (DISP_E_MEMBERNOTFOUND).
     #[error("member not found")]
     MemberNotFound,
-    /// A method is called: a library has no bodies of methods (E_NOTIMPL).
+    /// The call is that of a method: a library contains no bodies of methods (E_NOTIMPL).
     #[error("not implemented")]
     NotImplemented,
 }

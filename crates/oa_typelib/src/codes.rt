@@ -1,4 +1,4 @@
-//! The codes of replies with the library's refusals.
+//! The codes of replies for the errors of a library's look-ups.
 ghost use Rattle.std.specs.Prelude.{◌≡◌};
 ghost use Rattle.oa_typelib.specs.MemberCodes.{member_code, describe_code};
 
@@ -6,7 +6,7 @@ use crate::{DescribeError, MemberFault};
 use oa_model::HResult;
 
 impl MemberFault {
-    /// The code of a reply with this refusal (MS-ERREF section 2.1).
+    /// Returns the code of the reply (MS-ERREF section 2.1): DISP_E_MEMBERNOTFOUND or E_NOTIMPL.
     pub fn code(self) -> HResult
         ensures { result ≡ member_code self }
     {
@@ -18,7 +18,7 @@ impl MemberFault {
 }
 
 impl DescribeError {
-    /// The code of a reply with this refusal (MS-ERREF section 2.1).
+    /// Returns the code of the reply (MS-ERREF section 2.1): DISP_E_BADINDEX or E_OUTOFMEMORY.
     pub fn code(self) -> HResult
         ensures { result ≡ describe_code self }
     {

@@ -1,4 +1,4 @@
-//! The places of the default interfaces of coclasses.
+//! The default interfaces of coclasses, by their places among the items.
 ghost use Rattle.std.specs.Prelude.{◌≡◌, IfOk, map, find, option_copied};
 ghost use Rattle.oa_typelib.specs.Indexes.{default_among, default_in};
 
@@ -6,13 +6,14 @@ use oa_checks::{FoldedNames, folded};
 use oa_idl::{Entry, Item};
 use std::alloc::{AllocError, Global};
 
+/// Returns the entry that is marked as the default.
 fn default_entry(entries: &[Entry]) -> Option<&Entry>
     ensures { option_copied result ≡ find (λ e. e.is_default) entries.now }
 {
     entries.iter().find(|e| e.is_default)
 }
 
-/// The place of the interface that the default entry names.
+/// Returns the place of the interface that the default entry names.
 fn entry_place(
     alloc: Global,
     names: &FoldedNames,
@@ -27,6 +28,7 @@ fn entry_place(
     Ok(names.place(key.as_slice()))
 }
 
+/// Returns the place of an item's default interface; None for an interface.
 fn item_default(
     alloc: Global,
     names: &FoldedNames,
@@ -40,7 +42,7 @@ fn item_default(
     }
 }
 
-/// The place of each coclass's default interface.
+/// Returns for each item the place of its default interface; None for an interface. Err: an allocation fails.
 pub(crate) fn find_defaults(
     alloc: Global,
     names: &FoldedNames,

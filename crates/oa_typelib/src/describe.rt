@@ -1,4 +1,4 @@
-//! Descriptions of interfaces and coclasses.
+//! Makes the descriptions of interfaces and coclasses.
 ghost use Rattle.std.specs.Prelude.{◌≡◌, ◌++◌, if◌then◌else◌, Some, None, IfOk, OnOk, map, length, option_copied, slice_get};
 ghost use Rattle.std.specs.List.{filter, filter_map};
 ghost use Rattle.std.specs.Option.{option_and_then};
@@ -20,14 +20,14 @@ use std::alloc::{AllocError, Global};
 use std::marker::Model;
 use uuid::Uuid;
 
-/// What type information says of an interface or a coclass (MS-OAUT section 3.7.4: ITypeInfo).
+/// The type information of an interface or a coclass (MS-OAUT section 3.7.4: ITypeInfo).
 #[derive(Drop)]
 pub struct Description<'a> {
-    /// Its GUID.
+    /// The GUID.
     pub guid: Uuid,
-    /// Its name as it is written.
+    /// The name, spelled as in the text.
     pub name: &'a Name,
-    /// Its members or its entries.
+    /// The members of an interface, or the entries of a coclass.
     pub content: Content<'a>,
 }
 
@@ -40,6 +40,7 @@ impl<'a> Model for Description<'a> {
     ghost view = { λ d. record { guid = d.guid; name = d.name.now; content = content_of d.content } };
 }
 
+/// Describes a parameter whose default has the given value.
 fn parameter<'a>(parameter: &'a Parameter, default: &'a Option<Scalar>) -> DescribedParameter<'a>
     requires { default.now ≡ default_value parameter.now }
     ensures { result ≡ parameter_description parameter.now }
@@ -53,6 +54,7 @@ fn parameter<'a>(parameter: &'a Parameter, default: &'a Option<Scalar>) -> Descr
     }
 }
 
+/// Describes parameters.
 fn parameters<'a>(
     alloc: Global,
     parameters: &'a [Parameter],
@@ -68,6 +70,7 @@ fn parameters<'a>(
     Ok(all)
 }
 
+/// Describes a declaration.
 fn member<'a>(alloc: Global, form: &Form<'a>) -> Result<DescribedMember<'a>, AllocError>
     ensures { IfOk result (λ m. m ≡ member_description form.now) }
 {
@@ -81,13 +84,14 @@ fn member<'a>(alloc: Global, form: &Form<'a>) -> Result<DescribedMember<'a>, All
     })
 }
 
+/// Returns whether the kind is a put, if `puts` is true; otherwise whether it is no put.
 fn is_put_or_not(kind: DeclarationKind, puts: bool) -> bool
     ensures { result ≡ is_put_or_not puts kind }
 {
     if puts { kind.is_put() } else { !kind.is_put() }
 }
 
-/// The declaration at a place where it is a put, or where it is not.
+/// Returns the declaration at `place` if it is a put and `puts` is true, or if it is no put and `puts` is false; otherwise None.
 pub fn form_at<'a>(interface: &Dispinterface<'a>, place: usize, puts: bool) -> Option<Form<'a>>
     ensures { result ≡ option_and_then (λ d. if is_put_or_not puts d.kind then Some d else None)
         (slice_get (declarations interface.now) place) }
@@ -100,7 +104,7 @@ pub fn form_at<'a>(interface: &Dispinterface<'a>, place: usize, puts: bool) -> O
     }
 }
 
-/// Adds the declarations at some places that are puts, or that are not.
+/// Appends the declarations at some places that are puts, if `puts` is true, or that are no puts.
 fn add_forms<'a>(
     alloc: Global,
     members: &mut Vec<DescribedMember<'a>>,
@@ -119,7 +123,7 @@ fn add_forms<'a>(
     Ok(())
 }
 
-/// Adds the declarations of a member, a get before its put.
+/// Appends the declarations of a member, a get before its put.
 fn add_member<'a>(
     alloc: Global,
     members: &mut Vec<DescribedMember<'a>>,
@@ -133,6 +137,7 @@ fn add_member<'a>(
     add_forms(alloc, members, interface, places, true)
 }
 
+/// Describes the members of an interface, in the order in which their names first appear.
 fn members<'a>(
     alloc: Global,
     interface: &Dispinterface<'a>,
@@ -147,7 +152,7 @@ fn members<'a>(
     Ok(members)
 }
 
-/// The description of an interface.
+/// Describes an interface. Err: an allocation fails.
 pub(crate) fn interface_description<'a>(
     alloc: Global,
     interface: &Dispinterface<'a>,
@@ -162,6 +167,7 @@ pub(crate) fn interface_description<'a>(
     })
 }
 
+/// Makes the description of an entry; None if the index does not fit a u32.
 fn entry_at(is_default: bool, interface: usize) -> Option<DescribedEntry>
     ensures { result ≡ described_entry is_default interface }
 {
@@ -172,6 +178,7 @@ fn entry_at(is_default: bool, interface: usize) -> Option<DescribedEntry>
     })
 }
 
+/// Describes an entry; None if it names no interface of the library.
 fn entry(alloc: Global, index: &Index, entry: &Entry) -> Result<Option<DescribedEntry>, AllocError>
     ensures { IfOk result (λ e. e ≡ entry_in index.now.interfaces entry.now) }
 {
@@ -182,7 +189,7 @@ fn entry(alloc: Global, index: &Index, entry: &Entry) -> Result<Option<Described
     Ok(entry_at(entry.is_default, interface))
 }
 
-/// The entries of a coclass, without those that name no interface.
+/// Describes the entries of a coclass, without those that name no interface.
 fn entries(
     alloc: Global,
     index: &Index,
@@ -199,7 +206,7 @@ fn entries(
     Ok(all)
 }
 
-/// The description of a coclass.
+/// Describes a coclass. Err: an allocation fails.
 pub(crate) fn class_description<'a>(
     alloc: Global,
     index: &Index,
@@ -214,7 +221,7 @@ pub(crate) fn class_description<'a>(
     })
 }
 
-/// The place of an interface among the items, by its index among the interfaces.
+/// Returns the place among the items of the interface with this index among the interfaces.
 pub(crate) fn nth_interface(items: &[Item], index: usize) -> Option<usize>
     ensures { option_and_then (λ place. option_and_then as_interface (slice_get items.now place)) result
         ≡ slice_get (interfaces_of items.now) index }
@@ -231,7 +238,7 @@ pub(crate) fn nth_interface(items: &[Item], index: usize) -> Option<usize>
     None
 }
 
-/// How many items are interfaces.
+/// Returns the number of items that are interfaces.
 pub(crate) fn count_interfaces(items: &[Item]) -> usize
     ensures { result ≡ length (interfaces_of items.now) }
 {
@@ -245,7 +252,7 @@ pub(crate) fn count_interfaces(items: &[Item]) -> usize
     count
 }
 
-/// A coclass by its index among the coclasses.
+/// Returns the coclass with this index among the coclasses.
 pub(crate) fn nth_class(items: &[Item], index: usize) -> Option<&Coclass>
     ensures { option_copied result ≡ slice_get (classes_of items.now) index }
 {

@@ -1,4 +1,4 @@
-//! Descriptions of interfaces and coclasses: their parts.
+//! The parts of the descriptions of interfaces and coclasses.
 ghost use Rattle.std.specs.Prelude.{◌≡◌};
 ghost use Rattle.oa_typelib.specs.declared.described.DescribeError.TheVariants.{Memory};
 
@@ -10,18 +10,18 @@ use std::alloc::AllocError;
 use std::marker::Model;
 use thiserror::Error;
 
-/// A parameter of a member.
+/// The description of a parameter of a member.
 #[derive(Drop)]
 pub struct DescribedParameter<'a> {
-    /// Its declared type.
+    /// The declared type.
     pub value_type: ValueType,
-    /// Whether `in` is written (PARAMFLAG_FIN, MS-OAUT section 2.2.15).
+    /// Whether it is declared `in` (PARAMFLAG_FIN, MS-OAUT section 2.2.15).
     pub is_in: bool,
-    /// Whether it may be left out (PARAMFLAG_FOPT): `optional` is written, or it has a default.
+    /// Whether a call may omit it (PARAMFLAG_FOPT): it is declared `optional`, or it has a default.
     pub is_optional: bool,
-    /// Its name as it is written.
+    /// The name, spelled as in the text.
     pub name: &'a Name,
-    /// The value of its default (PARAMFLAG_FHASDEFAULT), of its declared type; for VARIANT an I4, a text or a truth value.
+    /// The value of the default (PARAMFLAG_FHASDEFAULT), converted to the declared type; for VARIANT an I4, a BSTR or a BOOL.
     pub default: Option<&'a Scalar>,
 }
 
@@ -40,18 +40,18 @@ impl<'a> Model for DescribedParameter<'a> {
     } };
 }
 
-/// A declaration of an interface: a property of `properties:`, or a method, a get or a put of `methods:`.
+/// The description of a declaration: a property of `properties:`, or a method, a get or a put of `methods:`.
 #[derive(Drop)]
 pub struct DescribedMember<'a> {
-    /// Its DISPID.
+    /// The DISPID.
     pub id: i32,
-    /// What it declares.
+    /// Whether it is a property, a method, a get or a put.
     pub kind: DeclarationKind,
     /// The declared type; None is void.
     pub value_type: Option<ValueType>,
-    /// Its name as it is written there.
+    /// The name, spelled as in this declaration.
     pub name: &'a Name,
-    /// In the text's order, with the new value of a put as the last.
+    /// The parameters in the text's order. The last one of a put is the new value.
     pub parameters: Vec<DescribedParameter<'a>>,
 }
 
@@ -69,7 +69,7 @@ impl<'a> Model for DescribedMember<'a> {
     } };
 }
 
-/// An entry of a coclass.
+/// The description of an entry of a coclass.
 #[derive(Drop)]
 pub struct DescribedEntry {
     /// Whether it is the coclass's default interface.
@@ -86,10 +86,10 @@ impl Model for DescribedEntry {
     ghost view = { λ e. record { is_default = e.is_default; interface = e.interface } };
 }
 
-/// What is in an interface or a coclass.
+/// The content of a description.
 #[derive(Drop)]
 pub enum Content<'a> {
-    /// The members of an interface in the order in which their names first stand, a get before its put.
+    /// The members of an interface, in the order in which their names first appear, a get before its put.
     Interface(Vec<DescribedMember<'a>>),
     /// The entries of a coclass in the text's order.
     Coclass(Vec<DescribedEntry>),
@@ -98,10 +98,10 @@ pub enum Content<'a> {
 /// Why there is no description.
 #[derive(Clone, Copy, Debug, PartialEq, Eq, Error)]
 pub enum DescribeError {
-    /// The library has no interface or coclass at that index (DISP_E_BADINDEX).
+    /// The library has no interface or coclass with that index (DISP_E_BADINDEX).
     #[error("bad index")]
     BadIndex,
-    /// Memory was refused.
+    /// An allocation fails (E_OUTOFMEMORY).
     #[error("out of memory")]
     Memory,
 }

@@ -1,4 +1,4 @@
-//! An interface of a library, and what a call asks of it.
+//! An interface of a library, and look-ups of its members.
 ghost use Rattle.std.specs.Prelude.{◌≡◌, true, IfOk, IfSome, map, slice_get};
 ghost use Rattle.std.specs.List.{filter, filter_map};
 ghost use Rattle.std.specs.Option.{option_map};
@@ -20,7 +20,7 @@ use oa_idl::Interface;
 use std::alloc::{AllocError, Global};
 use std::marker::Model;
 
-/// An interface of a library with its members, so that no call looks its GUID up again.
+/// An interface of a library with the index of its members. A caller that keeps it does not search for the GUID again.
 #[derive(Drop)]
 pub struct Dispinterface<'a> {
     alloc: Global,
@@ -43,6 +43,7 @@ impl<'a> Model for Dispinterface<'a> {
 }
 
 impl<'a> Dispinterface<'a> {
+    /// Makes the handle of an interface from its index.
     pub(crate) fn of(
         alloc: Global,
         interface: &'a Interface,
@@ -59,21 +60,21 @@ impl<'a> Dispinterface<'a> {
         }
     }
 
-    /// What the tree says of it.
+    /// Returns the interface in the tree.
     pub fn interface(&self) -> &'a Interface
         ensures { result.now ≡ self.now }
     {
         self.interface
     }
 
-    /// What is true of each interface of a library: a call can be bound to each of its properties.
+    /// Proves a fact and executes nothing: a call can be bound to each property of the interface.
     fn is_sound(&self)
         ensures { AreSound (declarations self.now) }
     {
         let _interface = self.interface;
     }
 
-    /// The declaration at a place.
+    /// Returns the declaration at a place: first the properties in the text's order, then the methods. None if there are fewer.
     pub fn form(&self, place: usize) -> Option<Form<'a>>
         ensures { result ≡ slice_get (declarations self.now) place }
     {
@@ -84,7 +85,7 @@ impl<'a> Dispinterface<'a> {
         Some(Form::of(declaration, defaults.as_slice()))
     }
 
-    /// What the declaration at a place declares.
+    /// Returns the kind of the declaration at a place.
     pub(crate) fn kind_at(&self, place: usize) -> Option<DeclarationKind>
         ensures { result ≡ option_map (λ d. d.kind) (slice_get (declarations self.now) place) }
     {
@@ -92,7 +93,7 @@ impl<'a> Dispinterface<'a> {
         Some(declaration.kind)
     }
 
-    /// The same interface again.
+    /// Copies the handle.
     fn again(&self) -> Dispinterface<'a>
         ensures { result ≡ self.now }
     {
@@ -103,7 +104,7 @@ impl<'a> Dispinterface<'a> {
         }
     }
 
-    /// The declarations with a DISPID.
+    /// Returns the declarations with a DISPID.
     pub(crate) fn forms_with(&self, id: i32) -> Forms<'a>
         ensures { result ≡ forms_with id self.now }
     {
@@ -111,7 +112,7 @@ impl<'a> Dispinterface<'a> {
         Forms::at(self.again(), members.by_id.places(&id))
     }
 
-    /// The places of the declarations with a DISPID.
+    /// Returns the places of the declarations with a DISPID.
     pub fn places_with(&self, id: i32) -> &'a [usize]
         ensures { filter_map (slice_get (declarations self.now)) result.now ≡ forms_with id self.now }
     {
@@ -119,7 +120,7 @@ impl<'a> Dispinterface<'a> {
         members.by_id.places_of(id)
     }
 
-    /// The declarations with a name, which is folded.
+    /// Returns the declarations with a name, which is given folded.
     pub(crate) fn forms_named(&self, name: &[u16]) -> Forms<'a>
         ensures { result ≡ filter (λ d. same name.now (folded_name d.name)) (declarations self.now) }
     {
@@ -127,7 +128,7 @@ impl<'a> Dispinterface<'a> {
         Forms::at(self.again(), members.by_name.places(name))
     }
 
-    /// The places of the declarations of each member, in the order in which their names first stand.
+    /// Returns the places of the declarations of each member, in the order in which the members' names first appear.
     pub fn groups(&self) -> &'a [Vec<usize>]
         ensures { map (λ ps. ps.items) result.now ≡ (grouped (declarations self.now)).by_name.places }
     {
@@ -135,10 +136,14 @@ impl<'a> Dispinterface<'a> {
         members.by_name.groups()
     }
 
-    /// The member with a DISPID, and the form of it that a call asks for. MemberNotFound where there is no such member, where the flags ask
-    /// for no form, and where the member has not the form, as a put of a readonly property. A method is NotImplemented where METHOD is set
-    /// and PROPERTYPUT is not, and else MemberNotFound. A call can be bound to a member that is found: it has at most 16 parameters, all
-    /// scalars, whose defaults are values of their types, and its type is a scalar type or that of an array which there is.
+    /// Finds the member with a DISPID and the form of it that a call uses. A call can be bound to this member: it has at most 16
+    /// parameters, all of them scalars, each default is a value of its parameter's type, and the type of the member is a scalar type or an
+    /// array type that the profile has.
+    ///
+    /// Errors:
+    /// - `MemberNotFound`: no member has the DISPID, the flags select no form, or the member does not have the form, such as a put of a
+    ///   readonly property. A call of a method also fails so, unless the next line applies.
+    /// - `NotImplemented`: the member is a method, METHOD is set and PROPERTYPUT is not.
     pub fn member(&self, id: i32, access: Access) -> Result<(Member<'a>, Kind), MemberFault>
         ensures found { result ≡ member_in self.now id access }
         ensures bindable { IfOk result (λ found. IsBindable found.0) }
@@ -148,7 +153,7 @@ impl<'a> Dispinterface<'a> {
         find(&self.forms_with(id), access)
     }
 
-    /// The property with a DISPID, whatever form of it a call would ask for. None where there is no such member, and where it is a method.
+    /// Returns the property with a DISPID, whatever forms it has. None if no member has the DISPID, or if it is a method.
     pub fn property(&self, id: i32) -> Option<Member<'a>>
         ensures found { result ≡ property_in self.now id }
         ensures bindable { IfSome result IsBindable }
@@ -157,10 +162,10 @@ impl<'a> Dispinterface<'a> {
         property(&self.forms_with(id))
     }
 
-    /// The DISPIDs of names, in UTF-16 units (MS-OAUT section 3.1.4.3): the first name is that of a member, the others are names of its
-    /// parameters, a put's new value not among them. The DISPID of a parameter is its place from 0. A name is equal to a declared one where
-    /// both are equal once A to Z are folded; no other characters are. A name that is not known has -1; where the member is not known, none
-    /// is. Err where memory is refused.
+    /// Returns the DISPIDs of names, which are given in UTF-16 units (MS-OAUT section 3.1.4.3). The first name is that of a member. The
+    /// others are names of its parameters, except a put's new value; the DISPID of a parameter is its position, counted from 0. Names are
+    /// compared without regard to the case of A to Z; all other characters must be equal. An unknown name has the DISPID -1. If the member
+    /// is unknown, all names are unknown. Err: an allocation fails.
     pub fn dispid(&self, names: &[Vec<u16>]) -> Result<DispIds, AllocError>
         ensures { IfOk result (λ found. found ≡ names_told self.now (map (λ n. n.items) names.now)) }
     {

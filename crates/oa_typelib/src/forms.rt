@@ -13,7 +13,7 @@ use oa_idl::Interface;
 use oa_variant::Scalar;
 use std::marker::Model;
 
-/// The declaration of an interface at a place.
+/// Returns the declaration of an interface at a place: first the properties in the text's order, then the methods.
 pub(crate) fn declaration_at(interface: &Interface, place: usize) -> Option<Declaration<'_>>
     ensures { result ≡ slice_get (declarations interface.now) place }
 {
@@ -47,6 +47,7 @@ impl<'a> Model for Form<'a> {
 }
 
 impl<'a> Form<'a> {
+    /// Makes a form from a declaration and the values of its parameters' defaults.
     pub(crate) fn of(declaration: Declaration<'a>, defaults: &'a [Option<Scalar>]) -> Form<'a>
         requires { defaults.now ≡ defaults_of declaration }
         ensures { result ≡ declaration.entry }
@@ -57,14 +58,14 @@ impl<'a> Form<'a> {
         }
     }
 
-    /// The values of its parameters' defaults.
+    /// Returns the values of the parameters' defaults.
     pub(crate) fn defaults(&self) -> &'a [Option<Scalar>]
         ensures { result.now ≡ defaults_of self.now }
     {
         self.defaults
     }
 
-    /// The same without the new value of a put.
+    /// Returns the values of the parameters' defaults, without the new value of a put.
     pub(crate) fn own_defaults(&self) -> &'a [Option<Scalar>]
         ensures { result.now ≡ map default_value (own_parameters self.now) }
     {
@@ -72,6 +73,7 @@ impl<'a> Form<'a> {
     }
 }
 
+/// Returns the first declaration at these places.
 fn first_at<'a>(interface: &Dispinterface<'a>, places: &[usize]) -> Option<Form<'a>>
     ensures { result ≡ slice_get (filter_map (slice_get (declarations interface.now)) places.now) 0 }
 {
@@ -82,6 +84,7 @@ fn first_at<'a>(interface: &Dispinterface<'a>, places: &[usize]) -> Option<Form<
     }
 }
 
+/// Returns the first declaration at these places that has the form `kind`.
 fn form_at<'a>(interface: &Dispinterface<'a>, places: &[usize], kind: Kind) -> Option<Form<'a>>
     ensures { result ≡ form_for kind (filter_map (slice_get (declarations interface.now)) places.now) }
 {
@@ -96,7 +99,7 @@ fn form_at<'a>(interface: &Dispinterface<'a>, places: &[usize], kind: Kind) -> O
     }
 }
 
-/// Whether some declaration lets a call read a value, or set it. Looks at no more of a declaration than its kind.
+/// Returns whether some declaration at these places has the form `kind`. Reads only the kinds of the declarations.
 fn any_lets(interface: &Dispinterface<'_>, places: &[usize], kind: Kind) -> bool
     ensures { result ≡ is_some (form_for kind (filter_map (slice_get (declarations interface.now)) places.now)) }
 {
@@ -109,7 +112,7 @@ fn any_lets(interface: &Dispinterface<'_>, places: &[usize], kind: Kind) -> bool
     }
 }
 
-/// Declarations of an interface.
+/// Some declarations of an interface, by their places.
 #[derive(Drop)]
 pub(crate) struct Forms<'a> {
     interface: Dispinterface<'a>,
@@ -128,27 +131,28 @@ impl<'a> Model for Forms<'a> {
 }
 
 impl<'a> Forms<'a> {
+    /// Makes the list of the declarations at these places.
     pub(crate) fn at(interface: Dispinterface<'a>, places: &'a [usize]) -> Forms<'a>
         ensures { result ≡ filter_map (slice_get (declarations interface.entry)) places.now }
     {
         Forms { interface, places }
     }
 
-    /// The first one that lets a call read a value, or set it.
+    /// Returns the first declaration that has the form `kind`.
     pub(crate) fn form_for(&self, kind: Kind) -> Option<Form<'a>>
         ensures { result ≡ form_for kind self.now }
     {
         form_at(&self.interface, self.places, kind)
     }
 
-    /// Whether there is such a one.
+    /// Returns whether some declaration has the form `kind`.
     pub(crate) fn any_lets(&self, kind: Kind) -> bool
         ensures { result ≡ is_some (form_for kind self.now) }
     {
         any_lets(&self.interface, self.places, kind)
     }
 
-    /// The one that speaks for the member.
+    /// Returns the declaration whose name and parameters are those of the member: the first that can be read, otherwise the first.
     pub(crate) fn main(&self) -> Option<Form<'a>>
         ensures { result ≡ main_form self.now }
     {

@@ -1,4 +1,4 @@
-//! The places at which a list has each of its keys: names, folded, or DISPIDs.
+//! Groups the places of a list by their keys, which are folded names or DISPIDs.
 ghost use Rattle.std.specs.Prelude.{◌≡◌, [], IfOk, OnOk, map, position, slice_get};
 ghost use Rattle.std.specs.Cmp.{partial_equiv_from_equiv};
 ghost use Rattle.std.specs.Cmp.Lexicographic.{nat_list_eq_equiv};
@@ -69,12 +69,12 @@ impl Equivalent<FoldedName> for &[u16] {
     }
 }
 
-/// Keys, in the order in which they first stand in a list, each with the places at which it stands there.
+/// The keys of a list in the order in which they first appear, each with the places at which it appears.
 pub(crate) struct Groups<K: Eq + Hash> {
     groups: IndexMap<K, Vec<usize>>,
 }
 
-// Its own, so that a function that holds some lets go of them in one step.
+// An implementation by hand: a function that owns the groups drops them in one step.
 impl<K: Eq + Hash + Drop> Drop for Groups<K> {
     fn drop(self) {
         let Groups { groups: _groups } = self;
@@ -92,6 +92,7 @@ impl<K: Eq + Hash> Model for Groups<K> {
 }
 
 impl<K: Eq + Hash> Groups<K> {
+    /// Makes an empty collection.
     fn new(alloc: Global) -> Groups<K>
         ensures { result ≡ keys_with_places K.eq [] }
     {
@@ -100,7 +101,7 @@ impl<K: Eq + Hash> Groups<K> {
         }
     }
 
-    /// Adds a place to the group of a key, or to a new one behind all.
+    /// Appends a place to the group of a key, or makes a new last group for it.
     fn add(&mut self, alloc: Global, key: K, place: usize) -> Result<(), AllocError>
     where
         K: Drop,
@@ -118,7 +119,7 @@ impl<K: Eq + Hash> Groups<K> {
         Ok(())
     }
 
-    /// The places of a key.
+    /// Returns the places of a key, or none.
     pub(crate) fn places<Q: Equivalent<K>>(&self, key: Q) -> &[usize]
         ensures { result.now ≡ places_in (position (Q.equivalent key) self.now.keys) self.now.places }
     {
@@ -128,14 +129,14 @@ impl<K: Eq + Hash> Groups<K> {
         }
     }
 
-    /// The first place of a key.
+    /// Returns the first place of a key.
     pub(crate) fn first<Q: Equivalent<K>>(&self, key: Q) -> Option<usize>
         ensures { result ≡ slice_get (places_in (position (Q.equivalent key) self.now.keys) self.now.places) 0 }
     {
         self.places(key).first().copied()
     }
 
-    /// The places of each key, in the order in which the keys first stand.
+    /// Returns the places of each key, in the order in which the keys first appear.
     pub(crate) fn groups(&self) -> &[Vec<usize>]
         ensures { map (λ ps. ps.items) result.now ≡ self.now.places }
     {
@@ -144,7 +145,8 @@ impl<K: Eq + Hash> Groups<K> {
 }
 
 impl Groups<i32> {
-    /// The places of a DISPID. Where those of an interface rise from 1, it stands at the entry before its own number, and is not hashed.
+    /// Returns the places of a DISPID. If the DISPIDs of an interface are 1, 2, 3 and so on, the group of `id` has the index `id - 1` and
+    /// no hash is computed.
     pub(crate) fn places_of(&self, id: i32) -> &[usize]
         ensures { result.now ≡ places_in (position (int_eq id) self.now.keys) self.now.places }
     {
@@ -158,7 +160,7 @@ impl Groups<i32> {
     }
 }
 
-/// Names, folded, with their places.
+/// Groups the places of names by the folded name. Err: an allocation fails.
 pub(crate) fn places_by_name(
     alloc: Global,
     names: &[&Name],
@@ -173,7 +175,7 @@ pub(crate) fn places_by_name(
     Ok(groups)
 }
 
-/// The DISPIDs of declarations with their places.
+/// Groups the places of declarations by their DISPID. Err: an allocation fails.
 pub(crate) fn places_by_id(
     alloc: Global,
     declarations: &[Declaration],

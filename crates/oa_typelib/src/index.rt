@@ -1,4 +1,4 @@
-//! What a library keeps of its members and interfaces.
+//! The index of a library's members and interfaces.
 ghost use Rattle.std.specs.Prelude.{◌≡◌, IfOk, map, slice_get, is_some, option_copied};
 ghost use Rattle.oa_model.specs.Folding.{folded_name};
 ghost use Rattle.oa_checks.specs.Libraries.{folded_names, same};
@@ -13,6 +13,7 @@ use oa_idl::{Coclass, Item, Name, Tree};
 use std::alloc::{AllocError, Global};
 use std::marker::Model;
 
+/// Makes the members of each item.
 fn all_members(alloc: Global, items: &[Item]) -> Result<Vec<Members>, AllocError>
     ensures { IfOk result (λ v. v.items ≡ map members_in items.now) }
 {
@@ -23,6 +24,7 @@ fn all_members(alloc: Global, items: &[Item]) -> Result<Vec<Members>, AllocError
     Ok(members)
 }
 
+/// Returns the names of the interfaces.
 fn interface_names(alloc: Global, items: &[Item]) -> Result<Vec<&Name>, AllocError>
     ensures { IfOk result (λ v. map (λ n. n.now) v.items ≡ map (λ i. i.name) (interfaces_of items.now)) }
 {
@@ -36,7 +38,7 @@ fn interface_names(alloc: Global, items: &[Item]) -> Result<Vec<&Name>, AllocErr
     Ok(names)
 }
 
-/// The names of items, folded.
+/// Returns the folded name of each item.
 fn item_keys(alloc: Global, items: &[Item]) -> Result<Vec<Vec<u16>>, AllocError>
     ensures { IfOk result (λ v. map (λ k. k.items) v.items ≡ folded_names items.now) }
 {
@@ -47,7 +49,7 @@ fn item_keys(alloc: Global, items: &[Item]) -> Result<Vec<Vec<u16>>, AllocError>
     Ok(keys)
 }
 
-/// The places of interfaces among the interfaces by their names, folded.
+/// Groups the places among the interfaces by the folded name.
 fn by_interface(alloc: Global, items: &[Item]) -> Result<Groups<FoldedName>, AllocError>
     ensures { IfOk result (λ g. g ≡ keys_with_places same (map (λ i. folded_name i.name) (interfaces_of items.now))) }
 {
@@ -55,7 +57,7 @@ fn by_interface(alloc: Global, items: &[Item]) -> Result<Groups<FoldedName>, All
     places_by_name(alloc, names.as_slice())
 }
 
-/// For each folded name whether it has a group.
+/// Returns for each folded name whether it has a group.
 fn flags_of(
     alloc: Global,
     groups: &Groups<FoldedName>,
@@ -70,7 +72,7 @@ fn flags_of(
     Ok(flags)
 }
 
-/// For each folded name whether one of a coclass's entries has it.
+/// Returns for each folded name whether an entry of the coclass has it.
 fn entered_by(alloc: Global, class: &Coclass, keys: &[Vec<u16>]) -> Result<Vec<bool>, AllocError>
     ensures { IfOk result (λ v. v.items ≡ map (enters class.now) (map (λ k. k.items) keys.now)) }
 {
@@ -79,6 +81,7 @@ fn entered_by(alloc: Global, class: &Coclass, keys: &[Vec<u16>]) -> Result<Vec<b
     flags_of(alloc, &entries, keys)
 }
 
+/// As `entered_by` for a coclass; nothing for an interface.
 fn entered_in(alloc: Global, item: &Item, keys: &[Vec<u16>]) -> Result<Vec<bool>, AllocError>
     ensures { IfOk result (λ v. v.items ≡ entered_in (map (λ k. k.items) keys.now) item.now) }
 {
@@ -88,7 +91,7 @@ fn entered_in(alloc: Global, item: &Item, keys: &[Vec<u16>]) -> Result<Vec<bool>
     }
 }
 
-/// For each coclass whether its entries name an item, by the item's place.
+/// Returns for each coclass and each item whether an entry of the coclass names the item. The row of an interface is empty.
 fn entered_rows(alloc: Global, items: &[Item]) -> Result<Vec<Vec<bool>>, AllocError>
     ensures { IfOk result (λ v. map (λ row. row.items) v.items ≡ map (entered_in (folded_names items.now)) items.now) }
 {
@@ -100,14 +103,14 @@ fn entered_rows(alloc: Global, items: &[Item]) -> Result<Vec<Vec<bool>>, AllocEr
     Ok(rows)
 }
 
-/// What a library keeps of its members and interfaces.
+/// The index of a library's members and interfaces.
 #[derive(Drop)]
 pub(crate) struct Index {
     /// The members of each item.
     members: Vec<Members>,
-    /// The interfaces by their names, folded.
+    /// The places of the interfaces among the interfaces, by their folded names.
     interfaces: Groups<FoldedName>,
-    /// For each coclass whether its entries name an item, by the item's place.
+    /// For each coclass and each item whether an entry of the coclass names the item, by their places.
     entered: Vec<Vec<bool>>,
 }
 
@@ -121,6 +124,7 @@ impl Model for Index {
 }
 
 impl Index {
+    /// Makes the index of a tree. Err: an allocation fails.
     pub(crate) fn of(alloc: Global, tree: &Tree) -> Result<Index, AllocError>
         ensures { IfOk result (λ x. x ≡ index_of tree.now) }
     {
@@ -132,21 +136,21 @@ impl Index {
         })
     }
 
-    /// The members of the item at a place.
+    /// Returns the members of the item at a place.
     pub(crate) fn members(&self, place: usize) -> Option<&Members>
         ensures { option_copied result ≡ slice_get self.now.members place }
     {
         at(self.members.as_slice(), place)
     }
 
-    /// The place of the interface with a folded name, among the interfaces.
+    /// Returns the place among the interfaces of the interface with a folded name.
     pub(crate) fn interface(&self, name: &[u16]) -> Option<usize>
         ensures { result ≡ first_in self.now.interfaces name.now }
     {
         self.interfaces.first(name)
     }
 
-    /// Whether an entry of the coclass at a place names the item at a place.
+    /// Returns whether an entry of the coclass at place `class` names the item at `place`.
     pub(crate) fn enters(&self, class: usize, place: usize) -> bool
         ensures { result ≡ flag_at self.now.entered class place }
     {

@@ -37,21 +37,21 @@ use std::alloc::Global;
 use std::marker::Model;
 use uuid::Uuid;
 
-/// A type library: a tree that breaks none of the checks, with one default interface marked in each coclass.
+/// A type library: a tree that passes all checks, with one default interface marked in each coclass.
 pub struct Library {
     alloc: Global,
     tree: Tree,
-    /// Its canonical text.
+    /// The canonical text of the tree.
     text: Vec<u8>,
     /// The GUIDs of the tree's items.
     guids: Guids,
     /// The members of the interfaces.
     index: Index,
-    /// The place of each coclass's default interface.
+    /// For each item the place of its default interface; None for an interface.
     defaults: Vec<Option<usize>>,
 }
 
-// Its own, so that a function that holds a library lets go of it in one step.
+// An implementation by hand: a function that owns a library drops it in one step.
 impl Drop for Library {
     fn drop(self) {
         let Library {
@@ -80,9 +80,10 @@ impl Model for Library {
         × IsTyped l.tree × IsTree l.text.items l.tree × IsChecked l.tree };
 }
 
-/// The library that a tree stands for, which is that of some text, as one from `parse` is. An Err names the first breach of the checks:
-/// the kinds follow in the order of `CheckError`'s variants over the whole tree, and within a kind the breach counts whose later item
-/// stands first in the text. Memory may come in place of any answer.
+/// Checks a tree that was parsed from some text, as `parse` returns it, and makes the library.
+///
+/// Err contains the first error. The kinds of errors are checked in the order of the variants of `CheckError`, each over the whole tree.
+/// Within a kind, the error whose later item comes first in the text is the first. `Memory` may occur in place of any result.
 pub fn check(alloc: Global, tree: Tree) -> Result<Library, CheckError>
     requires { IsOfText tree }
     ensures refuses { RefusesBreach (first_breach tree) (λ library. library ≡ marked tree) result }
@@ -92,7 +93,7 @@ pub fn check(alloc: Global, tree: Tree) -> Result<Library, CheckError>
     library_of(alloc, tree, &names, guids)
 }
 
-/// The library of a tree that breaks none of the checks but perhaps the last, that of its text's length.
+/// Makes the library of a tree that passes all checks except perhaps the last, the length of its canonical text.
 fn library_of(
     alloc: Global,
     tree: Tree,
@@ -122,7 +123,7 @@ fn library_of(
     })
 }
 
-/// What a library keeps beside its tree and the GUIDs.
+/// The parts of a library beside its tree and the GUIDs.
 #[derive(Drop)]
 struct Kept {
     text: Vec<u8>,
@@ -130,7 +131,7 @@ struct Kept {
     defaults: Vec<Option<usize>>,
 }
 
-/// What a library keeps of a tree whose defaults are marked, where its canonical text is short enough.
+/// Makes these parts for a tree with marked defaults. `TextTooLong` if its canonical text is too long.
 fn kept_of(alloc: Global, tree: &Tree, names: &FoldedNames) -> Result<Kept, CheckError>
     ensures { RefusesBreach (length_breach tree.now) (λ kept. (kept.text.items ≡ canonical tree.now) × (kept.index ≡ index_of tree.now)
         × (kept.defaults.items ≡ map (default_in names.now) tree.now.items)) result }
@@ -143,6 +144,7 @@ fn kept_of(alloc: Global, tree: &Tree, names: &FoldedNames) -> Result<Kept, Chec
     })
 }
 
+/// Prints the canonical text of the tree. `TextTooLong` if it has more than `MAX_LIBRARY_BYTES` bytes.
 fn library_text(alloc: Global, tree: &Tree) -> Result<Vec<u8>, CheckError>
     ensures { RefusesBreach (length_breach tree.now) (λ text. text.items ≡ canonical tree.now) result }
 {
@@ -153,7 +155,7 @@ fn library_text(alloc: Global, tree: &Tree) -> Result<Vec<u8>, CheckError>
     Ok(text)
 }
 
-/// Whether a text is short enough for a library text.
+/// Returns whether a text has at most `MAX_LIBRARY_BYTES` bytes.
 fn is_text(text: &[u8]) -> bool
     ensures { result ≡ nat_le (length text.now) max_library_bytes }
 {
@@ -161,14 +163,14 @@ fn is_text(text: &[u8]) -> bool
 }
 
 impl Library {
-    /// The tree, with one default interface marked in each coclass.
+    /// Returns the tree, with one default interface marked in each coclass.
     pub fn tree(&self) -> &Tree
         ensures { result.now ≡ self.now }
     {
         &self.tree
     }
 
-    /// The canonical text of the tree (docs/idl.md), of which the tree is read again.
+    /// Returns the canonical text of the tree (docs/reference/idl.md). Parsing it returns the same tree.
     pub fn text(&self) -> &[u8]
         ensures text { result.now ≡ canonical self.now }
         ensures read { IsTree result.now self.now }
@@ -176,14 +178,14 @@ impl Library {
         self.text.as_slice()
     }
 
-    /// A fact and no work: a library is that of some text.
+    /// Proves a fact and executes nothing: the library is that of some text.
     pub fn is_checked(&self)
         ensures { IsChecked self.now }
     {
         let _tree = &self.tree;
     }
 
-    /// The place of the item with a GUID.
+    /// Returns the place of the item with a GUID.
     #[inline(always)]
     fn place(&self, guid: &Uuid) -> Option<usize>
         ensures { result ≡ position (λ i. same guid.now (item_guid i)) self.now.items }
@@ -194,21 +196,21 @@ impl Library {
         self.guids.place(guid)
     }
 
-    /// The tree's items.
+    /// Returns the tree's items.
     pub fn items(&self) -> &[Item]
         ensures { result.now ≡ self.now.items }
     {
         items_of(&self.tree)
     }
 
-    /// The members of the item at a place.
+    /// Returns the members of the item at a place.
     fn members_at(&self, place: usize) -> Option<&Members>
         ensures { option_copied result ≡ option_map members_in (slice_get self.now.items place) }
     {
         self.index.members(place)
     }
 
-    /// The interface at a place.
+    /// Returns the interface at a place among the items. None if the item is a coclass, or if there is none.
     pub fn interface_at(&self, place: usize) -> Option<Dispinterface<'_>>
         ensures { result ≡ option_and_then as_interface (slice_get self.now.items place) }
     {
@@ -218,14 +220,14 @@ impl Library {
         Some(Dispinterface::of(self.alloc, interface, members))
     }
 
-    /// The place of the default interface of the coclass at a place.
+    /// Returns the place of the default interface of the coclass at a place. None if the item is an interface, or if there is none.
     pub fn default_at(&self, place: usize) -> Option<usize>
         ensures { result ≡ option_and_then (default_in (folded_names self.now.items)) (slice_get self.now.items place) }
     {
         *at(self.defaults.as_slice(), place)?
     }
 
-    /// The coclass with a GUID.
+    /// Returns the coclass with a GUID, or None.
     pub fn class(&self, guid: &Uuid) -> Option<&Coclass>
         ensures { option_copied result ≡ class_of self.now guid.now }
     {
@@ -233,7 +235,7 @@ impl Library {
         class_at(self.items(), place)
     }
 
-    /// The interface with a GUID.
+    /// Returns the interface with a GUID, or None.
     pub fn interface(&self, guid: &Uuid) -> Option<Dispinterface<'_>>
         ensures { result ≡ interface_of self.now guid.now }
     {
@@ -241,7 +243,7 @@ impl Library {
         self.interface_at(place)
     }
 
-    /// The default interface of the coclass with a GUID.
+    /// Returns the default interface of the coclass with a GUID. None if there is no such coclass.
     #[inline(always)]
     pub fn default_interface(&self, class: &Uuid) -> Option<Dispinterface<'_>>
         ensures { result ≡ option_and_then (default_interface self.now.items) (class_of self.now class.now) }
@@ -251,7 +253,7 @@ impl Library {
         self.interface_at(default)
     }
 
-    /// The interface at a place where an entry of the coclass at a place names it.
+    /// Returns the interface at `place` if an entry of the coclass at place `class` names it; otherwise None.
     #[inline(always)]
     pub fn entered_at(&self, class: usize, place: usize) -> Option<Dispinterface<'_>>
         ensures { result ≡ option_and_then
@@ -266,15 +268,15 @@ impl Library {
         }
     }
 
-    /// Whether an entry of the coclass at a place names the item at a place.
+    /// Returns whether an entry of the coclass at place `class` names the item at `place`.
     fn enters(&self, class: usize, place: usize) -> bool
         ensures { result ≡ flag_at (map (entered_in (folded_names self.now.items)) self.now.items) class place }
     {
         self.index.enters(class, place)
     }
 
-    /// The interface with a GUID where one of the entries of the coclass with a GUID names it. The zero GUID stands for no other interface
-    /// than the one whose own GUID it is. None where there is no such coclass or interface.
+    /// Returns the interface with the GUID `interface` if an entry of the coclass with the GUID `class` names it. None if there is no such
+    /// coclass, interface or entry. The zero GUID has no special meaning here: it finds an interface whose own GUID is zero.
     #[inline(always)]
     pub fn entered(&self, class: &Uuid, interface: &Uuid) -> Option<Dispinterface<'_>>
         ensures { result ≡ option_and_then (λ c. option_and_then (if_entered c) (interface_of self.now interface.now))
@@ -285,9 +287,9 @@ impl Library {
         self.entered_at(class, place)
     }
 
-    /// The interface that a GUID selects for the coclass with a GUID. The zero GUID stands for the coclass's default interface, which each
-    /// coclass has; an interface whose own GUID is zero is reached only so. Any other stands for the interface that has it, where one of
-    /// the coclass's entries names that interface. None where there is no such coclass or interface.
+    /// Returns the interface that a GUID selects for the coclass with the GUID `class`. The zero GUID selects the coclass's default
+    /// interface, which each coclass has; an interface whose own GUID is zero can be selected only so. Any other GUID selects the interface
+    /// that has it, if an entry of the coclass names it. None if there is no such coclass, interface or entry.
     #[inline(always)]
     pub fn select(&self, class: &Uuid, interface: &Uuid) -> Option<Dispinterface<'_>>
         ensures selected { result ≡ selected_in self.now class.now interface.now }
@@ -300,7 +302,7 @@ impl Library {
         self.entered(class, interface)
     }
 
-    /// The interface at an index among the interfaces.
+    /// Returns the interface with this index among the interfaces.
     fn nth_interface(&self, index: usize) -> Option<Dispinterface<'_>>
         ensures { result ≡ slice_get (interfaces_of self.now.items) index }
     {
@@ -308,10 +310,12 @@ impl Library {
         self.interface_at(place)
     }
 
-    /// The description at an index: the interfaces come first, in the text's order, and then the coclasses. The members of an interface
-    /// stand in the order in which their names first stand, a get before its put, each declaration as it is written; defaults are values of
-    /// their parameters' types. BadIndex where there are not so many interfaces and coclasses; Memory, never in place of that, where memory
-    /// is refused.
+    /// Returns the description with an index. The interfaces come first, in the text's order, followed by the coclasses. The members of an
+    /// interface are in the order in which their names first appear, a get before its put, each declaration spelled as in the text.
+    /// Defaults are values of their parameters' types.
+    ///
+    /// Errors: `BadIndex` if and only if the library has fewer interfaces and coclasses; `Memory` if an allocation fails, and only if there
+    /// is such a description.
     pub fn describe(&self, index: u32) -> Result<Description<'_>, DescribeError>
         ensures { Describes (description_at self.now index) result }
     {

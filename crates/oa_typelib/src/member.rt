@@ -1,4 +1,4 @@
-//! Members as a call sees them.
+//! Properties of interfaces, as a call uses them.
 ghost use Rattle.std.specs.Prelude.{◌≡◌, map, option_copied, slice_get};
 ghost use Rattle.std.specs.Option.{option_and_then, option_map};
 ghost use Rattle.oa_checks.specs.Declarations.{type_of_value};
@@ -12,22 +12,22 @@ use oa_model::ValueType;
 use oa_variant::Scalar;
 use std::marker::Model;
 
-/// A property of an interface, by what a call needs to know of it. Of one with a get and a put, name and parameters are those of the get.
+/// A property of an interface. If it is declared by a get and a put, its name and parameters are those of the get.
 #[derive(Drop)]
 pub struct Member<'a> {
-    /// Its DISPID.
+    /// The DISPID.
     pub id: i32,
-    /// Its name as it is written.
+    /// The name, spelled as in the text.
     pub name: &'a Name,
-    /// The type of what it holds, which of a put is the type of the new value.
+    /// The type of the property's value, which is the type of a put's new value.
     pub value_type: ValueType,
-    /// Its parameters, without the new value of a put.
+    /// The parameters, without the new value of a put.
     pub parameters: &'a [Parameter],
-    /// The values of their defaults.
+    /// The values of the parameters' defaults.
     defaults: &'a [Option<Scalar>],
-    /// Whether it can be read.
+    /// Whether the property can be read.
     pub has_get: bool,
-    /// Whether it can be set.
+    /// Whether the property can be set.
     pub has_put: bool,
 }
 
@@ -51,7 +51,7 @@ impl<'a> Model for Member<'a> {
 }
 
 impl<'a> Member<'a> {
-    /// The property that has these declarations, of which one speaks for it. None where that one has no type.
+    /// Makes the property of these declarations; `main` has its name and parameters. None if `main` has no type.
     pub(crate) fn of(forms: &Forms<'a>, main: &Form<'a>) -> Option<Member<'a>>
         ensures { result ≡ option_map (property_of forms.now main.now) (type_of_value main.now) }
     {
@@ -67,7 +67,7 @@ impl<'a> Member<'a> {
         })
     }
 
-    /// Whether it has the form.
+    /// Returns whether the property has the form.
     pub(crate) fn has(&self, kind: Kind) -> bool
         ensures { result ≡ has_form self.now kind }
     {
@@ -77,15 +77,15 @@ impl<'a> Member<'a> {
         }
     }
 
-    /// For each parameter the value of its default, of its declared type; for VARIANT an I4, a text or a truth value. None where it has no
-    /// default.
+    /// Returns for each parameter the value of its default, converted to the declared type; for VARIANT an I4, a BSTR or a BOOL. None if it
+    /// has no default.
     pub fn defaults(&self) -> &'a [Option<Scalar>]
         ensures { result.now ≡ map default_value self.now.parameters }
     {
         self.defaults
     }
 
-    /// The value of the default of the parameter at a place. None where it has no default, and where there is no such parameter.
+    /// Returns the value of the default of the parameter at a place. None if it has no default, or if there is no such parameter.
     pub fn default(&self, place: usize) -> Option<&'a Scalar>
         ensures { option_copied result ≡ option_and_then default_value (slice_get self.now.parameters place) }
     {
@@ -96,7 +96,7 @@ impl<'a> Member<'a> {
     }
 }
 
-/// The property that has these declarations. None of a method.
+/// Returns the property of these declarations. None if they are a method, or if there are none.
 pub(crate) fn property<'a>(forms: &Forms<'a>) -> Option<Member<'a>>
     ensures { result ≡ property_with (main_form forms.now) forms.now }
 {
@@ -107,7 +107,7 @@ pub(crate) fn property<'a>(forms: &Forms<'a>) -> Option<Member<'a>>
     Member::of(forms, &main)
 }
 
-/// The member that has these declarations, and the form of it that a call asks for.
+/// Returns the property of these declarations and the form of it that a call uses, or the error of `Dispinterface::member`.
 pub(crate) fn find<'a>(forms: &Forms<'a>, access: Access) -> Result<(Member<'a>, Kind), MemberFault>
     ensures { result ≡ answer (main_form forms.now) forms.now access }
 {

@@ -13,6 +13,7 @@ use oa_variant::Scalar;
 use std::alloc::{AllocError, Global};
 use std::marker::Model;
 
+/// Converts the defaults of parameters to values.
 fn values_of(alloc: Global, parameters: &[Parameter]) -> Result<Vec<Option<Scalar>>, AllocError>
     ensures { IfOk result (λ v. v.items ≡ map default_value parameters.now) }
 {
@@ -23,6 +24,7 @@ fn values_of(alloc: Global, parameters: &[Parameter]) -> Result<Vec<Option<Scala
     Ok(values)
 }
 
+/// Converts the defaults of the parameters of each declaration.
 fn all_values(
     alloc: Global,
     declarations: &[Declaration],
@@ -36,7 +38,7 @@ fn all_values(
     Ok(all)
 }
 
-/// The declarations of an interface by their names, folded, and by their DISPIDs.
+/// The places of an interface's declarations by their folded names and by their DISPIDs.
 #[derive(Drop)]
 pub(crate) struct Members {
     pub(crate) by_name: Groups<FoldedName>,
@@ -54,6 +56,7 @@ impl Model for Members {
     ghost view = { λ m. record { by_name = m.by_name; by_id = m.by_id; defaults = map (λ xs. xs.items) m.defaults.items } };
 }
 
+/// Returns the names of declarations.
 fn names_of<'a>(
     alloc: Global,
     declarations: &[Declaration<'a>],
@@ -67,7 +70,7 @@ fn names_of<'a>(
     Ok(names)
 }
 
-/// The places of declarations by their names, folded.
+/// Groups the places of declarations by the folded name.
 fn by_name(alloc: Global, declarations: &[Declaration]) -> Result<Groups<FoldedName>, AllocError>
     ensures { IfOk result (λ g. g ≡ keys_with_places same (map (λ d. folded_name d.name) declarations.now)) }
 {
@@ -76,6 +79,7 @@ fn by_name(alloc: Global, declarations: &[Declaration]) -> Result<Groups<FoldedN
 }
 
 impl Members {
+    /// Makes the members of these declarations.
     fn grouped(alloc: Global, declarations: &[Declaration]) -> Result<Members, AllocError>
         ensures { IfOk result (λ m. m ≡ grouped declarations.now) }
     {
@@ -86,6 +90,7 @@ impl Members {
         })
     }
 
+    /// Makes the members of an item; a coclass has none.
     pub(crate) fn of(alloc: Global, item: &Item) -> Result<Members, AllocError>
         ensures { IfOk result (λ m. m ≡ members_in item.now) }
     {

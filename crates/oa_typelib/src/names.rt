@@ -1,4 +1,4 @@
-//! DISPIDs by names.
+//! Looks up DISPIDs by names.
 ghost use Rattle.std.specs.Prelude.{◌≡◌, ◌++◌, IfOk, OnOk, map, position, None, Some};
 ghost use Rattle.oa_model.specs.Folding.{folded, folded_name};
 ghost use Rattle.oa_checks.specs.Libraries.{same_name};
@@ -14,7 +14,7 @@ use std::marker::Model;
 /// The DISPIDs of names.
 #[derive(Drop)]
 pub struct DispIds {
-    /// One for each name, -1 (UNKNOWN_DISPID) for a name that is not known.
+    /// One for each name; -1 (UNKNOWN_DISPID) for an unknown name.
     pub ids: Vec<i32>,
     /// Whether all names are known.
     pub all_known: bool,
@@ -28,7 +28,7 @@ impl Model for DispIds {
     ghost view = { λ d. record { ids = d.ids.items; all_known = d.all_known } };
 }
 
-/// A UTF-16 unit with A to Z made small; every other unit stays.
+/// Maps the UTF-16 units of A to Z to those of a to z. Returns any other unit unchanged.
 fn fold_unit(unit: u16) -> u16
     ensures { result ≡ folded unit }
 {
@@ -39,14 +39,14 @@ fn fold_unit(unit: u16) -> u16
     }
 }
 
-/// A name that is asked for, folded.
+/// Folds a name that a client has sent.
 fn folded_name(alloc: Global, name: &[u16]) -> Result<Vec<u16>, AllocError>
     ensures { IfOk result (λ v. v.items ≡ folded_name name.now) }
 {
     name.iter().map(|u| fold_unit(*u)).collect(alloc)
 }
 
-/// Whether a name that is asked for is equal to a declared one, A to Z folded.
+/// Returns whether a client's name equals a declared one, without regard to the case of A to Z.
 fn is_same_name(name: &[u16], declared: &[u8]) -> bool
     ensures { result ≡ same_name name.now declared.now }
 {
@@ -59,7 +59,7 @@ fn is_same_name(name: &[u16], declared: &[u8]) -> bool
     }
 }
 
-/// The place of the parameter that has a name.
+/// Returns the place of the parameter with a name.
 fn parameter_place(parameters: &[Parameter], name: &[u16]) -> Option<usize>
     ensures { result ≡ position (λ p. same_name name.now p.name) parameters.now }
 {
@@ -68,14 +68,14 @@ fn parameter_place(parameters: &[Parameter], name: &[u16]) -> Option<usize>
         .position(|p| is_same_name(name, p.name.as_bytes()))
 }
 
-/// The DISPID of a parameter.
+/// Returns the DISPID of the parameter with a name, which is its place.
 fn parameter_named(parameters: &[Parameter], name: &[u16]) -> Option<i32>
     ensures { result ≡ parameter_named parameters.now name.now }
 {
     i32::try_from(parameter_place(parameters, name)?).ok()
 }
 
-/// No DISPID for any of the names.
+/// Returns None for each name.
 fn unknown(alloc: Global, names: &[Vec<u16>]) -> Result<Vec<Option<i32>>, AllocError>
     ensures { IfOk result (λ v. v.items ≡ map (λ name. None) (map (λ n. n.items) names.now)) }
 {
@@ -86,6 +86,7 @@ fn unknown(alloc: Global, names: &[Vec<u16>]) -> Result<Vec<Option<i32>>, AllocE
     Ok(ids)
 }
 
+/// Appends the DISPID of the parameter with each name.
 fn add_parameters(
     ids: &mut Vec<Option<i32>>,
     parameters: &[Parameter],
@@ -99,7 +100,7 @@ fn add_parameters(
     Ok(())
 }
 
-/// The DISPIDs of names, the first of which is that of the member.
+/// Returns the DISPIDs of the names of a member and its parameters. The first is that of `member`, whatever the first name is.
 fn ids_in(
     alloc: Global,
     member: &Declaration<'_>,
@@ -116,7 +117,7 @@ fn ids_in(
     Ok(ids)
 }
 
-/// The DISPIDs of names of an interface.
+/// Returns the DISPIDs of the names of a member of the interface and of its parameters; None for an unknown name.
 pub(crate) fn named_in(
     alloc: Global,
     interface: &Dispinterface<'_>,
@@ -134,13 +135,14 @@ pub(crate) fn named_in(
     }
 }
 
+/// Returns the DISPID, or -1 for None.
 fn or_unknown(id: Option<i32>) -> i32
     ensures { result ≡ or_unknown id }
 {
     id.unwrap_or(UNKNOWN_DISPID)
 }
 
-/// The answer by the DISPIDs that are known.
+/// Makes the reply to a look-up of names.
 pub(crate) fn told(alloc: Global, ids: &[Option<i32>]) -> Result<DispIds, AllocError>
     ensures { IfOk result (λ d. d ≡ told ids.now) }
 {

@@ -7,14 +7,14 @@ use oa_model::{Bound, VarType};
 use oa_variant::{Scalar, Variant};
 use std::alloc::Global;
 
-/// An array of zeros; None where there is none of this type and these bounds, or no memory for it.
+/// Returns an array of zeros, or `None` if the type and bounds are not valid or the allocation fails.
 pub fn array(alloc: Global, elem: VarType, bounds: &[Bound]) -> Option<Variant>
     ensures { IfSome result (λ value. locks_of value ≡ 0) }
 {
     Some(Variant::Array(SafeArray::create(alloc, elem, bounds).ok()?))
 }
 
-/// The same with one lock.
+/// The same array, locked once.
 pub fn locked(alloc: Global, elem: VarType, bounds: &[Bound]) -> Option<SafeArray<Scalar>>
     ensures { IfSome result (λ array. array.locks ≡ 1) }
 {

@@ -1,7 +1,7 @@
-//! What no clause says: that memory is found; and each public function once.
+//! Calls of each public function, and what the contracts do not promise: that allocations succeed.
 //!
-//! A call that takes memory is sent again where it was refused. So these tests also pass where one call of the allocator
-//! is refused, whichever it is: `tests/program/test_raw_memory.py` refuses each in turn.
+//! If an allocation fails, the call is repeated once. So the tests also pass if any one call of the allocator fails:
+//! `tests/program/test_raw_memory.py` fails each in turn.
 use crate::asserts::{assert_none, expect};
 use crate::shown::is_shown;
 use oa_bstr::{Bstr, BstrError};
@@ -23,12 +23,12 @@ fn copy_of(alloc: Global, text: &Bstr) -> Result<Bstr, AllocError> {
     }
 }
 
-/// Whether it is a text of these bytes.
+/// Returns whether it is a string of these bytes, and not null.
 fn has(text: &Bstr, bytes: &[u8]) -> bool {
     !text.is_null() && text.as_bytes() == bytes && text.byte_len() as usize == bytes.len()
 }
 
-/// Whether a text has these bytes, and its copy has them still when the text is gone.
+/// Returns whether a string has these bytes, and its copy still has them after the string is dropped.
 fn is_kept(alloc: Global, bytes: &[u8]) -> bool {
     let Ok(text) = text(alloc, bytes) else {
         return false;
@@ -53,12 +53,12 @@ fn first_lost(alloc: Global) -> Option<&'static [u8]> {
     None
 }
 
-/// Whether it has no bytes.
+/// Returns whether it is null and has no bytes.
 fn is_bare(null: &Bstr) -> bool {
     null.is_null() && null.byte_len() == 0 && null.as_bytes().len() == 0
 }
 
-/// Whether null has a copy, which takes no memory, and neither has bytes.
+/// Returns whether null can be copied, which allocates nothing, and whether neither has bytes.
 fn is_copied_without_memory(alloc: Global) -> bool {
     match Bstr::null().copy(alloc) {
         Ok(copy) => is_bare(&copy) && is_bare(&Bstr::null()),
@@ -66,13 +66,13 @@ fn is_copied_without_memory(alloc: Global) -> bool {
     }
 }
 
-/// Whether null is another than a text, and stands before it.
+/// Returns whether null differs from a string and sorts before it.
 fn is_behind_null(text: &Bstr) -> bool {
     let null = Bstr::null();
     null != *text && null < *text
 }
 
-/// Whether it stands before the empty text. (In which order texts stand is shown by the cases of the program.)
+/// Returns whether null sorts before the empty string. (The tests of the program check the order of strings.)
 fn is_before_empty(alloc: Global) -> bool {
     match text(alloc, &[]) {
         Ok(empty) => is_behind_null(&empty),
@@ -83,7 +83,7 @@ fn is_before_empty(alloc: Global) -> bool {
 /// Five bytes.
 pub const ODD: [u8; 5] = [0x34, 0x12, 0xff, 0xfe, 0x56];
 
-/// Whether a text has these bytes, and little-endian units, the last one with a byte of 0.
+/// Returns whether a string has these bytes, and their little-endian units, the last of which ends with a zero byte.
 pub fn is_told(text: &Bstr) -> bool {
     text.byte_len() == 5
         && text.as_bytes() == ODD.as_slice()
@@ -92,7 +92,7 @@ pub fn is_told(text: &Bstr) -> bool {
         && text.unit(2) == 0x0056
 }
 
-/// Whether such a text is told so, and printed by its bytes, and null by its name.
+/// Returns whether such a string is read back, and printed as its bytes, and null as `null`.
 fn are_told(alloc: Global) -> bool {
     match text(alloc, &ODD) {
         Ok(text) => {
@@ -104,7 +104,7 @@ fn are_told(alloc: Global) -> bool {
     }
 }
 
-/// So many bytes.
+/// Returns this many bytes with the value 7.
 fn sevens(alloc: Global, count: usize) -> Result<Vec<u8>, AllocError> {
     match Vec::from_elem(alloc, 7, count) {
         Err(_) => Vec::from_elem(alloc, 7, count),
@@ -112,7 +112,7 @@ fn sevens(alloc: Global, count: usize) -> Result<Vec<u8>, AllocError> {
     }
 }
 
-/// Whether a text of 1,048,577 bytes is refused before memory is asked for.
+/// Returns whether a string of 1,048,577 bytes is refused before anything is allocated.
 fn is_too_long(alloc: Global) -> bool {
     match sevens(alloc, 1_048_577) {
         Ok(bytes) => Bstr::from_bytes(alloc, &bytes).err() == Some(BstrError::TooLong),

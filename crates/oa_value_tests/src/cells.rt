@@ -1,7 +1,7 @@
-//! What no clause says: that each value is dropped once, and that memory is found.
+//! What the contracts do not promise: that each value is dropped once, and that allocations succeed.
 //!
-//! A call that takes memory is sent again where it was refused, after a look at what it left. So these tests also pass
-//! where one call of the allocator is refused, whichever it is: `tests/program/test_raw_memory.py` refuses each in turn.
+//! If an allocation fails, the state after the failure is checked and the call is repeated once. So the tests also
+//! pass if any one call of the allocator fails: `tests/program/test_raw_memory.py` fails each in turn.
 use crate::asserts::{assert_none, expect};
 use oa_cells::{Cells, Row};
 use std::alloc::{AllocError, Global};
@@ -9,7 +9,7 @@ use std::cell::Cell;
 use std::mem::size_of;
 use std::rt::HostRuntime;
 
-/// A value that counts its drop. It stands at a multiple of 16.
+/// A value that counts its drop. Its alignment is 16.
 struct Counted<'a> {
     number: u128,
     drops: &'a Cell<usize>,
@@ -22,7 +22,7 @@ impl Drop for Counted<'_> {
     }
 }
 
-/// Why cells are not made.
+/// Why no cells were made.
 #[derive(Clone, Copy, PartialEq, Eq)]
 pub enum Refusal {
     Memory,
@@ -58,7 +58,7 @@ fn fill_once<'a>(
     Cells::filled_by(alloc, len, |i| make_counted(i, refuse, drops))
 }
 
-/// Cells numbered by their places, refused at one of them. Where memory is refused, no cell was made.
+/// Makes cells numbered by their indices, and fails at the index `refuse`. If the allocation fails, no cell was made.
 fn filled<'a>(
     alloc: Global,
     len: usize,
@@ -71,7 +71,7 @@ fn filled<'a>(
     }
 }
 
-/// Are there so many cells, each numbered by its place?
+/// Returns whether there are `len` cells, each numbered by its index.
 fn are_numbered(cells: &Cells<Counted<'_>>, len: usize) -> bool {
     for (i, cell) in cells.as_slice().iter().enumerate() {
         if cell.number != i as u128 {
@@ -81,7 +81,7 @@ fn are_numbered(cells: &Cells<Counted<'_>>, len: usize) -> bool {
     cells.len() == len
 }
 
-/// Whether a fill of four cells that is refused at that one (4: at none) answers so.
+/// Returns whether a fill of four cells that fails at this index (4: nowhere) returns this error.
 fn is_told(alloc: Global, refuse: usize, drops: &Cell<usize>) -> bool {
     match filled(alloc, 4, refuse, drops) {
         Ok(cells) => refuse == 4 && are_numbered(&cells, 4) && drops.get() == 0,
@@ -99,7 +99,8 @@ fn first_other_fill(alloc: Global) -> Option<usize> {
     None
 }
 
-/// From so many cells to `len`, refused at an index: the length then, the drops so far, and the drops at the end.
+/// A resize of `from` cells to `len` that fails at the index `refuse`: the length after it, the drops by then, and
+/// all drops at the end.
 struct Resize {
     from: usize,
     len: usize,
@@ -184,7 +185,7 @@ fn resize_once<'a>(
     cells.resized(row.len, |i| make_counted(i, row.refuse, drops))
 }
 
-/// Where memory is refused, the cells are as they were, and none was dropped.
+/// Resizes the cells. If the allocation fails, the cells are unchanged and none was dropped.
 fn resized<'a>(
     cells: &mut Cells<Counted<'a>>,
     row: &Resize,
@@ -198,7 +199,7 @@ fn resized<'a>(
     }
 }
 
-/// Whether the cells become what the row says.
+/// Returns whether the resize has the result in the row.
 fn is_resized(alloc: Global, row: &Resize, drops: &Cell<usize>) -> bool {
     let Ok(mut cells) = filled(alloc, row.from, 9, drops) else {
         return false;
@@ -208,7 +209,7 @@ fn is_resized(alloc: Global, row: &Resize, drops: &Cell<usize>) -> bool {
         && drops.get() == row.dropped
 }
 
-/// The length and the refused index of the first row that goes otherwise.
+/// Returns the length and the index of the first row with another result.
 fn first_other_resize(alloc: Global) -> Option<(usize, usize)> {
     for row in RESIZES.iter() {
         let drops = Cell::new(0);
@@ -219,7 +220,7 @@ fn first_other_resize(alloc: Global) -> Option<(usize, usize)> {
     None
 }
 
-/// The number of the second of three cells, which another cell replaces, and their numbers then.
+/// Replaces the second of three cells. Returns the number of the old cell, and the numbers of the three cells.
 fn replaced<'a>(
     cells: &mut Cells<Counted<'a>>,
     drops: &'a Cell<usize>,
@@ -236,7 +237,7 @@ fn replaced<'a>(
     Some((was.number, now))
 }
 
-/// Whether it is handed back, and dropped once like the others.
+/// Returns whether `replace` returns the old cell, which is dropped once.
 fn is_replaced(alloc: Global, drops: &Cell<usize>) -> bool {
     let Ok(mut cells) = filled(alloc, 3, 9, drops) else {
         return false;
@@ -257,7 +258,7 @@ fn each_cell_is_dropped_once(rt: HostRuntime) {
     );
 }
 
-/// Cells of one value, refused at one of them.
+/// Makes cells of one value, and fails at the index `refuse`.
 pub fn made<T: Copy>(
     alloc: Global,
     len: usize,
@@ -272,7 +273,8 @@ pub fn made<T: Copy>(
     })
 }
 
-/// Whether as many cells of no size as fit in a block are refused at one of them. Where memory is refused, they are made once more.
+/// Returns whether a fill of the largest number of cells of size 0 fails at the given index. If an allocation fails,
+/// the fill is repeated once.
 fn are_many(alloc: Global) -> bool {
     match made(alloc, 1 << 62, 2, ()) {
         Err(Refusal::Memory) => made(alloc, 1 << 62, 2, ()).err() == Some(Refusal::At(2)),
@@ -280,12 +282,12 @@ fn are_many(alloc: Global) -> bool {
     }
 }
 
-/// 2 ^ 62 values of no size take no byte, and fit in a block; 2 ^ 59 of sixteen bytes would take 2 ^ 63 bytes.
+/// 2 ^ 62 values of size 0 need no bytes and fit in a block; 2 ^ 59 values of sixteen bytes would need 2 ^ 63 bytes.
 fn are_bounded(alloc: Global) -> bool {
     are_many(alloc) && made(alloc, 1 << 59, 2, 7u128).err() == Some(Refusal::Memory)
 }
 
-/// Whether a row takes one word, and cells take two.
+/// Returns whether a row has the size of one word, and cells have that of two.
 fn are_small() -> bool {
     size_of::<Row<u8>>() == size_of::<usize>() && size_of::<Cells<u8>>() == 2 * size_of::<usize>()
 }

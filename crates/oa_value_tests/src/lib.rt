@@ -1,8 +1,8 @@
-//! Tests of values, of their bytes, and of the texts and tables that hold them, as far as no request shows them.
+//! Tests of values, their encodings, and the strings and tables that contain them, for what no request reaches.
 //!
-//! Its contract: that of every function, to be safe; what is expected stands in the tests.
+//! Contract: safety, as of every function; the tests contain the expected values.
 //!
-//! What stands on it: no crate.
+//! Used by no crate.
 #![tactic(auto)]
 
 pub mod arrays;

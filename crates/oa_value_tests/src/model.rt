@@ -1,4 +1,5 @@
-//! What no request shows of the standards' values: which types are signed, how other characters than those of names are folded.
+//! Facts about the values of the standards that no request reaches: which types are signed, and how characters that
+//! names cannot contain are folded.
 use crate::asserts::{assert_none, expect};
 use oa_model::{HResult, VarType, fold, laws};
 use std::rt::HostRuntime;
@@ -24,7 +25,7 @@ const SIGNED: [(VarType, bool); 18] = [
     (VarType::Uint, false),
 ];
 
-/// The first type that is not as its row says.
+/// Returns the first type whose row is wrong.
 fn first_other_type() -> Option<VarType> {
     for (one, is_signed) in SIGNED {
         if one.is_signed() != is_signed {
@@ -47,7 +48,7 @@ const FOLDED: [(u8, u8); 10] = [
     (0, 0),
 ];
 
-/// The first character that becomes another.
+/// Returns the first character that is folded to another one than its row has.
 fn first_other_fold() -> Option<u8> {
     for (character, wanted) in FOLDED {
         if fold(character) != wanted {
@@ -57,7 +58,8 @@ fn first_other_fold() -> Option<u8> {
     None
 }
 
-/// Whether 0 is a success and another code is none, and the number of an array's type is none of a type.
+/// Returns whether 0 is a success and E_FAIL is not, and whether the number of an array type is not that of a scalar
+/// type.
 fn are_numbers() -> bool {
     HResult::S_OK.is_ok() && !HResult::E_FAIL.is_ok() && VarType::from_vt(0x2003).is_none()
 }

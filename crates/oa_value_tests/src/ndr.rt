@@ -1,10 +1,10 @@
-//! Where a reader is behind what is short, and a writer that begins behind other bytes.
+//! The position of a reader after a read that is too short, and a writer that begins after other bytes.
 use crate::asserts::expect;
 use oa_ndr::{Ndr, NdrOut};
 use std::alloc::Global;
 use std::rt::HostRuntime;
 
-/// Whether each kind of part is short of which two bytes are there, where it stands at no multiple of its size.
+/// Returns for each kind of part whether its read fails with two bytes left at an unaligned position.
 fn are_short(reader: &mut Ndr<'_>) -> [bool; 6] {
     [
         reader.u16().is_err(),
@@ -16,7 +16,8 @@ fn are_short(reader: &mut Ndr<'_>) -> [bool; 6] {
     ]
 }
 
-/// What is short behind the first five of these bytes, where the reader then is, and what stands there.
+/// Reads parts after the first five of these bytes. Returns which reads fail, the position of the reader then, and
+/// the byte there.
 fn behind_five(bytes: &[u8]) -> ([bool; 6], usize, Option<u8>) {
     let mut reader = Ndr::new(bytes);
     let _ = reader.bytes(5);
@@ -24,7 +25,8 @@ fn behind_five(bytes: &[u8]) -> ([bool; 6], usize, Option<u8>) {
     (short, reader.position(), reader.u8().ok())
 }
 
-/// Puts a byte and a number: the places behind these, behind a cut that is too long, and behind one to the byte.
+/// Writes a byte and a number. Returns the positions after these, after a truncation to a greater length, and after
+/// one to the byte.
 fn cut(writer: &mut NdrOut) -> [usize; 3] {
     let _ = writer.u8(1);
     let _ = writer.u32(9);
@@ -35,7 +37,7 @@ fn cut(writer: &mut NdrOut) -> [usize; 3] {
     [behind, uncut, writer.position()]
 }
 
-/// Whether a writer behind a byte of another field counts from the start of its own, and gives back both.
+/// Returns whether a writer that begins after a byte of another field counts from its own start, and returns both.
 fn is_cut(alloc: Global) -> bool {
     let mut before = Vec::new(alloc);
     let _ = before.push(7);

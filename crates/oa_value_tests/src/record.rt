@@ -1,5 +1,5 @@
-//! A value that is put behind other fields, a scalar by itself, and the opcode of a body. The other fields of replies, one behind another, are shown by the
-//! cases of the program.
+//! A value that is written after other fields, a scalar by itself, and the opcode of a body. The tests of the program
+//! check the other fields of replies.
 use crate::asserts::expect;
 use crate::shown::is_shown;
 use oa_ndr::Ndr;
@@ -9,13 +9,13 @@ use oa_wire_array::read_scalar;
 use std::alloc::Global;
 use std::rt::HostRuntime;
 
-/// Behind a byte that was there, how many bytes follow, and a VARIANT of these.
+/// After an earlier byte, a count of bytes and a VARIANT of that many bytes.
 static PUT: [u8; 33] = [
     9, 0x18, 0, 0, 0, 0, 0, 0, 0, 3, 0, 0, 0, 0, 0, 0, 0, 3, 0, 0, 0, 0, 0, 0, 0, 3, 0, 0, 0, 7, 0,
     0, 0,
 ];
 
-/// Whether 7 is put so behind a byte.
+/// Returns whether 7 is written this way after a byte.
 fn is_put(alloc: Global) -> bool {
     let mut out = Vec::new(alloc);
     let _ = out.push(9);
@@ -23,13 +23,13 @@ fn is_put(alloc: Global) -> bool {
     is_done && out.as_slice() == PUT.as_slice()
 }
 
-/// A wireVARIANT of the text "Hi".
+/// A wireVARIANT of the string "Hi".
 static TEXT: [u8; 40] = [
     5, 0, 0, 0, 0, 0, 0, 0, 8, 0, 0, 0, 0, 0, 0, 0, 8, 0, 0, 0, 0, 0, 2, 0, 2, 0, 0, 0, 4, 0, 0, 0,
     2, 0, 0, 0, 72, 0, 105, 0,
 ];
 
-/// Whether the text is read.
+/// Returns whether the string is read.
 fn is_read(alloc: Global) -> bool {
     let read = read_scalar(alloc, &mut Ndr::new(&TEXT));
     is_shown(alloc, &read, "Ok(Bstr([72, 0, 105, 0]))")

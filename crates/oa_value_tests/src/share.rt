@@ -1,14 +1,15 @@
-//! Frames of three clients, taken apart: whose bodies and ends they bring, and in which order.
+//! Decoding the frames of three clients: the bodies and stream ends of each client, and their order.
 use crate::asserts::expect;
 use oa_frame::End;
 use oa_share::{Clients, FrameHead, What};
 use std::alloc::Global;
 use std::rt::HostRuntime;
 
-/// What was brought: by which client, a body of so many bytes or an end, a letter for each; `N` for *now*.
+/// One item of a stream: the client, a letter and a length. `B` is a body of that many bytes; `C`, `E`, `L` and `Z`
+/// are ends of a client's stream; `N` is *now*.
 type Brought = (u32, char, usize);
 
-/// What the bytes of one frame bring.
+/// Adds the items that the bytes of one frame complete.
 fn of_frame(
     clients: &mut Clients,
     client: u32,
@@ -31,7 +32,7 @@ fn of_frame(
     Some(())
 }
 
-/// What the end of a client's stream brings.
+/// Adds the item for the end of a client's stream, if it has not ended before.
 fn of_end(clients: &mut Clients, client: u32, all: &mut Vec<Brought>) -> Option<()> {
     match clients.end(client) {
         Some(End::Cut) => all.push((client, 'C', 0)).ok(),
@@ -40,7 +41,7 @@ fn of_end(clients: &mut Clients, client: u32, all: &mut Vec<Brought>) -> Option<
     }
 }
 
-/// What these frames bring, and at last the ends of the clients that are still there.
+/// Returns the items of these frames, and then the ends of the clients that are still connected.
 fn of_frames(alloc: Global, mut input: &[u8]) -> Option<Vec<Brought>> {
     let mut clients = Clients::new(alloc);
     let mut all = Vec::new(alloc);
@@ -99,7 +100,7 @@ const ROWS: [Row; 6] = [
         brought: &[(3, 'C', 0), (3, 'B', 1), (3, 'E', 0)],
     },
     Row {
-        name: "behind a length of 0 nothing is read, and no second end comes",
+        name: "after a length of 0 nothing is read, and no second end comes",
         frames: &[
             1, 0, 0, 0, 9, 0, 0, 0, 0, 0, 0, 0, 1, 0, 0, 0, 7, 1, 0, 0, 0, 0, 0, 0, 0,
         ],

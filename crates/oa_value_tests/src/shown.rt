@@ -1,4 +1,4 @@
-//! How a value is printed.
+//! The printed form of a value.
 use std::alloc::Global;
 use std::fmt::Debug;
 
@@ -6,7 +6,7 @@ fn shown_once<T: Debug>(alloc: Global, value: &T) -> Option<String> {
     format!(in alloc; "{value:?}").ok()
 }
 
-/// Whether a value is printed so. Where memory is refused, it is asked for once more.
+/// Returns whether a value is printed as `wanted`. If an allocation fails, the call is repeated once.
 pub fn is_shown<T: Debug>(alloc: Global, value: &T, wanted: &str) -> bool {
     let shown = match shown_once(alloc, value) {
         None => shown_once(alloc, value),

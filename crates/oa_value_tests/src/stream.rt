@@ -1,5 +1,5 @@
-//! What the answers of a writer of the standard library become, and what the buffers pass on. What those of a reader become, and sessions over readers
-//! that cut and are interrupted, is shown by the cases of the program.
+//! The effect of each result of a writer of the standard library, and what the buffers return. The tests of the
+//! program check the results of readers, and sessions over readers that cut and are interrupted.
 ghost use Rattle.std.specs.Prelude.{false, ◌≡◌};
 
 use crate::asserts::expect;
@@ -12,7 +12,7 @@ use std::alloc::Global;
 use std::io::{self, ErrorKind, Write};
 use std::rt::HostRuntime;
 
-// What one call of a writer of the standard library does.
+// The effect of one call of a writer of the standard library.
 #[derive(Clone, Copy)]
 enum Step {
     Moves,
@@ -21,7 +21,7 @@ enum Step {
     Fails,
 }
 
-// Its calls in turn, a flush being one of them.
+// A writer with a given result for each call, in order. A flush is a call, too.
 #[derive(Drop)]
 struct Scripted<'a> {
     steps: &'a [Step],
@@ -53,7 +53,8 @@ impl<'a> Write for Scripted<'a> {
     }
 }
 
-// Bytes that are put and delivered twice, the calls of the writer of the standard library, what becomes of them, and how many calls it takes.
+// Bytes that are put and delivered twice, the results of the calls of the writer, the expected result, and the number
+// of calls.
 struct Writing {
     name: &'static str,
     bytes: &'static [u8],
@@ -62,7 +63,7 @@ struct Writing {
     calls: usize,
 }
 
-// A table of them, one a line.
+// A table of writings, one per line.
 macro_rules! writings {
     ($($name:literal: $bytes:expr, [$($step:expr),*] => $result:expr, $calls:literal;)*) => {
         [$(Writing { name: $name, bytes: $bytes, steps: &[$($step),*], result: $result, calls: $calls }),*]
@@ -70,7 +71,7 @@ macro_rules! writings {
 }
 
 static WRITINGS: [Writing; 9] = writings! {
-    "no flush where nothing was written": &[], [] => Ok(()), 0;
+    "no flush if nothing was written": &[], [] => Ok(()), 0;
     "two writes and a flush": &[1, 2], [Moves, Moves, Moves] => Ok(()), 3;
     "interrupted writes": &[1, 2], [Interrupts, Moves, Interrupts, Moves, Moves] => Ok(()), 5;
     "a failed write": &[1, 2], [Fails, Moves, Moves, Moves] => Err(Unwritten), 1;
@@ -81,7 +82,7 @@ static WRITINGS: [Writing; 9] = writings! {
     "a flush that is interrupted and fails": &[1, 2], [Moves, Moves, Interrupts, Fails, Moves] => Err(Unwritten), 4;
 };
 
-/// Puts bytes and delivers them, and delivers nothing more.
+/// Puts bytes and delivers them, and then delivers again with nothing left.
 fn put<W: Sink>(writer: &mut W, bytes: &[u8]) -> Result<(), Unwritten>
     requires { (W.out writer.old).broken ≡ false }
 {
@@ -106,7 +107,7 @@ fn an_interrupted_write_is_made_again_and_a_failed_one_is_not(rt: HostRuntime) {
     }
 }
 
-/// Whether a buffer shows nothing, then what one call gives, and then what is left of it behind its first byte.
+/// Returns whether a buffer is empty, then contains the bytes of one call, and then those after the first byte.
 fn shown(alloc: Global) -> [bool; 4] {
     let Ok(mut reader) = Ahead::new(alloc, Cutting::new(b"abcde", &[2])) else {
         return [false; 4];
@@ -120,7 +121,8 @@ fn shown(alloc: Global) -> [bool; 4] {
     [is_empty, is_more, is_two, is_left]
 }
 
-/// What two calls of a reader give that is interrupted once, how many calls it counts, and what is in the buffer.
+/// Calls a reader twice that is interrupted once. Returns both results, the number of calls it counts, and the
+/// buffer.
 fn interrupted_once() -> (Next, Next, u64, [u8; 4]) {
     let mut reader = Interrupted::new(b"ab".as_slice(), 1);
     let mut buffer = [0u8; 4];

@@ -1,5 +1,5 @@
-//! The calls of a table that stand for one event each, which no request makes: a server makes events. What they are refused for, what they leave, and
-//! what is stated of tables.
+//! The calls of a table that each apply one log record. No request makes them, since a server applies log records.
+//! The tests check their errors, the table after them, and the theorems about tables.
 use crate::arrays::array;
 use crate::asserts::expect;
 use oa_array::{ArrayFault, Indices};
@@ -34,7 +34,7 @@ pub fn with_array(alloc: Global) -> Option<Table> {
     Some(table)
 }
 
-/// What a change was refused for.
+/// Returns the error of a change.
 fn refusal(answer: Result<(), (Event, TableFault)>) -> Option<TableFault> {
     match answer {
         Ok(()) => None,
@@ -42,7 +42,7 @@ fn refusal(answer: Result<(), (Event, TableFault)>) -> Option<TableFault> {
     }
 }
 
-/// Puts the element at -1 and 7 of the array.
+/// Puts the element of the array at the indices -1 and 7.
 fn put(alloc: Global, table: &mut Table, value: Scalar) -> Option<TableFault> {
     let mut indices = Vec::new(alloc);
     let _ = indices.push(-1);
@@ -50,12 +50,12 @@ fn put(alloc: Global, table: &mut Table, value: Scalar) -> Option<TableFault> {
     refusal(table.put_element(cell(alloc, 8), Indices::new(indices), value))
 }
 
-/// Gives the array in a cell another first bound.
+/// Changes the first bound of the array in a cell.
 fn shorten(alloc: Global, table: &mut Table, dispid: i32) -> Option<TableFault> {
     refusal(table.redim(cell(alloc, dispid), Bound { count: 1, lower: 0 }))
 }
 
-/// What changes are refused for, and one of each kind that is not refused.
+/// Makes changes that fail, and one of each kind that succeeds. Returns the errors.
 fn refusals(alloc: Global, table: &mut Table) -> [Option<TableFault>; 6] {
     [
         refusal(table.create(1, Uuid::nil())),
@@ -76,21 +76,21 @@ const REFUSED: [Option<TableFault>; 6] = [
     Some(TableFault::NoObject),
 ];
 
-/// The image of the table then: object 1, and in its cell 8 an array of one by three with a 6 in its last element.
+/// The snapshot of the table then: object 1, and in its cell 8 an array of one by three with a 6 in its last element.
 static LEFT: [u8; 80] = [
     2, 0, 0, 0, 1, 0, 0, 0, 1, 0, 0, 0, 0, 0, 0, 0, 0, 0, 0, 0, 0, 0, 0, 0, 0, 0, 0, 0, 1, 0, 0, 0,
     0, 0, 0, 0, 0, 0, 0, 0, 0, 0, 0, 0, 0, 0, 0, 0, 8, 0, 0, 0, 0, 0, 2, 32, 2, 0, 1, 0, 0, 0, 0,
     0, 0, 0, 3, 0, 0, 0, 5, 0, 0, 0, 0, 0, 0, 0, 6, 0,
 ];
 
-/// Whether the table has this image.
+/// Returns whether the table has this snapshot.
 fn is_imaged(alloc: Global, table: &Table, wanted: &[u8]) -> bool {
     let mut image = Vec::new(alloc);
     let is_written = write_table(table, &mut image).is_ok();
     is_written && image.as_slice() == wanted
 }
 
-/// Whether the table is changed so, and is empty once its object is released.
+/// Returns whether the changes have these results, and whether the table is empty after its object is released.
 fn is_changed(alloc: Global, table: &mut Table) -> [bool; 4] {
     [
         refusals(alloc, table) == REFUSED,

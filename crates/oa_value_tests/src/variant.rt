@@ -1,5 +1,5 @@
-//! What takes memory, with enough of it; what a refused value is; the size of a cell. What each value becomes, and in which order keys
-//! stand, is shown by the cases of the program.
+//! Calls that allocate, with enough memory; the value that a failed coercion returns; the size of a cell. The tests
+//! of the program check coercions and the order of keys.
 use crate::arrays::locked;
 use crate::asserts::expect;
 use crate::shown::is_shown;
@@ -10,7 +10,7 @@ use std::alloc::Global;
 use std::mem::size_of;
 use std::rt::HostRuntime;
 
-/// Whether a copy is equal and shown so.
+/// Returns whether a copy is equal and printed as `shown`.
 fn is_copied_so(alloc: Global, value: &Variant, shown: &str) -> bool {
     match value.copy(alloc) {
         Ok(copy) => copy == *value && is_shown(alloc, &copy, shown),
@@ -18,7 +18,7 @@ fn is_copied_so(alloc: Global, value: &Variant, shown: &str) -> bool {
     }
 }
 
-/// Whether a copy of an array has no lock where the array has one.
+/// Returns whether a copy of a locked array has no lock.
 fn is_copied_without_locks(alloc: Global) -> bool {
     let texts =
         "Array(SafeArray { elem: Bstr, bounds: [Bound { count: 0, lower: 0 }], cells: [], locks: 0 })";
@@ -28,7 +28,7 @@ fn is_copied_without_locks(alloc: Global) -> bool {
     }
 }
 
-/// Whether a number that is to become an array is handed back.
+/// Returns whether the coercion of a number to an array fails and returns the number.
 fn is_handed_back(alloc: Global) -> bool {
     let answer = coerce(
         alloc,
@@ -38,7 +38,7 @@ fn is_handed_back(alloc: Global) -> bool {
     is_shown(alloc, &answer, "Err((One(I4(7)), TypeMismatch))")
 }
 
-/// A cell of an array is a scalar, of at most 24 bytes.
+/// A cell of an array is a scalar of at most 24 bytes.
 #[test]
 fn values_are_copied_or_handed_back(rt: HostRuntime) {
     let alloc = rt.alloc();

@@ -1,4 +1,4 @@
-//! What the law of spellings asks, for callers that have a value.
+//! The condition of the theorem about encodings, for callers that have a value.
 ghost use Rattle.oa_variant.specs.Variants.{unlocked};
 ghost use Rattle.oa_wire_variant.specs.Variants.{Spells};
 ghost use Rattle.oa_wire_variant.specs.Canon.{canon};
@@ -6,7 +6,7 @@ ghost use Rattle.oa_wire_variant.specs.Canon.{canon};
 use oa_variant::Variant;
 use oa_wire_variant::laws;
 
-/// What `canon_spells` asks of a value holds of every `Variant`.
+/// Every `Variant` meets the condition of `canon_spells`.
 pub fn is_spelled(value: &Variant)
     ensures { Spells (canon value.now) (unlocked value.now) }
 {

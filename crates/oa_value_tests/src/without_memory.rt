@@ -1,5 +1,6 @@
-//! Calls that take no memory, one behind another, over values that are made first. With ample memory each is answered so;
-//! `tests/program/test_raw_memory.py` refuses all memory from each call of the allocator on, and then the values are not made.
+//! Calls that allocate nothing, one after another, on values that are made first. With enough memory each call
+//! succeeds; `tests/program/test_raw_memory.py` fails all allocations from each call of the allocator on, and then
+//! the values are not made.
 use crate::arrays::array;
 use crate::asserts::expect;
 use crate::bstr::{ODD, is_told};
@@ -26,7 +27,7 @@ fn text(alloc: Global) -> Option<bool> {
     Some(is_told(&text) && Bstr::null().is_null())
 }
 
-/// Whether a cell of two sevens becomes another.
+/// Returns whether one of two cells with the value 7 is replaced.
 fn is_replaced(cells: &mut Cells<u8>) -> bool {
     cells.len() == 2 && *cells.get(0) == 7 && cells.replace(1, 9) == 7
 }
@@ -38,7 +39,7 @@ fn cells(alloc: Global) -> Option<bool> {
 
 const TWO: [Bound; 1] = [Bound { count: 2, lower: 0 }];
 
-/// Whether an element of an array is put while it is locked, and found.
+/// Returns whether an element of a locked array is put and found.
 fn is_put(array: &mut SafeArray<Scalar>) -> bool {
     let found = [
         array.lock().is_ok(),
@@ -57,12 +58,12 @@ fn elements(alloc: Global) -> Option<bool> {
     Some(is_put(&mut array))
 }
 
-/// A byte, numbers of 2, 4 and 8 bytes, a referent, and two bytes, each at its place.
+/// A byte, numbers of 2, 4 and 8 bytes, a referent, and two bytes, each aligned.
 const PARTS: [u8; 22] = [
     1, 0, 2, 0, 3, 0, 0, 0, 4, 0, 0, 0, 0, 0, 0, 0, 0, 0, 2, 0, 5, 6,
 ];
 
-/// Whether parts of each kind are read, and no more.
+/// Returns whether a part of each kind is read, and nothing after them.
 fn are_read() -> bool {
     let mut reader = Ndr::new(&PARTS);
     let found = [
@@ -78,23 +79,23 @@ fn are_read() -> bool {
     found == [true; 8]
 }
 
-/// Whether a value of two cells is measured, and its type is told.
+/// Returns whether the encoded length and the type of an array of two cells are correct.
 fn is_measured(value: &Variant) -> bool {
     let is_array = matches!(value.value_type(), ValueType::Array(VarType::I4));
     are_read() && is_array && wire_len(value) == 76
 }
 
-/// A body, its tag, and whether it is read.
+/// A body, its tag, and whether it is valid.
 type Row = (&'static [u8], u32, bool);
 
-/// A release; a body that is too short; and one that asks for what there is not.
+/// A release, a body that is too short, and a body with an unknown opcode.
 static BODIES: [Row; 3] = [
     (&[7, 0, 0, 0, 2, 0, 0, 0, 1, 0, 0, 0, 0, 0, 0, 0], 7, true),
     (&[7, 0, 0, 0, 2, 0], 0, false),
     (&[7, 0, 0, 0, 99, 0, 0, 0], 7, false),
 ];
 
-/// Whether a body is read, or refused as bad stub data.
+/// Returns whether a body is read, or refused as bad stub data, as the row requires.
 fn is_judged(alloc: Global, body: &[u8], is_read: bool) -> bool {
     match read_request(alloc, body) {
         Ok(_) => is_read,
@@ -102,7 +103,7 @@ fn is_judged(alloc: Global, body: &[u8], is_read: bool) -> bool {
     }
 }
 
-/// Whether each body is told so.
+/// Returns whether each body has the tag and the result of its row.
 fn are_told(alloc: Global, rows: &[Row]) -> bool {
     for (body, tag, is_read) in rows {
         if tag_of(*body) != *tag || !is_judged(alloc, *body, *is_read) {
@@ -117,7 +118,7 @@ fn fields(alloc: Global) -> Option<bool> {
     Some(is_measured(&value) && are_told(alloc, &BODIES))
 }
 
-/// Whether the array in a cell is locked, and the table told.
+/// Returns whether the array in a cell is locked, and the table reports it.
 fn is_locked(table: &mut Table, name: &CellName) -> bool {
     let mut front = [0u8; 8];
     let found = [
@@ -138,13 +139,13 @@ fn table(alloc: Global) -> Option<bool> {
     Some(is_locked(&mut table, &cell(alloc, 8)))
 }
 
-/// Its first interface is named by no coclass.
+/// No coclass of this library names its first interface.
 const LIBRARY: &str = "[uuid(11223344-5566-7788-99aa-bbccddeeff01)] library L {
 [uuid(11223344-5566-7788-99aa-bbccddeeff04)] dispinterface E { properties: [id(2)] long Size; }
 [uuid(11223344-5566-7788-99aa-bbccddeeff02)] dispinterface D { properties: [id(1)] long Count; }
 [uuid(11223344-5566-7788-99aa-bbccddeeff03)] coclass C { dispinterface D; } }";
 
-/// Whether the interface that no coclass names is found, with its property.
+/// Returns whether the interface that no coclass names is found, with its property.
 fn is_found_alone(library: &Library) -> bool {
     let interface = Uuid::from_u128(0x1122_3344_5566_7788_99aa_bbcc_ddee_ff04);
     match library.interface(&interface) {
@@ -153,7 +154,7 @@ fn is_found_alone(library: &Library) -> bool {
     }
 }
 
-/// Whether a coclass, an interface of it and its member are found.
+/// Returns whether a coclass, its interface and the member of that are found.
 fn is_found(library: &Library) -> bool {
     let class = Uuid::from_u128(0x1122_3344_5566_7788_99aa_bbcc_ddee_ff03);
     match library.select(&class, &Uuid::nil()) {
@@ -170,7 +171,7 @@ fn library(alloc: Global) -> Option<bool> {
     Some(is_found(&library) && is_found_alone(&library))
 }
 
-/// Whether each of them is answered so, one behind another; None where a value is not made.
+/// Returns whether each of these calls succeeds, in order, or `None` if a value is not made.
 fn each(alloc: Global) -> Option<bool> {
     let values = text(alloc)? && cells(alloc)? && elements(alloc)?;
     Some(values && fields(alloc)? && table(alloc)? && library(alloc)?)

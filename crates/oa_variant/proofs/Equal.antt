@@ -1,4 +1,4 @@
--- Equal values are the same but for the locks of an array.
+-- Equal values are the same except for the locks of an array.
 use Rattle.std.proofs.Common.{◌≡◌, ◌↔◌, refl, sym, ap, ◌∙◌, Bool, true, false}
 use Rattle.std.specs.Bool.{Decides}
 use Rattle.std.specs.Ordering.{eq_by_cmp, is_eq}

@@ -1,4 +1,4 @@
--- Scalars that stand at one place in the order of keys are the same.
+-- Scalars that compare as equal in the order of keys are the same.
 use Rattle.std.specs.Prelude.{◌≡◌, ℕ, ℤ, true, false, List, Option, Some, None}
 use Rattle.std.proofs.Common.{refl, sym, ap, ◌∙◌}
 use Rattle.std.proofs.lemmas.Bool.{true≢false}

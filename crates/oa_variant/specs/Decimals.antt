@@ -6,13 +6,13 @@ use Rattle.std.specs.Cmp.{IsTotalOrder, bool_cmp_total}
 use Rattle.std.specs.declared.cmp.Ordering.{Ordering}
 use Rattle.std.proofs.lemmas.Cmp.{then_total, on_total, nat_cmp_total}
 
--- sign × magnitude / 10^scale; a Decimal has scale at most 28 and magnitude below 2^96
+-- The number sign × magnitude / 10^scale. A `Decimal` of the code has a scale of at most 28 and a magnitude below 2^96.
 pub record DecimalValue : Type 0 where
   pub negative : Bool
   pub scale : ℕ
   pub magnitude : ℕ
 
--- the bits of a magnitude above the 64 lowest, and these: Hi32 and Lo64
+-- The bits of a magnitude above the 64 lowest (Hi32), and the 64 lowest (Lo64).
 abbrev pub high_of : ℕ → ℕ
 high_of magnitude = magnitude / 2 ^ 64
 
@@ -23,11 +23,11 @@ pub halves : (high low : ℕ) → low < 2 ^ 64
     → (high_of (high * 2 ^ 64 + low) ≡ high) × (low_of (high * 2 ^ 64 + low) ≡ low)
 halves high low h = (omega (arith, h), omega (arith, h))
 
--- the positive zero of scale 0
+-- The positive zero of scale 0.
 abbrev pub zero_decimal : DecimalValue
 zero_decimal = record { negative = false; scale = 0; magnitude = 0 }
 
--- the order in keys, which is not that of the numbers meant: plus before minus, then by scale, then by magnitude
+-- The order in keys, which is not that of the numbers: plus before minus, then by scale, then by magnitude.
 abbrev pub decimal_cmp : DecimalValue → DecimalValue → Ordering
 decimal_cmp =
     then_cmp (on (λ d. d.negative) bool_cmp) (then_cmp (on (λ d. d.scale) nat_cmp) (on (λ d. d.magnitude) nat_cmp))

@@ -1,5 +1,6 @@
--- The order of scalars as keys of cells (this project's choice): by the number of the type, then integers, CY and ERROR
--- by value, false before true, DECIMAL by sign, scale and magnitude, the null text first and texts then by their bytes.
+-- The order of scalars as keys of cells (this project's choice): by the number of the type; then integers, CY and ERROR
+-- by value, false before true, DECIMAL by sign, scale and magnitude, and the null BSTR before the texts, which are
+-- ordered by their bytes.
 use Rattle.std.specs.Prelude.{◌≡◌, ℕ, ℤ, zero, pos, unsigned_abs, Bool, true, false, List, Option}
 use Rattle.std.proofs.Common.{refl, subst}
 use Rattle.std.specs.Ordering.{nat_cmp, int_cmp, on, then_cmp}
@@ -15,7 +16,7 @@ use Rattle.oa_variant.specs.Scalars.{type_of, text_of}
 use Rattle.oa_variant.specs.declared.scalar.Scalar.{Scalar}
 use Rattle.oa_variant.specs.declared.scalar.Scalar.TheVariants as scalars
 
--- the number inside, 0 for false and 1 for true; 0 where there is none
+-- The number of the scalar, with 0 for false and 1 for true; 0 if it has none.
 abbrev pub key_number : Scalar → ℤ
 key_number (scalars.I1 z) = z
 key_number (scalars.I2 z) = z
@@ -33,7 +34,7 @@ key_number (scalars.Bool true) = pos 1
 key_number (scalars.Error n) = pos n
 key_number s = pos 0
 
--- the same without its sign, and as a truth value
+-- The magnitude of this number, and whether it differs from 0.
 abbrev pub unsigned_in : Scalar → ℕ
 unsigned_in s = unsigned_abs (key_number s)
 
@@ -44,12 +45,12 @@ not_zero z = true
 abbrev pub truth_in : Scalar → Bool
 truth_in s = not_zero (key_number s)
 
--- the DECIMAL inside; zero where there is none
+-- The DECIMAL of the scalar; zero if it is of another type.
 abbrev pub decimal_of : Scalar → DecimalValue
 decimal_of (scalars.Decimal d) = d
 decimal_of s = zero_decimal
 
--- the other way round: the scalar of a type with a number, a text and a DECIMAL inside; EMPTY of VARIANT
+-- The scalar of a type with this number, text or DECIMAL; EMPTY for VARIANT.
 abbrev pub scalar_of : VarType → ℤ → Option (List ℕ) → DecimalValue → Scalar
 scalar_of types.Null z t d = scalars.Null
 scalar_of types.I1 z t d = scalars.I1 z
@@ -79,9 +80,11 @@ pub is_made : (t : VarType) (s : Scalar) → type_of s ≡ t
 is_made t s e =
     subst (λ (k : VarType). scalar_of k (key_number s) (text_of s) (decimal_of s) ≡ s) e (scalar_again s)
 
+-- The number of the scalar's type.
 abbrev pub key_type : Scalar → ℕ
 key_type s = vt_of (type_of s)
 
+-- The order of scalars as keys: by type, number, text and DECIMAL.
 abbrev pub scalar_cmp : Scalar → Scalar → Ordering
 scalar_cmp =
     then_cmp (on key_type nat_cmp)

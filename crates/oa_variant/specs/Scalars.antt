@@ -1,4 +1,4 @@
--- Scalars: their types, their zeros and what each may be.
+-- Scalars: their types, their zero values and their invariant.
 use Rattle.std.specs.Prelude.{◌≡◌, ◌⊎◌, ◌||◌, ◌≤◌, ◌<◌, ◌^◌, ℕ, Bool, List, Option, None, false, length, pos}
 use Rattle.std.specs.Prelude.{FitsSigned}
 use Rattle.std.proofs.Common.{inl, inr, refl}
@@ -13,7 +13,7 @@ use Rattle.oa_variant.specs.Decimals.{zero_decimal}
 use Rattle.oa_variant.specs.declared.scalar.Scalar.{Scalar}
 use Rattle.oa_variant.specs.declared.scalar.Scalar.TheVariants as scalars
 
--- the type of a scalar
+-- The type of a scalar.
 abbrev pub type_of : Scalar → VarType
 type_of scalars.Empty = types.Empty
 type_of scalars.Null = types.Null
@@ -33,23 +33,23 @@ type_of (scalars.Error n) = types.Error
 type_of (scalars.Bstr t) = types.Bstr
 type_of (scalars.Decimal d) = types.Decimal
 
--- the text inside; nothing in a scalar of another type, and in the null BSTR
+-- The text of the scalar; None if it is of another type, or the null BSTR.
 abbrev pub text_of : Scalar → Option (List ℕ)
 text_of (scalars.Bstr t) = t
 text_of s = None
 
--- a cell of a type holds values of that type; one of VARIANT holds any scalar
+-- The scalar can be an element of an array of the type: it is of that type, or the type is VARIANT.
 abbrev pub FitsType : Scalar → VarType → Type 0
 FitsType s t = (t ≡ types.Variant) ⊎ (type_of s ≡ t)
 
--- the same as a test
+-- As `FitsType`, as a test.
 abbrev pub same_type : VarType → VarType → Bool
 same_type = sameb the_type
 
 abbrev pub fits_type : Scalar → VarType → Bool
 fits_type s t = same_type t types.Variant || same_type (type_of s) t
 
--- the value of a cell that was never put (this project's choice)
+-- The value of a cell before its first put (this project's choice).
 abbrev pub zero_of : VarType → Scalar
 zero_of types.Empty = scalars.Empty
 zero_of types.Null = scalars.Null
@@ -70,12 +70,12 @@ zero_of types.Bstr = scalars.Bstr None
 zero_of types.Decimal = scalars.Decimal zero_decimal
 zero_of types.Variant = scalars.Empty
 
--- the zero of a type fits a cell of that type
+-- The zero value of a type fits an element of that type.
 pub zero_fits : (t : VarType) → FitsType (zero_of t) t
 zero_fits types.Variant = inl refl
 zero_fits t = inr refl
 
--- what a scalar may be (MS-OAUT sections 2.2.7, 2.2.24 and 2.2.26; the length of texts is this project's choice)
+-- The invariant of scalars (MS-OAUT sections 2.2.7, 2.2.24 and 2.2.26; the limit of texts is this project's choice).
 abbrev pub IsScalar : Scalar → Type 0
 IsScalar scalars.Empty = Unit {0}
 IsScalar scalars.Null = Unit {0}

@@ -11,42 +11,43 @@ use Rattle.oa_variant.specs.declared.variant.Variant.{Variant}
 use Rattle.oa_variant.specs.declared.variant.Variant.TheVariants.{One, Array}
 use Rattle.oa_variant.specs.Scalars.{type_of, zero_of, same_type, fits_type, FitsType, IsScalar}
 
+-- The type of a value.
 abbrev pub value_type_of : Variant → ValueType
 value_type_of (One s) = kinds.One (type_of s)
 value_type_of (Array a) = kinds.Array a.elem
 
--- whether a property of a declared type can hold the value: it is of that type, or the type is VARIANT
+-- A property of the declared type can have the value: it is of that type, or the type is VARIANT.
 abbrev pub fits_declared : Variant → ValueType → Bool
 fits_declared (One s) (kinds.One t) = fits_type s t
 fits_declared (One s) (kinds.Array t) = false
 fits_declared (Array a) (kinds.One t) = same_type t types.Variant
 fits_declared (Array a) (kinds.Array t) = same_type a.elem t
 
--- what a bound may be (MS-OAUT section 2.2.30.1)
+-- The invariant of bounds (MS-OAUT section 2.2.30.1).
 unfoldable pub IsBound : Bound → Type 0
 IsBound b = (b.count < 2 ^ 32) × FitsSigned w32 b.lower
 
--- what a value may be
+-- The invariant of values.
 abbrev pub IsVariant : Variant → Type 0
 IsVariant (One s) = IsScalar s
 IsVariant (Array a) = IsArray FitsType a × All IsScalar a.cells × All IsBound a.bounds
 
--- the value itself: locks are no part of it
+-- The value without the locks of an array.
 abbrev pub unlocked : Variant → Variant
 unlocked (One s) = One s
 unlocked (Array a) = Array (with_locks a 0)
 
--- the declared types that have a zero
+-- The declared type has a zero value.
 abbrev pub HasZero : ValueType → Type 0
 HasZero (kinds.One t) = Unit {0}
 HasZero (kinds.Array t) = IsSome (sf_type_of t)
 
--- the bound of a dimension without indices
+-- The bound of a dimension without indices.
 abbrev pub no_indices : Bound
 no_indices = record { count = 0; lower = pos 0 }
 
--- the value of a cell of a declared type that was never put (this project's choice): of an array type one dimension
--- without indices, so without cells
+-- The value of a cell of a declared type before its first put (this project's choice). For an array type it is the
+-- array of one dimension without indices, which has no elements.
 abbrev pub zero_value : ValueType → Variant
 zero_value (kinds.One t) = One (zero_of t)
 zero_value (kinds.Array t) = Array (record { elem = t; bounds = no_indices ∷ []; cells = []; locks = 0 })

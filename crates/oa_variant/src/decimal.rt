@@ -1,4 +1,4 @@
-//! DECIMAL.
+//! DECIMAL values.
 ghost use Rattle.std.specs.Prelude.{◌≡◌, ◌≤◌, ◌<◌, ◌^◌};
 ghost use Rattle.std.specs.Cmp.{partial_equiv_from_equiv, eq_by_cmp_equiv};
 ghost use Rattle.std.specs.Ordering.{eq_by_cmp};
@@ -7,14 +7,14 @@ ghost use Rattle.oa_variant.specs.Decimals.{decimal_cmp, decimals_total};
 use std::cmp::Ordering;
 use std::marker::Model;
 
-/// How far the high bits of a magnitude stand above the low ones: 2^64.
+/// The weight of the high bits of a magnitude, which follow its 64 low bits: 2^64.
 const ABOVE_LOW: u128 = 0x1_0000_0000_0000_0000;
 
-/// A DECIMAL (MS-OAUT section 2.2.26): a sign, a scale from 0 to 28 and a magnitude below 2^96, which stand for the number
-/// sign × magnitude / 10^scale. The scale and the sign of zero are part of the value. It has no `<`: the order of keys (`key_cmp`) is
-/// not that of the numbers meant.
+/// A DECIMAL (MS-OAUT section 2.2.26): a sign, a scale from 0 to 28 and a magnitude below 2^96. Its number is sign × magnitude / 10^scale.
+/// The scale, and the sign of a zero, are part of the value. There is no `<`, since the order of keys (`key_cmp`) is not that of the
+/// numbers.
 ///
-/// The magnitude is kept in its 32 high and 64 low bits, so that a cell of an array takes no more bytes for it than for a text.
+/// The magnitude is stored as its 32 high and 64 low bits, so that an element of an array needs no more bytes for it than for a text.
 #[derive(Clone, Copy, Debug)]
 pub struct Decimal {
     negative: bool,
@@ -40,7 +40,7 @@ impl Model for Decimal {
 }
 
 impl Decimal {
-    /// The DECIMAL with this sign, scale (at most 28) and magnitude (below 2^96).
+    /// Makes the DECIMAL with this sign, scale (at most 28) and magnitude (below 2^96).
     pub fn new(negative: bool, scale: u8, magnitude: u128) -> Decimal
         requires { (scale ≤ 28) × (magnitude < 2 ^ 96) }
         ensures { result ≡ record { negative = negative; scale = scale; magnitude = magnitude } }
@@ -53,14 +53,14 @@ impl Decimal {
         }
     }
 
-    /// Whether its sign is minus, also that of a zero.
+    /// Returns whether the sign is minus. A zero can have a minus sign too.
     pub fn is_negative(&self) -> bool
         ensures { result ≡ self.now.negative }
     {
         self.negative
     }
 
-    /// How many decimal places the magnitude has, from 0 to 28.
+    /// Returns the number of decimal places, from 0 to 28.
     pub fn scale(&self) -> u8
         ensures value { result ≡ self.now.scale }
         ensures small { result ≤ 28 }
@@ -68,7 +68,7 @@ impl Decimal {
         self.scale
     }
 
-    /// The digits as a whole number, below 2^96.
+    /// Returns the digits as a whole number, below 2^96.
     pub fn magnitude(&self) -> u128
         ensures value { result ≡ self.now.magnitude }
         ensures small { result < 2 ^ 96 }
@@ -76,8 +76,8 @@ impl Decimal {
         self.high as u128 * ABOVE_LOW + self.low as u128
     }
 
-    /// Its place beside another in the order of keys: by sign (plus first), scale and magnitude, and not by the number that is meant
-    /// (this project's choice).
+    /// Compares two DECIMALs in the order of keys: by sign (plus first), scale and magnitude, and not by their numbers (this project's
+    /// choice).
     pub(crate) fn key_cmp(&self, other: &Decimal) -> Ordering
         ensures { result ≡ decimal_cmp self.now other.now }
     {
@@ -88,7 +88,7 @@ impl Decimal {
     }
 }
 
-/// Two are equal where sign, scale and magnitude are, so 1.0 is not 1.00.
+/// Two are equal if sign, scale and magnitude are: 1.0 is not 1.00.
 impl PartialEq for Decimal {
     ghost eq = { eq_by_cmp decimal_cmp };
 

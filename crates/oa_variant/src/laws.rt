@@ -1,4 +1,4 @@
-//! Laws of the definitions, each the contract of a function with an empty body.
+//! Theorems about the definitions, each the contract of a function that changes nothing.
 ghost use Rattle.std.specs.Prelude.{◌≡◌, ◌↔◌, true, All};
 ghost use Rattle.std.specs.declared.cmp.Ordering.TheVariants.{Equal};
 ghost use Rattle.oa_variant.specs.declared.scalar.Scalar.{Scalar as AScalar};
@@ -10,7 +10,7 @@ ghost use Rattle.oa_variant.specs.Keys.{scalar_cmp};
 use crate::{Scalar, Variant};
 use oa_model::Bound;
 
-/// What is true of each scalar: its number is in the range of its type, its text and its DECIMAL are within their limits.
+/// Proves the invariant of scalars: the number is in the range of its type, the text and the DECIMAL are within their limits.
 pub fn is_scalar(scalar: &Scalar)
     ensures { IsScalar scalar.now }
 {
@@ -62,12 +62,12 @@ pub fn is_scalar(scalar: &Scalar)
     }
 }
 
-/// Scalars that stand at one place in the order of keys are the same.
+/// Scalars that compare as equal in the order of keys are the same.
 pub fn equal_is_same()
     ensures { (a b : AScalar) → scalar_cmp a b ≡ Equal → a ≡ b }
 {}
 
-/// What is true of each value: its scalars are as `is_scalar` says, and an array has a cell of its type for each index list and
+/// Proves the invariant of values: their scalars are as `is_scalar` says; an array has an element of its type for each index list, and
 /// bounds of 32 bits.
 pub fn is_variant(value: &Variant)
     ensures { IsVariant value.now }
@@ -81,7 +81,7 @@ pub fn is_variant(value: &Variant)
     }
 }
 
-/// What is true of each cell of an array.
+/// Proves the invariant of each element of an array.
 fn are_scalars(cells: &[Scalar])
     ensures { All IsScalar cells.now }
 {
@@ -90,7 +90,7 @@ fn are_scalars(cells: &[Scalar])
     }
 }
 
-/// What is true of each bound of an array.
+/// Proves the invariant of each bound of an array.
 fn are_bounds(bounds: &[Bound])
     ensures { All IsBound bounds.now }
 {
@@ -99,7 +99,7 @@ fn are_bounds(bounds: &[Bound])
     }
 }
 
-/// What is true of each bound: its numbers are in the ranges of their types.
+/// Proves the invariant of a bound: its numbers are in the ranges of their types.
 #[tactic(auto, unfolding(crate::specs::Variants::IsBound))]
 fn is_bound(bound: &Bound)
     ensures { IsBound bound.now }
@@ -108,7 +108,7 @@ fn is_bound(bound: &Bound)
     let _lower = bound.lower;
 }
 
-/// Equal values are the same but for the locks of an array, and values that are the same are equal.
+/// Two values are equal if and only if they are the same except for the locks of an array.
 pub fn equal_is_same_but_for_locks()
     ensures { (a b : AVariant) → (⟦<Variant as PartialEq>⟧.eq a b ≡ true) ↔ (unlocked a ≡ unlocked b) }
 {}

@@ -1,10 +1,10 @@
 //! Values of the automation server: scalars with their order, and variants.
 //!
-//! Its contract: a `Scalar` has its type, its zero and a total order (`Ord`); a `Variant` is a scalar or an
-//! array, and its copy is equal, without locks.
+//! Contract: a `Scalar` has a type; each type has a zero value; and scalars have a total order (`Ord`). A `Variant` is a scalar or an
+//! array, and its copy is equal to it, without locks.
 //!
-//! What stands on it: the readers of values (oa_wire_array, oa_layout), what they become (oa_coerce), the table
-//! (oa_table), libraries.
+//! Used by the decoders of values (oa_wire_array, oa_layout), by oa_coerce, which converts them, by oa_table, which stores them, and by the
+//! crates of libraries.
 #![tactic(auto)]
 
 mod decimal;

@@ -15,8 +15,8 @@ use oa_model::VarType;
 use std::alloc::{AllocError, Global};
 use std::cmp::Ordering;
 
-/// A value that is no array, with its type (MS-OAUT section 2.2.7). Values of different types are different, also where their numbers
-/// are the same.
+/// A value that is not an array, with its type (MS-OAUT section 2.2.7). Values of different types are different, even if their numbers are
+/// equal.
 #[derive(Debug, Drop)]
 pub enum Scalar {
     /// No value.
@@ -56,7 +56,7 @@ pub enum Scalar {
 }
 
 impl Scalar {
-    /// Its type, which is never VARIANT.
+    /// Returns the type, which is never VARIANT.
     pub fn var_type(&self) -> VarType
         ensures { result ≡ type_of self.now }
     {
@@ -81,7 +81,7 @@ impl Scalar {
         }
     }
 
-    /// The number inside, 0 for false and 1 for true; 0 where there is none.
+    /// Returns the number, with 0 for false and 1 for true; 0 if the scalar has none.
     fn number(&self) -> i128
         ensures { result ≡ key_number self.now }
     {
@@ -104,7 +104,7 @@ impl Scalar {
         }
     }
 
-    /// The bytes of the text inside; None where there is none, and for the null BSTR.
+    /// Returns the bytes of the text. None for the null BSTR, and if the scalar has no text.
     fn text(&self) -> Option<&[u8]>
         ensures { option_map (λ x. x.now) result ≡ text_of self.now }
     {
@@ -120,7 +120,7 @@ impl Scalar {
         }
     }
 
-    /// The DECIMAL inside; zero where there is none.
+    /// Returns the DECIMAL, or zero if the scalar is of another type.
     fn decimal(&self) -> Decimal
         ensures { result ≡ decimal_of self.now }
     {
@@ -131,7 +131,7 @@ impl Scalar {
     }
 }
 
-/// A scalar can stand in an array with cells of its own type, and in one with cells of the type VARIANT.
+/// A scalar can be an element of an array of its own type, and of an array of VARIANT.
 impl Cell for Scalar {
     ghost Fits = { FitsType };
 
@@ -139,7 +139,7 @@ impl Cell for Scalar {
 
     ghost zero_fits = { λ elem _. zero_fits elem };
 
-    /// Whether a cell of the type can hold it: it is of that type, or the type is VARIANT.
+    /// Returns whether the scalar can be an element of an array of this type: it is of that type, or the type is VARIANT.
     fn fits(&self, elem: VarType) -> bool
         ensures fits { IsTrue result ↔ FitsType self.now elem }
         ensures test { result ≡ fits_type self.now elem }
@@ -147,8 +147,8 @@ impl Cell for Scalar {
         elem == VarType::Variant || self.var_type() == elem
     }
 
-    /// The value of a cell that was never put: 0, false, a positive DECIMAL 0 with scale 0, the null BSTR, EMPTY for EMPTY and for
-    /// VARIANT, NULL for NULL (this project's choice). Takes no memory.
+    /// Returns the zero value of a type, which a cell has before its first put: 0, false, a positive DECIMAL 0 of scale 0, the null BSTR,
+    /// EMPTY for EMPTY and VARIANT, NULL for NULL (this project's choice). Allocates nothing.
     fn zero(elem: VarType) -> Scalar {
         match elem {
             VarType::Empty | VarType::Variant => Scalar::Empty,
@@ -171,7 +171,8 @@ impl Cell for Scalar {
         }
     }
 
-    /// The same value, with a block of its own for a text. Err only where that block is refused: a scalar without one is always copied.
+    /// Returns an equal scalar, with a block of its own for a text. Err: the allocation of that block fails; the copy of a scalar without
+    /// text never fails.
     fn copy(&self, alloc: Global) -> Result<Scalar, AllocError>
         ensures value { IfOk result (λ s. s ≡ self.now) }
         ensures no_text { text_of self.now ≡ None → IsOk result }

@@ -11,18 +11,18 @@ use oa_array::{Cell, SafeArray};
 use oa_model::{Bound, ValueType, VarType};
 use std::alloc::{AllocError, Global};
 
-/// A value with its type (VARIANT, MS-OAUT section 2.2.29): a scalar, or an array of scalars. Two are equal where their types and
-/// their content are; the locks of an array are no part of it.
+/// A value with its type (VARIANT, MS-OAUT section 2.2.29): a scalar, or an array of scalars. Two are equal if their types and contents
+/// are; the locks of an array are not compared.
 #[derive(Debug, PartialEq, Eq, Drop)]
 pub enum Variant {
-    /// A value that is no array.
+    /// A value that is not an array.
     One(Scalar),
-    /// An array, whose cells are of its type, or any scalars where its type is VARIANT.
+    /// An array. Its elements are of its type, or of any scalar type if that is VARIANT.
     Array(SafeArray<Scalar>),
 }
 
 impl Variant {
-    /// Its type.
+    /// Returns the type of the value.
     pub fn value_type(&self) -> ValueType
         ensures { result ≡ value_type_of self.now }
     {
@@ -32,7 +32,8 @@ impl Variant {
         }
     }
 
-    /// Whether a property of a declared type can hold it: it is of that type, or the type is VARIANT, which takes arrays too.
+    /// Returns whether the value can be that of a property of the declared type: it is of that type, or the type is VARIANT, which allows
+    /// arrays too.
     pub fn fits(&self, declared: ValueType) -> bool
         ensures { result ≡ fits_declared self.now declared }
     {
@@ -44,8 +45,8 @@ impl Variant {
         }
     }
 
-    /// The same value, with memory of its own; a copied array has no locks. Err only where memory is refused: a scalar without text is
-    /// always copied.
+    /// Returns an equal value in memory of its own. The copy of an array has no locks. Err: an allocation fails; the copy of a scalar
+    /// without text never fails.
     pub fn copy(&self, alloc: Global) -> Result<Variant, AllocError>
         ensures value { IfOk result (λ v. v ≡ unlocked self.now) }
         ensures no_text { (s : _) → self.now ≡ One s → text_of s ≡ None → IsOk result }
@@ -56,7 +57,7 @@ impl Variant {
         }
     }
 
-    /// The same value; an array has no locks then.
+    /// Returns the same value, without the locks of an array.
     pub fn into_unlocked(self) -> Variant
         ensures { result ≡ unlocked self }
     {
@@ -66,8 +67,9 @@ impl Variant {
         }
     }
 
-    /// The value of a cell of a declared type that was never put: the zero of a scalar type, and of an array type the array of one
-    /// dimension without indices (this project's choice). Err only where memory is refused: the zero of a scalar type takes none.
+    /// Returns the zero value of a declared type, which a cell has before its first put: the zero value of a scalar type, or for an array
+    /// type, which must have an sfType, the array of one dimension without indices (this project's choice). Err: an allocation fails; the
+    /// zero value of a scalar type needs none.
     pub fn zero(alloc: Global, declared: ValueType) -> Result<Variant, AllocError>
         requires { HasZero declared }
         ensures value { IfOk result (λ v. v ≡ zero_value declared) }

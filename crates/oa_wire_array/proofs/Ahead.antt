@@ -1,4 +1,4 @@
--- Cells without pointees that are read take their bytes, so where these are not there nothing is read.
+-- Elements without pointees need their bytes: if these are not there, nothing is read.
 use Rattle.std.proofs.Common.{◌≡◌, ℕ, zero, suc, ◌+◌, ◌*◌, ◌<◌, ◌≤◌, false, not, eqb, leb, List, ◌∷◌, length, Option, Some, None}
 use Rattle.std.proofs.Common.{refl, ap, arith}
 use Rattle.std.proofs.lemmas.Bool.{leb-false}
@@ -13,14 +13,14 @@ use Rattle.oa_wire_array.specs.Reading.{signed_at, truth_at, arm_at}
 use Rattle.oa_wire_array.specs.ArrayCanon.{plain_width}
 use Rattle.oa_wire_text.proofs.Memory.{unit_there}
 
--- a reading that answers has moved past at least n bytes
+-- A decoder that returns a value has moved past at least n bytes.
 abbrev Takes_bytes : {A : Type 0} → ℕ → Reading A → Type 0
 Takes_bytes {A} n read = (s t : Cursor) (x : A) → read s ≡ Some (x, t) → n + length t.rest ≤ length s.rest
 
 unit_takes : (n : ℕ) → Takes_bytes n (unit_at n)
 unit_takes n s t x e = unit_there n s t x e
 
--- where a reading that answered has come to
+-- The cursor after a decoder that has returned a value.
 abbrev end_of : {A : Type 0} → Cursor → Option (A × Cursor) → Cursor
 end_of d None = d
 end_of d (Some x) = x.1
@@ -38,7 +38,7 @@ signed_takes : (n : ℕ) (w : Width) → Takes_bytes n (signed_at n w)
 unfolding signed_at
 signed_takes n w = made_of n (unit_at n) (cast_signed w) (unit_takes n)
 
--- and n of them past so many bytes each
+-- n of them move past n times as many bytes.
 behind_first : {A : Type 0} (w n : ℕ) (read : Reading A) → Takes_bytes w read → Takes_bytes (n * w) (many read n) → Takes_bytes (suc n * w) (many read (suc n))
 unfolding many bind give
 behind_first {A} w n read takes rest s t xs e = first (read s) refl e
@@ -78,7 +78,7 @@ arm_takes types.Decimal some = absurd (omega (arith, some))
 arm_takes types.Bstr some = absurd (omega (arith, some))
 arm_takes types.Variant some = absurd (omega (arith, some))
 
--- where there are fewer bytes than the cells take, they are not read
+-- If there are fewer bytes than the elements need, the elements are not read.
 pub no_cells : (t : VarType) (n : ℕ) (s : Cursor) → leb (n * plain_width t) (length s.rest) ≡ false → many (arm_at t) n s ≡ None
 no_cells t n s few = tried (plain_width t) refl
   where

@@ -57,7 +57,7 @@ given_part {C} {P} Q {F} {read} r = record {
 abbrev pub Fits : VarType → Scalar → Type 0
 Fits t v = FitsType v t
 
--- what the form says of the values anyway
+-- Facts about the values that the form implies.
 known : {C : Type 0} {P : C → Type 0} {F : C → ℕ → List ℕ → Type 0} {read : Reading C} → Reads Always F read → ((c : C) (p : ℕ) (text : List ℕ) → F c p text → P c) → Reads P F read
 known r says = record {
   takes = λ p bytes c t e. let one = (r.takes p bytes c t e).1 in (says c p one.text one.form, one);
@@ -74,7 +74,7 @@ pointee_cell_reads types.Variant true = known (choose_reads true (λ _. scalar_r
 pointee_cell_reads types.Variant false = known (choose_reads false (λ e. absurd cc) (λ _. give_reads scalars.Empty tt refl (λ v _ e. e))) (λ v p text form. inl refl)
 pointee_cell_reads t is_set = fail_reads (λ v p text h form. form.fact)
 
--- so many cells, each of the type
+-- A number of elements, each of the type.
 abbrev pub AreCells : VarType → ℕ → List Scalar → Type 0
 AreCells t n cells = (length cells ≡ n) × AllByRecursion (Fits t) cells
 
@@ -132,7 +132,7 @@ is_array t bounds cells n e are =
     let c = counted t bounds n e in
     (record { shape = c.0; whole = are.0 ∙ sym c.1; typed = All-from_recursion (Fits t) cells are.1 }, refl)
 
--- what is known of an array before its data are read
+-- The facts about an array that are known before its data are read.
 abbrev IsSized : VarType → ℕ → ℕ → ArrayValue Scalar → Type 0
 IsSized t dims size a = ((IsUnlocked a × (a.elem ≡ t)) × (length a.bounds ≡ dims)) × (length a.cells ≡ size)
 
@@ -210,7 +210,7 @@ array_reads t =
     (λ null. fail_reads (λ a p text h _. absurd (true≢false (h.1 ∙ null))))))
     (λ a h. (h.1, h.0)) (λ a h. (h.1, h.0)))
 
--- where there is no array, none is counted
+-- If there is no array, the test of the count fails.
 pub not_counted : (t : VarType) (bounds : List Bound) (n : ℕ) → (IsArrayShape t bounds → ⊥) → false ≡ is_count t bounds n
 not_counted t bounds n never = sym (false_from_ne_true (is_count t bounds n) (λ e. never (counted t bounds n e).0))
 

@@ -46,7 +46,7 @@ unit_on n x out h = omega (arith, unit_len n x out, no_padding n (length out) h)
 abbrev IsWidth : ℕ → Type 0
 IsWidth w = (w ≡ 1) ⊎ (w ≡ 2) ⊎ (w ≡ 4) ⊎ (w ≡ 8)
 
--- what holds of each width
+-- A property of all four widths.
 of_width : (P : ℕ → Type 0) → P 1 → P 2 → P 4 → P 8 → (w : ℕ) → IsWidth w → P w
 of_width P a b c d w (inl e) = subst P (sym e) a
 of_width P a b c d w (inr (inl e)) = subst P (sym e) b
@@ -77,7 +77,7 @@ lands p = of_width (λ w. (p + padding w p) % w ≡ 0) (at_one 1 (omega arith)) 
 more_cells : (n w : ℕ) → IsWidth w → w + w * n ≡ w * (n + 1)
 more_cells n = of_width (λ w. w + w * n ≡ w * (n + 1)) (omega arith) (omega arith) (omega arith) (omega arith)
 
--- ---- the same number of bytes at places that differ by a multiple of 8
+-- ---- The number of bytes is the same at offsets that differ by a multiple of 8.
 
 record Alike (f g : List ℕ → List ℕ) : Type 0 where
   adds : (a b : List ℕ) → length a % 8 ≡ length b % 8 → length (f a) + length b ≡ length (g b) + length a
@@ -154,7 +154,7 @@ arm_alike (scalars.Error z) = unit_alike 4 _ _ four
 arm_alike (scalars.Bstr t) = bstr_alike t
 arm_alike (scalars.Decimal d) = decimal_alike d
 
--- behind the padding up to a multiple of 8
+-- After the padding up to a multiple of 8.
 abbrev put_rest : ℕ → Scalar → List ℕ → List ℕ
 put_rest size v out =
     put_arm v (put_unit 4 (scalar_vt v) (put_unit 2 0 (put_unit 2 0 (put_unit 2 0 (put_unit 2 (scalar_vt v) (put_unit 4 0 (put_unit 4 size out)))))))
@@ -164,7 +164,7 @@ rest_alike size other v =
     then_alike (unit_alike 4 size other four) (then_alike (unit_alike 4 0 0 four) (then_alike (unit_alike 2 (scalar_vt v) (scalar_vt v) two)
     (then_alike (unit_alike 2 0 0 two) (then_alike (unit_alike 2 0 0 two) (then_alike (unit_alike 2 0 0 two) (then_alike (unit_alike 4 (scalar_vt v) (scalar_vt v) four) (arm_alike v)))))))
 
--- a scalar takes as many bytes wherever it stands
+-- A scalar has the same number of bytes at any offset.
 pub scalar_at_place : (v : Scalar) (out : List ℕ) → length (put_scalar v out) ≡ length out + padding 8 (length out) + scalar_len v
 unfolding scalar_len
 scalar_at_place v out =
@@ -238,7 +238,7 @@ row t w is e h (v ∷ cells) all out even =
     let others = row t w is e h cells all.1 (put_arm v out) (ap (λ (n : ℕ). n % w) place ∙ stays (length out) w is even) in
     omega (arith, place, others, more_cells (length cells) w is)
 
--- where cells without pointees end, if there are some
+-- The end of elements without pointees, if there are some.
 pub row_from : (t : VarType) (w : ℕ) → IsWidth w → element_size_of t ≡ Some w → is_pointed t ≡ false → (cells : List Scalar) → AllByRecursion (λ v. type_of v ≡ t) cells → 0 < length cells → (out : List ℕ)
     → length (put_all put_arm cells out) ≡ length out + padding w (length out) + w * length cells
 row_from t w is e h [] all some out = absurd (omega (arith, some))

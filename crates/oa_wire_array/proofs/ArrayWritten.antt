@@ -1,4 +1,4 @@
--- What is written of an array is of its form.
+-- The written bytes of an array are of its form.
 use Rattle.std.proofs.Common.{◌≡◌, ℕ, ◌*◌, ◌^◌, ◌<◌, true, List, [], ◌∷◌, map, length, Some, None, All, is_some, refl, arith}
 use Rattle.std.specs.Option.{unwrap_or}
 use Rattle.std.specs.List.{AllByRecursion}
@@ -55,7 +55,7 @@ text_writes (scalars.Bool x) e h = absurd cc
 text_writes (scalars.Error x) e h = absurd cc
 text_writes (scalars.Decimal x) e h = absurd cc
 
--- a cell of its type, and what it may be
+-- An element of its type that satisfies the invariant of scalars.
 abbrev IsCell : VarType → Scalar → Type 0
 IsCell t v = FitsType v t × IsScalar v
 
@@ -77,7 +77,7 @@ elements_writes types.Bstr cells all = pointed_writes types.Bstr text_cell_write
 elements_writes types.Variant cells all = pointed_writes types.Variant (λ v h. scalar_writes v h.1) cells all
 elements_writes t cells all = each_writes (λ v h. arm_writes v h.1) cells all
 
--- what is known of an array that a program has
+-- The invariant of arrays, for the elements.
 all_cells : (t : VarType) (cells : List Scalar) → All (λ v. FitsType v t) cells → All IsScalar cells → AllByRecursion (IsCell t) cells
 all_cells t [] f h = tt
 all_cells t (v ∷ cells) f h = (

@@ -1,4 +1,5 @@
--- Where the vt of a wireVARIANT lies that was read, what is left behind its head, and the bytes of a head that is written.
+-- The offset of the vt of a wireVARIANT that has been read, the bytes after its head, and the bytes of a head that is
+-- written.
 use Rattle.std.proofs.Common.{◌≡◌, ℕ, ◌+◌, ◌%◌, List, [], ◌++◌, length, drop, replicate, append_assoc, Some, Result, Ok, Err}
 use Rattle.std.proofs.Common.{OnOk, refl, sym, ap, ◌∙◌, arith}
 use Rattle.std.proofs.lemmas.List.{take_at, drop_at, drop-drop, length-append}
@@ -13,7 +14,7 @@ use Rattle.oa_wire_array.specs.Canon.{put_head}
 use Rattle.oa_wire_text.specs.Reading.{from_multiple}
 use Rattle.oa_wire_array.proofs.ArrayLengths.{align_len, lands, no_padding, eight}
 
--- k bytes behind another cursor
+-- The cursor is k bytes after another one.
 abbrev Behind : Cursor → ℕ → Cursor → Type 0
 Behind base k s = (s.position ≡ base.position + k) × (k + length s.rest ≡ length base.rest) × (s.rest ≡ drop k base.rest)
 

@@ -1,4 +1,4 @@
--- What is written is of the form.
+-- Written bytes are of the form.
 use Rattle.std.proofs.Common.{◌≡◌, ℕ, ◌+◌, ◌*◌, ◌/◌, ◌%◌, ◌^◌, ◌<◌, ◌≤◌, Bool, true, false, List, length, Option, Some, None, refl, sym}
 use Rattle.std.proofs.Common.{arith, ℤ}
 use Rattle.std.specs.Prelude.{FitsSigned}

@@ -1,4 +1,4 @@
--- Reading arrays as functions on lists, which say the same as their forms (proofs/ArrayLaws has the laws).
+-- Decoding arrays as functions on lists, which agree with the forms (the theorems are in proofs/ArrayLaws).
 use Rattle.std.specs.Prelude.{◌≡◌, ℕ, ◌==◌, ◌&&◌, nat_lt, nat_le, is_some, Bool, false, List, length, Option, Some}
 use Rattle.std.specs.Prelude.{None, Result, Ok, Err}
 use Rattle.std.specs.Int.{w32}
@@ -17,37 +17,42 @@ use Rattle.oa_wire_text.specs.declared.fault.StubFault.TheVariants.{BadStub, Mem
 use Rattle.oa_wire_text.specs.Reading.{blob_at}
 use Rattle.oa_wire_array.specs.Reading.{signed_at, scalar_at, arm_at}
 
--- the same as ReadsField, for what view shows of the value
+-- As `ReadsField`, with the value seen through `view`.
 abbrev pub ReadsFieldBy : {X Y : Type 0} → (X → Y) → Result X StubFault → Cursor → Option (Y × Cursor) → Type 0
 ReadsFieldBy view (Ok x) new read = read ≡ Some (view x, new)
 ReadsFieldBy view (Err BadStub) new read = read ≡ None
 ReadsFieldBy view (Err Memory) new read = Unit {0}
 
+-- Reads a bound.
 unfoldable pub bound_at : Reading Bound
 bound_at = do
   count ← unit_at 4
   lower ← signed_at 4 w32
   give (record { count = count; lower = lower })
 
+-- Reads the text after a referent; null if the referent is null.
 unfoldable pub text_cell_at : Bool → Reading Scalar
 text_cell_at is_set = do
   t ← choose is_set blob_at (give None)
   give (scalars.Bstr t)
 
+-- Reads the scalar after a referent; EMPTY if the referent is null.
 unfoldable pub variant_cell_at : Bool → Reading Scalar
 variant_cell_at is_set = choose is_set scalar_at (give scalars.Empty)
 
--- the pointee of a cell
+-- Reads the pointee of an element.
 unfoldable pub pointee_at : VarType → Bool → Reading Scalar
 pointee_at types.Bstr is_set = text_cell_at is_set
 pointee_at types.Variant is_set = variant_cell_at is_set
 pointee_at t is_set = fail
 
+-- Reads n referents, followed by their pointees.
 unfoldable pub pointed_at : VarType → ℕ → Reading (List Scalar)
 pointed_at t n = do
   flags ← many referent_at n
   map_at (pointee_at t) flags
 
+-- Reads n elements.
 unfoldable pub elements_at : VarType → ℕ → Reading (List Scalar)
 elements_at types.Bstr n = pointed_at types.Bstr n
 elements_at types.Variant n = pointed_at types.Variant n
@@ -57,11 +62,11 @@ abbrev pub is_number : Option ℕ → ℕ → Bool
 is_number None n = false
 is_number (Some m) n = m == n
 
--- whether arrays of the type have this sfType
+-- Arrays of the type have this sfType.
 abbrev pub has_sf_type : VarType → ℕ → Bool
 has_sf_type t sf = is_number (sf_type_of t) sf
 
--- whether there is an array of these bounds, and has n cells
+-- There is an array of this type and these bounds, and it has n elements.
 unfoldable pub is_count : VarType → List Bound → ℕ → Bool
 is_count t bounds n =
     is_some (sf_type_of t) && nat_lt 0 (length bounds) && nat_le (length bounds) max_dimensions
@@ -70,18 +75,20 @@ is_count t bounds n =
 abbrev pub array_of : VarType → List Bound → List Scalar → ArrayValue Scalar
 array_of t bounds cells = record { elem = t; bounds = bounds; cells = cells; locks = 0 }
 
+-- Reads the elements of an array.
 unfoldable pub cells_at : VarType → List Bound → ℕ → Reading (ArrayValue Scalar)
 cells_at t bounds size = do
   cells ← elements_at t size
   give (array_of t bounds cells)
 
+-- Reads the bounds, the maximum count of the data, and the data.
 unfoldable pub data_at : VarType → ℕ → ℕ → Reading (ArrayValue Scalar)
 data_at t dims size = do
   bounds ← many bound_at dims
   maximum ← unit_at 4
   choose ((maximum == size) && is_count t bounds size) (cells_at t bounds size) fail
 
--- behind the second referent
+-- Reads an array, after its second referent.
 unfoldable pub header_at : VarType → Reading (ArrayValue Scalar)
 header_at t = do
   maximum ← unit_at 4
@@ -94,6 +101,7 @@ header_at t = do
   _ ← unit_at 4
   choose ((maximum == dims) && nat_le dims max_dimensions && has_sf_type t sf) (data_at t dims size) fail
 
+-- Reads an array from its second referent on.
 unfoldable pub array_at : VarType → Reading (ArrayValue Scalar)
 array_at t = do
   is_set ← referent_at

@@ -1,5 +1,5 @@
--- How an array lies in bytes: wireSAFEARRAY (MS-OAUT 2.2.30.10) from its second referent on. The order of bounds and
--- cells, and that a null referent in an array of VARIANT is EMPTY, are this project's choice.
+-- The encoding of an array: wireSAFEARRAY (MS-OAUT section 2.2.30.10) from its second referent on. The order of bounds
+-- and elements, and that a null referent in an array of VARIANT is EMPTY, are this project's choice.
 use Rattle.std.specs.Prelude.{◌≡◌, ◌≤◌, Bool, true, false, List, length, Some, None, IsSome, Result, Ok, Err}
 use Rattle.std.specs.Int.{w32}
 use Rattle.oa_ndr.specs.Forms.{Form, ◌▸◌, ignored, unit, with, given, referent, each, pairwise, made}
@@ -18,47 +18,49 @@ use Rattle.oa_wire_text.specs.Texts.{pointee}
 use Rattle.oa_wire_array.specs.Scalars.{signed_unit, arm, scalar}
 use Rattle.oa_wire_text.specs.Reading.{Stretch}
 
--- cElements, lLbound
+-- A bound: cElements, lLbound.
 abbrev pub bound : Bound → Form
 bound b = unit 4 b.count ▸ signed_unit 4 w32 b.lower
 
--- what lies behind the referent of a cell: a text, or a scalar with its type
+-- The pointee of an element's referent: a text, or a scalar with its type.
 abbrev pub cell_pointee : VarType → Bool → Scalar → Form
 cell_pointee types.Bstr is_set v = made scalars.Bstr (pointee is_set) v
 cell_pointee types.Variant true v = scalar v
 cell_pointee types.Variant false v = given (v ≡ scalars.Empty)
 cell_pointee t is_set v = given ⊥
 
--- all referents first, then the pointees, in order
+-- The elements with pointees: first all referents, then the pointees, in order.
 abbrev pub pointed : VarType → List Scalar → Form
 pointed t cells = with (each referent) (λ flags. pairwise (cell_pointee t) flags cells)
 
+-- The elements of an array.
 abbrev pub elements : VarType → List Scalar → Form
 elements types.Bstr cells = pointed types.Bstr cells
 elements types.Variant cells = pointed types.Variant cells
 elements t cells = each arm cells
 
--- one cell for each index list, and no locks, which are of a session alone
+-- The array has one element for each index list, and no locks, which belong to a session.
 abbrev pub IsUnlocked : ArrayValue Scalar → Type 0
 IsUnlocked a = IsArray FitsType a × (a.locks ≡ 0)
 
--- the bounds, the maximum count of the data, the data
+-- The bounds, the maximum count of the data, and the data.
 abbrev pub dimensions : ArrayValue Scalar → Form
 dimensions a = each bound a.bounds ▸ unit 4 (length a.cells) ▸ elements a.elem a.cells
 
--- the maximum count, cDims, fFeatures, cbElements, cLocks, sfType, Size, the pointer to the data
+-- The maximum count, cDims, fFeatures, cbElements, cLocks, sfType, Size and the pointer to the data, followed by the
+-- data.
 abbrev pub header : ArrayValue Scalar → Form
 header a =
     unit 4 (length a.bounds) ▸ unit 2 (length a.bounds) ▸ ignored 2 ▸ ignored 4 ▸ ignored 4
     ▸ with (unit 4) (λ sf. given (sf_type_of a.elem ≡ Some sf) ▸ unit 4 (length a.cells) ▸ ignored 4 ▸ dimensions a)
 
--- the second referent, which is set, and what lies behind it
+-- The second referent, which is set, and the rest of the array.
 abbrev pub array : ArrayValue Scalar → Form
 array a = given (IsUnlocked a) ▸ referent true ▸ header a
 
--- What a call at a reader answers: the array of that type which the bytes that it moved past spell; BadVarType where
--- there are no arrays of the type; else BadStub where no bytes there spell one. Memory is taken only behind the numbers
--- before the bounds. At an error the reader is as it was.
+-- The result of a call on a reader is right: the array of the type that the bytes encode that it has moved past;
+-- `BadVarType` if there are no arrays of the type; otherwise `BadStub` only if no bytes at the reader encode one.
+-- `Memory` occurs only after the numbers before the bounds. After an error the reader has not moved.
 abbrev pub IsArrayFront : VarType → Result (ArrayValue Scalar) WireFault → Cursor → Cursor → Type 0
 IsArrayFront t (Ok a) old new = (a.elem ≡ t) × Stretch (array a) old new
 IsArrayFront t (Err BadStub) old new =

@@ -1,4 +1,5 @@
--- How values are written: the ignored parts and the choices of a spelling (this project's choice).
+-- The canonical encoding of scalars: the content of ignored parts, and the choices between encodings (this project's
+-- choice).
 use Rattle.std.specs.Prelude.{ℕ, ◌+◌, ◌/◌, ◌%◌, ◌^◌, Bool, if◌then◌else◌, List, [], length}
 use Rattle.std.specs.Int.{w8, w16, w32, w64, cast_unsigned}
 use Rattle.oa_model.specs.Limits.{max_text_bytes}
@@ -9,14 +10,17 @@ use Rattle.oa_variant.specs.declared.scalar.Scalar.TheVariants as scalars
 use Rattle.oa_wire_text.specs.Canon.{◌|>◌, put_bstr}
 use Rattle.oa_wire_array.specs.Scalars.{scalar_vt, sign_of}
 
+-- Appends a VARIANT_BOOL.
 abbrev pub put_truth : Bool → List ℕ → List ℕ
 put_truth b out = out |> put_unit 2 (if b then 65535 else 0)
 
+-- Appends a DECIMAL.
 abbrev pub put_decimal : DecimalValue → List ℕ → List ℕ
 put_decimal d out =
     out |> put_align 8 |> put_unit 2 0 |> put_unit 1 d.scale |> put_unit 1 (sign_of d.negative)
     |> put_unit 4 (d.magnitude / 2 ^ 64) |> put_unit 8 (d.magnitude % 2 ^ 64)
 
+-- Appends the arm of a scalar.
 abbrev pub put_arm : Scalar → List ℕ → List ℕ
 put_arm scalars.Empty out = out
 put_arm scalars.Null out = out
@@ -36,27 +40,28 @@ put_arm (scalars.Error n) out = out |> put_unit 4 n
 put_arm (scalars.Bstr t) out = out |> put_bstr t
 put_arm (scalars.Decimal d) out = out |> put_decimal d
 
--- clSize, rpcReserved, vt, three reserved numbers
+-- Appends clSize, rpcReserved, vt and three reserved numbers.
 abbrev pub put_head : ℕ → ℕ → List ℕ → List ℕ
 put_head size vt out =
     out |> put_align 8 |> put_unit 4 size |> put_unit 4 0 |> put_unit 2 vt |> put_unit 2 0 |> put_unit 2 0
     |> put_unit 2 0
 
--- with a given clSize
+-- Appends a scalar with a given clSize.
 abbrev pub put_sized : ℕ → Scalar → List ℕ → List ℕ
 put_sized size v out = out |> put_head size (scalar_vt v) |> put_unit 4 (scalar_vt v) |> put_arm v
 
--- how many bytes a scalar takes, from its first byte to the last of its pointee
+-- The number of bytes of a scalar, from its first byte to the last of its pointee.
 unfoldable pub scalar_len : Scalar → ℕ
 scalar_len v = length (put_sized 0 v [])
 
--- the most that a scalar takes: the longest text behind 36 bytes
+-- The largest number of bytes of a scalar: the longest text after 36 bytes.
 abbrev pub max_wire_scalar : ℕ
 max_wire_scalar = 36 + max_text_bytes
 
--- clSize counts them in units of 8, rounded up
+-- The value of clSize: the number of bytes in units of 8, rounded up.
 abbrev pub cl_size : Scalar → ℕ
 cl_size v = (scalar_len v + 7) / 8 % 2 ^ 32
 
+-- Appends a scalar.
 abbrev pub put_scalar : Scalar → List ℕ → List ℕ
 put_scalar v out = put_sized (cl_size v) v out

@@ -1,4 +1,4 @@
--- Reading as functions on lists, which say the same as the forms (proofs/ScalarLaws has the laws).
+-- Decoders as functions on lists, which agree with the forms (the theorems are in proofs/ScalarLaws).
 use Rattle.std.specs.Prelude.{ℕ, ℤ, ◌+◌, ◌*◌, ◌^◌, ◌==◌, nat_le, Bool, true, false, not, Option, Some, None}
 use Rattle.std.specs.Int.{Width, w8, w16, w32, w64, cast_signed}
 use Rattle.oa_ndr.specs.Reading.{Reading, ◌>>=◌, give, fail, choose, align_at, unit_at}
@@ -10,16 +10,19 @@ use Rattle.oa_variant.specs.declared.scalar.Scalar.{Scalar}
 use Rattle.oa_variant.specs.declared.scalar.Scalar.TheVariants as scalars
 use Rattle.oa_wire_text.specs.Reading.{bstr_at}
 
+-- Reads a signed number of the width w, in n bytes.
 unfoldable pub signed_at : ℕ → Width → Reading ℤ
 signed_at n w = do
   x ← unit_at n
   give (cast_signed w x)
 
+-- Reads a VARIANT_BOOL.
 unfoldable pub truth_at : Reading Bool
 truth_at = do
   x ← unit_at 2
   give (not (x == 0))
 
+-- Reads the sign of a DECIMAL.
 unfoldable pub sign_at : Reading Bool
 sign_at = do
   sign ← unit_at 1
@@ -28,6 +31,7 @@ sign_at = do
 abbrev pub the_decimal : Bool → ℕ → ℕ → ℕ → DecimalValue
 the_decimal negative scale high low = record { negative = negative; scale = scale; magnitude = high * 2 ^ 64 + low }
 
+-- Reads a DECIMAL.
 unfoldable pub decimal_at : Reading DecimalValue
 decimal_at = do
   _ ← align_at 8
@@ -38,6 +42,7 @@ decimal_at = do
   low ← unit_at 8
   choose (nat_le scale 28) (give (the_decimal negative scale high low)) fail
 
+-- Reads the arm of a type.
 unfoldable pub arm_at : VarType → Reading Scalar
 arm_at types.Empty = give scalars.Empty
 arm_at types.Null = give scalars.Null
@@ -88,17 +93,18 @@ arm_at types.Decimal = do
   give (scalars.Decimal d)
 arm_at types.Variant = fail
 
--- the arm of the type with some number
+-- Reads the arm of a type; fails if there is none.
 unfoldable pub arm_of : Option VarType → Reading Scalar
 arm_of None = fail
 arm_of (Some t) = arm_at t
 
--- the union behind the number of the type
+-- Reads the union of a scalar, after its vt.
 unfoldable pub union_at : ℕ → Reading Scalar
 union_at vt = do
   discriminant ← unit_at 4
   choose (discriminant == vt) (arm_of (type_at vt)) fail
 
+-- Reads a scalar.
 unfoldable pub scalar_at : Reading Scalar
 scalar_at = do
   _ ← align_at 8

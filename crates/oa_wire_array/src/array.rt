@@ -1,4 +1,4 @@
-//! Arrays.
+//! Decodes arrays.
 
 ghost use Rattle.std.specs.Prelude.{◌≡◌, ◌*◌, ◌≤◌, ◌<◌, true, IfOk, length, nat_le};
 ghost use Rattle.oa_ndr.specs.Reading.{many, map_at, referent_at};
@@ -34,6 +34,7 @@ use oa_variant::Scalar;
 use oa_wire_text::{StubFault, read_blob};
 use std::alloc::{AllocError, Global};
 
+/// Reads a bound.
 #[tactic(auto, unfolding(oa_ndr::specs::Reading::steps, crate::specs::ArrayReading::bound_at, crate::specs::Reading::signed_at))]
 fn bound(r: &mut Ndr<'_>) -> Result<Bound, StubFault>
     ensures { ReadsField result r.new (bound_at r.old) }
@@ -43,6 +44,7 @@ fn bound(r: &mut Ndr<'_>) -> Result<Bound, StubFault>
     Ok(Bound { count, lower })
 }
 
+/// Reads `dims` bounds.
 fn bounds(alloc: Global, dims: u16, r: &mut Ndr<'_>) -> Result<Vec<Bound>, StubFault>
     ensures { ReadsFieldBy (λ v. v.items) result r.new (many bound_at dims r.old) }
 {
@@ -54,7 +56,7 @@ fn bounds(alloc: Global, dims: u16, r: &mut Ndr<'_>) -> Result<Vec<Bound>, StubF
     Ok(all)
 }
 
-/// Which referents of the cells are set.
+/// Reads `count` referents and returns which are set.
 fn flags(alloc: Global, count: u32, r: &mut Ndr<'_>) -> Result<Vec<bool>, StubFault>
     ensures { ReadsFieldBy (λ v. v.items) result r.new (many referent_at count r.old) }
 {
@@ -66,7 +68,7 @@ fn flags(alloc: Global, count: u32, r: &mut Ndr<'_>) -> Result<Vec<bool>, StubFa
     Ok(all)
 }
 
-/// Cells to be filled.
+/// Makes `count` elements, to be replaced.
 fn blank(alloc: Global, count: usize) -> Result<Cells<Scalar>, AllocError>
     ensures { IfOk result (λ cells. length cells ≡ count) }
 {
@@ -77,6 +79,7 @@ fn blank(alloc: Global, count: usize) -> Result<Cells<Scalar>, AllocError>
     )
 }
 
+/// Reads the text after a referent; null if the referent is null.
 #[tactic(auto, unfolding(oa_ndr::specs::Reading::steps, crate::specs::ArrayReading::text_cell_at))]
 fn text_cell(alloc: Global, is_set: bool, r: &mut Ndr<'_>) -> Result<Scalar, StubFault>
     ensures { ReadsField result r.new (text_cell_at is_set r.old) }
@@ -87,6 +90,7 @@ fn text_cell(alloc: Global, is_set: bool, r: &mut Ndr<'_>) -> Result<Scalar, Stu
     Ok(Scalar::Bstr(Bstr::null()))
 }
 
+/// Reads the scalar after a referent; EMPTY if the referent is null.
 #[tactic(auto, unfolding(oa_ndr::specs::Reading::steps, crate::specs::ArrayReading::variant_cell_at))]
 fn variant_cell(alloc: Global, is_set: bool, r: &mut Ndr<'_>) -> Result<Scalar, StubFault>
     ensures { ReadsField result r.new (variant_cell_at is_set r.old) }
@@ -97,7 +101,7 @@ fn variant_cell(alloc: Global, is_set: bool, r: &mut Ndr<'_>) -> Result<Scalar, 
     Ok(Scalar::Empty)
 }
 
-/// What lies behind the referent of a cell.
+/// Reads the pointee of an element's referent.
 #[tactic(auto, unfolding(oa_ndr::specs::Reading::fail, crate::specs::ArrayReading::pointee_at))]
 fn pointee(alloc: Global, elem: VarType, is_set: bool, r: &mut Ndr<'_>) -> Result<Scalar, StubFault>
     ensures { ReadsField result r.new (pointee_at elem is_set r.old) }
@@ -109,7 +113,7 @@ fn pointee(alloc: Global, elem: VarType, is_set: bool, r: &mut Ndr<'_>) -> Resul
     }
 }
 
-/// The pointees, one for each referent.
+/// Reads the pointees, one for each referent.
 #[tactic(auto, using(crate::proofs::Loops::map_full, crate::proofs::Loops::map_put, crate::proofs::Loops::map_err))]
 fn pointees(
     alloc: Global,
@@ -127,7 +131,7 @@ fn pointees(
     Ok(cells)
 }
 
-/// Whether as many bytes are left as so many cells without pointees take at least.
+/// Returns whether at least as many bytes are left as `count` elements without pointees need.
 fn are_there(elem: VarType, count: u32, r: &Ndr<'_>) -> bool
     ensures { result ≡ nat_le (count * plain_width elem) (length r.now.rest) }
 {
@@ -139,7 +143,7 @@ fn are_there(elem: VarType, count: u32, r: &Ndr<'_>) -> bool
     count as u64 * width as u64 <= r.rest().len() as u64
 }
 
-/// Cells without pointees. No block is asked for where the bytes are not there.
+/// Reads elements without pointees. Allocates nothing if the bytes are not there.
 #[tactic(auto, using(crate::proofs::Loops::cells_full, crate::proofs::Loops::cells_put, crate::proofs::Loops::cells_err))]
 fn plain(
     alloc: Global,
@@ -160,7 +164,7 @@ fn plain(
     Ok(cells)
 }
 
-/// All referents first, then the pointees.
+/// Reads elements with pointees: first all referents, then the pointees.
 #[tactic(auto, unfolding(oa_ndr::specs::Reading::bind, crate::specs::ArrayReading::pointed_at))]
 fn pointed(
     alloc: Global,
@@ -174,6 +178,7 @@ fn pointed(
     pointees(alloc, elem, &flags, r)
 }
 
+/// Reads the elements of an array.
 #[tactic(auto, unfolding(crate::specs::ArrayReading::elements_at))]
 fn elements(
     alloc: Global,
@@ -189,14 +194,14 @@ fn elements(
     }
 }
 
-/// Whether arrays of the type have this sfType.
+/// Returns whether arrays of the type have this sfType.
 fn has_sf_type(elem: VarType, sf_type: u32) -> bool
     ensures { result ≡ has_sf_type elem sf_type }
 {
     elem.sf_type() == Some(sf_type)
 }
 
-/// Whether there is an array of these bounds, and has this number of cells.
+/// Returns whether there is an array of this type and these bounds, and it has `count` elements.
 fn is_count(elem: VarType, bounds: &[Bound], count: u32) -> bool
     ensures { result ≡ is_count elem bounds.now count }
 {
@@ -206,6 +211,7 @@ fn is_count(elem: VarType, bounds: &[Bound], count: u32) -> bool
     }
 }
 
+/// Reads the elements and makes the array.
 #[tactic(auto, unfolding(oa_ndr::specs::Reading::steps, crate::specs::ArrayReading::cells_at))]
 fn cells(
     alloc: Global,
@@ -222,7 +228,7 @@ fn cells(
     Ok(array)
 }
 
-/// The bounds, the maximum count of the data, the data.
+/// Reads the bounds, the maximum count of the data, and the data.
 #[tactic(auto, unfolding(oa_ndr::specs::Reading::steps, crate::specs::ArrayReading::data_at))]
 fn data(
     alloc: Global,
@@ -241,7 +247,7 @@ fn data(
     Err(StubFault::BadStub)
 }
 
-/// The maximum count, cDims, fFeatures, cbElements, cLocks, sfType, Size and the pointer, with what lies behind them.
+/// Reads the maximum count, cDims, fFeatures, cbElements, cLocks, sfType, Size and the pointer, with its pointee.
 #[tactic(auto, unfolding(oa_ndr::specs::Reading::steps, crate::specs::ArrayReading::header_at))]
 fn header(alloc: Global, elem: VarType, r: &mut Ndr<'_>) -> Result<SafeArray<Scalar>, StubFault>
     ensures value { ReadsField result r.new (header_at elem r.old) }
@@ -261,6 +267,7 @@ fn header(alloc: Global, elem: VarType, r: &mut Ndr<'_>) -> Result<SafeArray<Sca
     Err(StubFault::BadStub)
 }
 
+/// Reads an array from its second referent on; after an error the reader may have moved.
 #[tactic(auto, unfolding(oa_ndr::specs::Reading::steps, crate::specs::ArrayReading::array_at))]
 fn array(alloc: Global, elem: VarType, r: &mut Ndr<'_>) -> Result<SafeArray<Scalar>, StubFault>
     ensures value { ReadsField result r.new (array_at elem r.old) }
@@ -272,15 +279,16 @@ fn array(alloc: Global, elem: VarType, r: &mut Ndr<'_>) -> Result<SafeArray<Scal
     Err(StubFault::BadStub)
 }
 
-/// Reads an array with cells of a type from the second of its two referents on, with all that it
-/// points to (wireSAFEARRAY, MS-OAUT 2.2.30.10). fFeatures, cbElements, cLocks and the pointer's value
-/// are not looked at; a null referent in an array of VARIANT is EMPTY. The array has no locks.
+/// Reads an array of elements of the type `elem`, from the second of its two referents on, with all its pointees (wireSAFEARRAY, MS-OAUT
+/// section 2.2.30.10). fFeatures, cbElements, cLocks and the value of the pointer are ignored. A null referent in an array of VARIANT is
+/// EMPTY. The array has no locks. After an error the reader has not moved.
 ///
-/// `BadVarType` exactly where there are no arrays of the type (EMPTY, NULL, ERROR and DECIMAL), else
-/// `BadStub` where no bytes from the reader on spell one: among others where the referent is null,
-/// cDims is not its maximum count or not 1 to 16, sfType is not that of the type, or Size or the
-/// maximum count of the data is not the product of the counts or is above 65,536. `Memory` only
-/// where 32 bytes are there, all before the bounds. At an error the reader is as it was.
+/// Errors:
+/// - `BadVarType`: there are no arrays of the type (EMPTY, NULL, ERROR and DECIMAL).
+/// - `BadStub`: otherwise, no bytes from the reader on encode such an array. For example, the referent is null, cDims is not its maximum
+///   count or not 1 to 16, sfType is not that of the type, or Size or the maximum count of the data is not the product of the counts or is
+///   above 65,536.
+/// - `Memory`: an allocation fails. This occurs only if the 32 bytes before the bounds are there.
 pub fn read_array(
     alloc: Global,
     r: &mut Ndr<'_>,

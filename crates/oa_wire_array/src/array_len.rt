@@ -1,4 +1,4 @@
-//! Where arrays end when they are written.
+//! The length of encoded arrays, computed without encoding them.
 
 ghost use Rattle.std.specs.Prelude.{◌≡◌, ◌≤◌, ◌<◌, ◌+◌, ◌*◌, ◌%◌, ◌^◌, All, length, List, ℕ};
 ghost use Rattle.oa_ndr.specs.Forms.{padding};
@@ -16,7 +16,7 @@ use oa_array::SafeArray;
 use oa_model::VarType;
 use oa_variant::Scalar;
 
-/// The next multiple of n.
+/// Returns the next multiple of n.
 fn aligned(n: usize, place: usize) -> usize
     requires above { 0 < n }
     requires small { n ≤ 16 }
@@ -28,7 +28,7 @@ fn aligned(n: usize, place: usize) -> usize
     if over == 0 { place } else { place + n - over }
 }
 
-/// Where the text of a cell ends; a null text takes nothing.
+/// Returns the end of the text of an element; a null text needs no bytes.
 fn text_end(cell: &Scalar, place: usize) -> usize
     requires { place < 2 ^ 59 }
     ensures value { (out : List ℕ) → length out ≡ place → length (put_text (text_of cell.now) out) ≡ result }
@@ -46,7 +46,7 @@ fn text_end(cell: &Scalar, place: usize) -> usize
     }
 }
 
-/// Where the pointee of a cell ends.
+/// Returns the end of the pointee of an element.
 fn pointee_end(elem: VarType, cell: &Scalar, place: usize) -> usize
     requires { place < 2 ^ 59 }
     ensures value { (out : List ℕ) → length out ≡ place → length (put_pointee elem cell.now out) ≡ result }
@@ -58,6 +58,7 @@ fn pointee_end(elem: VarType, cell: &Scalar, place: usize) -> usize
     }
 }
 
+/// Returns the end of the pointees of elements.
 fn pointees_end(elem: VarType, cells: &[Scalar], place: usize) -> usize
     requires few { length cells.now ≤ max_cells }
     requires room { place < 2 ^ 58 }
@@ -71,14 +72,14 @@ fn pointees_end(elem: VarType, cells: &[Scalar], place: usize) -> usize
     end
 }
 
-/// Whether the cells of a type have referents and pointees.
+/// Returns whether the elements of a type have referents and pointees.
 pub(crate) fn is_pointed(elem: VarType) -> bool
     ensures { result ≡ is_pointed elem }
 {
     matches!(elem, VarType::Bstr | VarType::Variant)
 }
 
-/// The bytes of a cell without a pointee.
+/// Returns the number of bytes of an element without a pointee.
 fn plain_len(elem: VarType) -> usize
     requires plain { is_pointed elem ≡ false }
     requires typed { IsSome (sf_type_of elem) }
@@ -90,7 +91,7 @@ fn plain_len(elem: VarType) -> usize
     elem.element_size().unwrap_or(0) as usize
 }
 
-/// Where cells without pointees end.
+/// Returns the end of elements without pointees.
 fn plain_end(elem: VarType, cells: &[Scalar], place: usize) -> usize
     requires plain { is_pointed elem ≡ false }
     requires typed { IsSome (sf_type_of elem) }
@@ -108,6 +109,7 @@ fn plain_end(elem: VarType, cells: &[Scalar], place: usize) -> usize
     aligned(width, place) + width * count
 }
 
+/// Returns the end of the elements of an array.
 fn elements_end(elem: VarType, cells: &[Scalar], place: usize) -> usize
     requires typed { IsSome (sf_type_of elem) }
     requires fits { All (λ cell. FitsType cell elem) cells.now }
@@ -123,9 +125,8 @@ fn elements_end(elem: VarType, cells: &[Scalar], place: usize) -> usize
     plain_end(elem, cells, place)
 }
 
-/// Where an array ends that `write_array` writes from a place on, in bytes from the field's first.
-///
-/// The place is a multiple of 4, as that of a referent is.
+/// Returns the end of an array that `write_array` writes from the offset `place` on. Both are offsets in bytes from the first byte of the
+/// field. `place` is a multiple of 4, as that of a referent is, and at most 64.
 pub fn array_end(array: &SafeArray<Scalar>, place: usize) -> usize
     requires place { place % 4 ≡ 0 }
     requires small { place ≤ 64 }

@@ -1,4 +1,4 @@
-//! Arrays as they are written.
+//! Encodes arrays.
 
 ghost use Rattle.std.specs.Prelude.{◌≡◌, ◌<◌, ◌*◌, OnOk, OnErr};
 ghost use Rattle.oa_ndr.specs.Writing.{TakesNothingBack, in_field, put_all};
@@ -26,6 +26,7 @@ use oa_variant::Scalar;
 use oa_wire_text::add_blob;
 use std::alloc::AllocError;
 
+/// Writes a bound.
 fn write_bound(out: &mut NdrOut, bound: Bound) -> Result<(), AllocError>
     ensures ok { OnOk result (out.new ≡ in_field (put_bound bound) out.old) }
     ensures kept { TakesNothingBack out.old out.new }
@@ -34,6 +35,7 @@ fn write_bound(out: &mut NdrOut, bound: Bound) -> Result<(), AllocError>
     out.u32(bound.lower.cast_unsigned())
 }
 
+/// Writes the bounds.
 fn write_bounds(out: &mut NdrOut, bounds: &[Bound]) -> Result<(), AllocError>
     ensures ok { OnOk result (out.new ≡ in_field (put_all put_bound bounds.now) out.old) }
     ensures kept { TakesNothingBack out.old out.new }
@@ -44,7 +46,7 @@ fn write_bounds(out: &mut NdrOut, bounds: &[Bound]) -> Result<(), AllocError>
     Ok(())
 }
 
-/// Cells without pointees.
+/// Writes elements without pointees.
 fn write_plain(out: &mut NdrOut, cells: &[Scalar]) -> Result<(), AllocError>
     ensures ok { OnOk result (out.new ≡ in_field (put_all put_arm cells.now) out.old) }
     ensures kept { TakesNothingBack out.old out.new }
@@ -55,7 +57,7 @@ fn write_plain(out: &mut NdrOut, cells: &[Scalar]) -> Result<(), AllocError>
     Ok(())
 }
 
-/// Whether the referent of a cell is set.
+/// Returns whether the referent of an element is set.
 fn has_pointee(elem: VarType, cell: &Scalar) -> bool
     ensures { result ≡ has_pointee elem cell.now }
 {
@@ -66,6 +68,7 @@ fn has_pointee(elem: VarType, cell: &Scalar) -> bool
     }
 }
 
+/// Writes the referents of elements.
 fn write_referents(out: &mut NdrOut, elem: VarType, cells: &[Scalar]) -> Result<(), AllocError>
     ensures ok { OnOk result (out.new ≡ in_field (put_all (put_cell_referent elem) cells.now) out.old) }
     ensures kept { TakesNothingBack out.old out.new }
@@ -76,7 +79,7 @@ fn write_referents(out: &mut NdrOut, elem: VarType, cells: &[Scalar]) -> Result<
     Ok(())
 }
 
-/// The text of a cell, where it is not null.
+/// Writes the text of an element, unless it is null.
 fn write_cell_text(out: &mut NdrOut, cell: &Scalar) -> Result<(), AllocError>
     ensures ok { OnOk result (out.new ≡ in_field (put_text (text_of cell.now)) out.old) }
     ensures kept { TakesNothingBack out.old out.new }
@@ -92,6 +95,7 @@ fn write_cell_text(out: &mut NdrOut, cell: &Scalar) -> Result<(), AllocError>
     }
 }
 
+/// Writes the pointee of an element.
 fn write_pointee(out: &mut NdrOut, elem: VarType, cell: &Scalar) -> Result<(), AllocError>
     ensures ok { OnOk result (out.new ≡ in_field (put_pointee elem cell.now) out.old) }
     ensures kept { TakesNothingBack out.old out.new }
@@ -102,6 +106,7 @@ fn write_pointee(out: &mut NdrOut, elem: VarType, cell: &Scalar) -> Result<(), A
     }
 }
 
+/// Writes the pointees of elements.
 fn write_pointees(out: &mut NdrOut, elem: VarType, cells: &[Scalar]) -> Result<(), AllocError>
     ensures ok { OnOk result (out.new ≡ in_field (put_all (put_pointee elem) cells.now) out.old) }
     ensures kept { TakesNothingBack out.old out.new }
@@ -112,7 +117,7 @@ fn write_pointees(out: &mut NdrOut, elem: VarType, cells: &[Scalar]) -> Result<(
     Ok(())
 }
 
-/// All referents first, then the pointees.
+/// Writes elements with pointees: first all referents, then the pointees.
 fn write_pointed(out: &mut NdrOut, elem: VarType, cells: &[Scalar]) -> Result<(), AllocError>
     ensures ok { OnOk result (out.new ≡ in_field (put_pointed elem cells.now) out.old) }
     ensures kept { TakesNothingBack out.old out.new }
@@ -121,6 +126,7 @@ fn write_pointed(out: &mut NdrOut, elem: VarType, cells: &[Scalar]) -> Result<()
     write_pointees(out, elem, cells)
 }
 
+/// Writes the elements of an array.
 fn write_elements(out: &mut NdrOut, elem: VarType, cells: &[Scalar]) -> Result<(), AllocError>
     ensures ok { OnOk result (out.new ≡ in_field (put_elements elem cells.now) out.old) }
     ensures kept { TakesNothingBack out.old out.new }
@@ -131,7 +137,7 @@ fn write_elements(out: &mut NdrOut, elem: VarType, cells: &[Scalar]) -> Result<(
     }
 }
 
-/// fFeatures.
+/// Returns fFeatures for an array of this type.
 fn features_of(elem: VarType) -> u16
     ensures { result ≡ features_of elem }
 {
@@ -142,7 +148,7 @@ fn features_of(elem: VarType) -> u16
     }
 }
 
-/// The second referent, the maximum count, cDims, fFeatures, cbElements.
+/// Writes the second referent, the maximum count, cDims, fFeatures and cbElements.
 fn write_shape(out: &mut NdrOut, elem: VarType, dims: u16) -> Result<(), AllocError>
     ensures ok { OnOk result (out.new ≡ in_field (put_shape elem dims) out.old) }
     ensures kept { TakesNothingBack out.old out.new }
@@ -154,7 +160,7 @@ fn write_shape(out: &mut NdrOut, elem: VarType, dims: u16) -> Result<(), AllocEr
     out.u32(elem.element_size().unwrap_or(0))
 }
 
-/// cLocks, sfType, Size, the pointer.
+/// Writes cLocks, sfType, Size and the pointer.
 fn write_size(out: &mut NdrOut, elem: VarType, count: u32) -> Result<(), AllocError>
     ensures ok { OnOk result (out.new ≡ in_field (put_size elem count) out.old) }
     ensures kept { TakesNothingBack out.old out.new }
@@ -165,7 +171,7 @@ fn write_size(out: &mut NdrOut, elem: VarType, count: u32) -> Result<(), AllocEr
     out.referent(true)
 }
 
-/// The same as `write_array`, but where memory is refused a part of it may stay.
+/// As `write_array`, but if an allocation fails, a part of the array may have been written.
 #[tactic(auto, unfolding(crate::specs::ArrayCanon::put_array))]
 fn add_array(out: &mut NdrOut, array: &SafeArray<Scalar>) -> Result<(), AllocError>
     ensures ok { OnOk result (out.new ≡ in_field (put_array array.now) out.old) }
@@ -181,12 +187,9 @@ fn add_array(out: &mut NdrOut, array: &SafeArray<Scalar>) -> Result<(), AllocErr
     write_elements(out, elem, cells)
 }
 
-/// Writes an array from the second of its two referents on, with all that it points to (see
-/// `read_array`): fFeatures 0x80, with 0x100 for BSTR and 0x800 for VARIANT; cbElements as in a
-/// 32-bit process; the vt of the cells in the high half of cLocks; a null text as a null referent.
-/// Locks are not written.
-///
-/// Where memory is refused, the output is as it was.
+/// Writes an array from the second of its two referents on, with all its pointees (see `read_array`): fFeatures is 0x80, with 0x100 added
+/// for BSTR and 0x800 for VARIANT; cbElements is that of a 32-bit process; the high half of cLocks is the vt of the elements; a null text
+/// is a null referent. Locks are not written. Err: an allocation fails; the output is unchanged.
 pub fn write_array(out: &mut NdrOut, array: &SafeArray<Scalar>) -> Result<(), AllocError>
     ensures ok { OnOk result (out.new ≡ in_field (put_array array.now) out.old) }
     ensures err { OnErr result (out.new ≡ out.old) }

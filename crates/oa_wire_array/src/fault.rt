@@ -1,18 +1,18 @@
-//! Why a field is no value.
+//! Why a field is not decoded.
 
 use thiserror::Error;
 
-/// Why a field, or an array in it, was not read.
+/// Why a field, or an array in it, is not decoded.
 #[derive(Clone, Copy, Debug, PartialEq, Eq, Error)]
 pub enum WireFault {
-    /// The bytes spell no value, for another reason than that of `BadVarType`.
+    /// The bytes encode no value, for another reason than that of `BadVarType`.
     #[error("bad stub data")]
     BadStub,
-    /// Of a field: the bytes spell no value, are at least 20, and the vt at the offset 8 is that of no value. Of an array: there are none
-    /// of its type.
+    /// Of a field: the bytes encode no value, are at least 20, and no value has the vt at offset 8. Of an array: there are no arrays of its
+    /// type.
     #[error("bad variable type")]
     BadVarType,
-    /// The allocator had no block for the value.
+    /// The allocation of the value fails.
     #[error("out of memory")]
     Memory,
 }

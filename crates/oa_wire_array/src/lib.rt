@@ -1,10 +1,10 @@
-//! Scalars and arrays as parts of a field (MS-OAUT 2.2.29, 2.2.30) over NDR.
+//! Scalars and arrays as parts of a field (MS-OAUT sections 2.2.29 and 2.2.30) with the alignment of NDR.
 //!
-//! Its contract: `read_scalar`, `read_union` and `read_array` answer a value whose form the bytes are,
-//! and a fault exactly where they are of none; the writers add the one writing. Texts are read and
-//! written by the calls of oa_wire_text that are given here too.
+//! Contract: `read_scalar`, `read_union` and `read_array` return the value that the bytes encode, or an error if and only if they encode
+//! none or memory runs out. The writing functions append the one canonical encoding. Texts are read and written by the functions of
+//! oa_wire_text that this crate re-exports.
 //!
-//! What stands on it: oa_wire_variant, and oa_record for elements.
+//! Used by oa_wire_variant, and by oa_record for the fields of scalars.
 #![tactic(auto)]
 
 mod array;

@@ -1,4 +1,4 @@
-//! Scalars.
+//! Decodes and encodes scalars.
 
 ghost use Rattle.std.specs.Prelude.{◌≡◌, ◌≤◌, ◌<◌, [], OnOk, OnErr, length};
 ghost use Rattle.oa_model.specs.declared.var_type.VarType.TheVariants as types;
@@ -14,6 +14,7 @@ use oa_variant::{Decimal, Scalar};
 use oa_wire_text::{StubFault, read_bstr, write_bstr};
 use std::alloc::{AllocError, Global};
 
+/// Reads the sign of a DECIMAL.
 #[tactic(auto, unfolding(oa_ndr::specs::Reading::steps, crate::specs::Reading::sign_at))]
 fn sign(r: &mut Ndr<'_>) -> Result<bool, StubFault>
     ensures value { ReadsField result r.new (sign_at r.old) }
@@ -26,6 +27,7 @@ fn sign(r: &mut Ndr<'_>) -> Result<bool, StubFault>
     }
 }
 
+/// Reads a DECIMAL.
 #[tactic(auto, unfolding(oa_ndr::specs::Reading::steps, crate::specs::Reading::decimal_at))]
 fn decimal(r: &mut Ndr<'_>) -> Result<Decimal, StubFault>
     ensures value { ReadsField result r.new (decimal_at r.old) }
@@ -44,7 +46,7 @@ fn decimal(r: &mut Ndr<'_>) -> Result<Decimal, StubFault>
     Ok(Decimal::new(negative, scale, magnitude))
 }
 
-/// The arm of a type.
+/// Reads the arm of a type.
 #[tactic(auto, unfolding(oa_ndr::specs::Reading::steps, crate::specs::Reading::arm_at, crate::specs::Reading::signed_at, crate::specs::Reading::truth_at))]
 pub(crate) fn arm(alloc: Global, var_type: VarType, r: &mut Ndr<'_>) -> Result<Scalar, StubFault>
     ensures value { ReadsField result r.new (arm_at var_type r.old) }
@@ -72,6 +74,7 @@ pub(crate) fn arm(alloc: Global, var_type: VarType, r: &mut Ndr<'_>) -> Result<S
     })
 }
 
+/// Reads a union, as `read_union` does, but after an error the reader may have moved.
 #[tactic(auto, unfolding(oa_ndr::specs::Reading::steps, crate::specs::Reading::arm_of, crate::specs::Reading::union_at))]
 fn union(alloc: Global, vt: u16, r: &mut Ndr<'_>) -> Result<Scalar, StubFault>
     ensures value { ReadsField result r.new (union_at vt r.old) }
@@ -87,11 +90,11 @@ fn union(alloc: Global, vt: u16, r: &mut Ndr<'_>) -> Result<Scalar, StubFault>
     }
 }
 
-/// Reads the union of a wireVARIANT without VT_ARRAY (MS-OAUT 2.2.29.1), of which the vt was read
-/// before: the discriminant, which must be that vt, and the arm with its pointee.
+/// Reads the union of a wireVARIANT without VT_ARRAY (MS-OAUT section 2.2.29.1), whose vt has been read before: the discriminant, which
+/// must be that vt, and the arm with its pointee. After an error the reader has not moved.
 ///
-/// `BadStub` where no bytes from the reader on are those of a scalar with that vt. `Memory` only for a
-/// BSTR, where the 20 bytes before a text are there. At an error the reader is as it was.
+/// Errors: `BadStub` if no bytes from the reader on are those of a scalar with that vt; `Memory` if the allocation of a BSTR fails, which
+/// occurs only if the 20 bytes before a text are there.
 pub fn read_union(alloc: Global, vt: u16, r: &mut Ndr<'_>) -> Result<Scalar, StubFault>
     ensures exact { IsFront (union_of vt) result r.old r.new }
     ensures memory { OnMemory result ((vt ≡ 8) × (20 ≤ length r.old.rest)) }
@@ -104,7 +107,7 @@ pub fn read_union(alloc: Global, vt: u16, r: &mut Ndr<'_>) -> Result<Scalar, Stu
     answer
 }
 
-/// The same as `read_scalar`, but at a fault the reader may have moved.
+/// As `read_scalar`, but after an error the reader may have moved.
 #[tactic(auto, unfolding(oa_ndr::specs::Reading::bind, crate::specs::Reading::scalar_at))]
 pub(crate) fn scalar(alloc: Global, r: &mut Ndr<'_>) -> Result<Scalar, StubFault>
     ensures value { ReadsField result r.new (scalar_at r.old) }
@@ -120,12 +123,11 @@ pub(crate) fn scalar(alloc: Global, r: &mut Ndr<'_>) -> Result<Scalar, StubFault
     union(alloc, vt, r)
 }
 
-/// Reads a wireVARIANT without VT_ARRAY at the next multiple of 8, with its pointee (MS-OAUT 2.2.29):
-/// clSize at its first byte, vt at 8, the discriminant at 16, the arm from 20 on. clSize and reserved
-/// numbers are not looked at.
+/// Reads a wireVARIANT without VT_ARRAY at the next multiple of 8, with its pointee (MS-OAUT section 2.2.29): clSize at its first byte, vt
+/// at 8, the discriminant at 16, the arm from 20 on. clSize and reserved numbers are ignored. After an error the reader has not moved.
 ///
-/// `BadStub` where no bytes from the reader on spell a scalar. `Memory` only where the vt is that of BSTR
-/// and the 36 bytes before a text are there. At an error the reader is as it was.
+/// Errors: `BadStub` if no bytes from the reader on encode a scalar; `Memory` if the allocation of a BSTR fails, which occurs only if the
+/// 36 bytes before a text are there.
 pub fn read_scalar(alloc: Global, r: &mut Ndr<'_>) -> Result<Scalar, StubFault>
     ensures exact { IsFront scalar result r.old r.new }
     ensures memory { OnMemory result (TakesText (from_multiple 8 r.old)) }
@@ -138,6 +140,7 @@ pub fn read_scalar(alloc: Global, r: &mut Ndr<'_>) -> Result<Scalar, StubFault>
     answer
 }
 
+/// Writes a VARIANT_BOOL.
 fn write_truth(out: &mut NdrOut, truth: bool) -> Result<(), AllocError>
     ensures ok { OnOk result (out.new ≡ in_field (put_truth truth) out.old) }
     ensures kept { TakesNothingBack out.old out.new }
@@ -145,6 +148,7 @@ fn write_truth(out: &mut NdrOut, truth: bool) -> Result<(), AllocError>
     out.u16(if truth { 0xFFFF } else { 0 })
 }
 
+/// Writes a DECIMAL.
 fn write_decimal(out: &mut NdrOut, decimal: &Decimal) -> Result<(), AllocError>
     ensures ok { OnOk result (out.new ≡ in_field (put_decimal decimal.now) out.old) }
     ensures kept { TakesNothingBack out.old out.new }
@@ -158,6 +162,7 @@ fn write_decimal(out: &mut NdrOut, decimal: &Decimal) -> Result<(), AllocError>
     out.u64((magnitude % 0x1_0000_0000_0000_0000) as u64)
 }
 
+/// Writes the arm of a scalar.
 pub(crate) fn write_arm(out: &mut NdrOut, value: &Scalar) -> Result<(), AllocError>
     ensures ok { OnOk result (out.new ≡ in_field (put_arm value.now) out.old) }
     ensures kept { TakesNothingBack out.old out.new }
@@ -183,7 +188,7 @@ pub(crate) fn write_arm(out: &mut NdrOut, value: &Scalar) -> Result<(), AllocErr
     }
 }
 
-/// The bytes of a head at a multiple of 8. They are laid out at once, since a scalar is mostly head.
+/// Returns the bytes of a head at a multiple of 8. They are made at once, since a head is most of a scalar.
 fn head_bytes(size: u32, vt: u16) -> [u8; 16]
     ensures { result ≡ put_head size vt [] }
 {
@@ -192,7 +197,7 @@ fn head_bytes(size: u32, vt: u16) -> [u8; 16]
     [a, b, c, d, 0, 0, 0, 0, e, f, 0, 0, 0, 0, 0, 0]
 }
 
-/// The same as `write_head`, but where memory is refused a part of it may stay.
+/// As `write_head`, but if an allocation fails, a part of the head may have been written.
 fn add_head(out: &mut NdrOut, size: u32, vt: u16) -> Result<(), AllocError>
     ensures ok { OnOk result (out.new ≡ in_field (put_head size vt) out.old) }
     ensures kept { TakesNothingBack out.old out.new }
@@ -201,10 +206,8 @@ fn add_head(out: &mut NdrOut, size: u32, vt: u16) -> Result<(), AllocError>
     out.bytes(&head_bytes(size, vt))
 }
 
-/// Writes what a wireVARIANT (MS-OAUT 2.2.29) begins with, at the next multiple of 8: clSize,
-/// rpcReserved, vt and three reserved numbers.
-///
-/// Where memory is refused, the output is as it was.
+/// Writes the start of a wireVARIANT (MS-OAUT section 2.2.29) at the next multiple of 8: clSize, rpcReserved, vt and three reserved
+/// numbers. Err: an allocation fails; the output is unchanged.
 pub fn write_head(out: &mut NdrOut, size: u32, vt: u16) -> Result<(), AllocError>
     ensures ok { OnOk result (out.new ≡ in_field (put_head size vt) out.old) }
     ensures err { OnErr result (out.new ≡ out.old) }
@@ -217,6 +220,7 @@ pub fn write_head(out: &mut NdrOut, size: u32, vt: u16) -> Result<(), AllocError
     Ok(())
 }
 
+/// Writes a scalar with a given clSize.
 fn write_sized(out: &mut NdrOut, size: u32, value: &Scalar) -> Result<(), AllocError>
     ensures ok { OnOk result (out.new ≡ in_field (put_sized size value.now) out.old) }
     ensures kept { TakesNothingBack out.old out.new }
@@ -227,8 +231,7 @@ fn write_sized(out: &mut NdrOut, size: u32, value: &Scalar) -> Result<(), AllocE
     write_arm(out, value)
 }
 
-/// How many bytes `write_scalar` adds at a multiple of 8, from the first of clSize to the last of the
-/// pointee.
+/// Returns the number of bytes that `write_scalar` writes at a multiple of 8, from the first of clSize to the last of the pointee.
 #[tactic(auto, unfolding(crate::specs::Canon::scalar_len))]
 pub fn scalar_len(value: &Scalar) -> usize
     ensures value { result ≡ scalar_len value.now }
@@ -251,7 +254,7 @@ pub fn scalar_len(value: &Scalar) -> usize
     }
 }
 
-/// The same as `write_scalar`, but where memory is refused a part of it may stay.
+/// As `write_scalar`, but if an allocation fails, a part of the scalar may have been written.
 pub(crate) fn add_scalar(out: &mut NdrOut, value: &Scalar) -> Result<(), AllocError>
     ensures ok { OnOk result (out.new ≡ in_field (put_scalar value.now) out.old) }
     ensures kept { TakesNothingBack out.old out.new }
@@ -260,10 +263,8 @@ pub(crate) fn add_scalar(out: &mut NdrOut, value: &Scalar) -> Result<(), AllocEr
     write_sized(out, size as u32, value)
 }
 
-/// Writes a wireVARIANT without VT_ARRAY at the next multiple of 8, with its pointee (see
-/// `read_scalar`). clSize is the number of its bytes, in units of 8, rounded up.
-///
-/// Where memory is refused, the output is as it was.
+/// Writes a wireVARIANT without VT_ARRAY at the next multiple of 8, with its pointee (see `read_scalar`). clSize is the number of its bytes
+/// in units of 8, rounded up. Err: an allocation fails; the output is unchanged.
 pub fn write_scalar(out: &mut NdrOut, value: &Scalar) -> Result<(), AllocError>
     ensures ok { OnOk result (out.new ≡ in_field (put_scalar value.now) out.old) }
     ensures err { OnErr result (out.new ≡ out.old) }

@@ -1,4 +1,4 @@
--- What a call at a reader answers, from the law of what it reads.
+-- The result of a call on a reader, from the theorem about its decoder.
 use Rattle.std.proofs.Common.{◌≡◌, true, false, ◌+◌, ◌++◌, length, List, ℕ, Option, Some, None, Result, Ok, Err, refl, sym, ap, ◌∙◌}
 use Rattle.std.specs.Result.{is_ok}
 use Rattle.oa_ndr.specs.Reading.{Cursor, at, Reading}
@@ -10,7 +10,7 @@ use Rattle.oa_wire_text.specs.Reading.{ReadsField, Stretch, IsFront}
 abbrev done : {A : Type 0} → A → Cursor → Option (A × Cursor)
 done x t = Some (x, t)
 
--- where reading takes nothing, no stretch is of the form
+-- If the decoder returns None, no bytes at the reader are of the form.
 no_front : {A : Type 0} {F : A → ℕ → List ℕ → Type 0} {read : Reading A} → Reads Always F read → (old : Cursor) → read old ≡ None → (x : A) (end : Cursor) → Stretch (F x) old end → ⊥
 no_front {A} {F} {read} r old none x end stretch =
     let again = r.again old.position stretch.text end.rest x tt stretch.form in
@@ -30,7 +30,7 @@ front_err r (Ok x) old ahead new same h e = absurd cc
 front_err {A} {F} {read} r (Err BadStub) old ahead new same h e = (no_front r old (ap read (sym same) ∙ h), refl)
 front_err r (Err Memory) old ahead new same h e = refl
 
--- the other way round: what a call answered is what reading gives
+-- Conversely, the result of a call is that of the decoder.
 pub front_answers : {A : Type 0} {F : A → ℕ → List ℕ → Type 0} {read : Reading A} → Reads Always F read
     → (result : Result A StubFault) (old new : Cursor) → IsFront F result old new → ReadsField result new (read old)
 front_answers {A} {F} {read} r (Ok x) old new h =
@@ -47,7 +47,7 @@ front_answers {A} {F} {read} r (Err BadStub) old new h = nothing_read (read old)
         absurd (h.0 y.0 y.1 (record { text = one.text; parts = one.parts; place = one.place; form = one.form }))
 front_answers r (Err Memory) old new h = tt
 
--- the same for the values of which P holds
+-- As above, for the values with the property P.
 pub front_of : {A : Type 0} {P : A → Type 0} {F : A → ℕ → List ℕ → Type 0} {read : Reading A} → Reads P F read → (old ahead new : Cursor) (x : A) → ahead ≡ old → read ahead ≡ Some (x, new) → P x × Stretch (F x) old new
 front_of {A} {P} {F} {read} r old ahead new x same h =
     let one = r.takes old.position old.rest x new (ap read (sym same) ∙ h) in

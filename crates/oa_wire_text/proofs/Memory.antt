@@ -1,4 +1,4 @@
--- What is true where a call was refused memory, and what is read is there.
+-- Facts that hold after a failed allocation; bytes that have been read are there.
 use Rattle.std.proofs.Common.{◌≡◌, ℕ, ◌+◌, ◌≤◌, Bool, length, Some, Result, Ok, Err, ap, arith}
 use Rattle.std.proofs.lemmas.List.{length-append}
 use Rattle.oa_ndr.specs.Reading.{Cursor, unit_at, referent_at}
@@ -24,7 +24,7 @@ referent_there s t b e =
     let front = one.form.form.first in
     omega (arith, ap length one.parts, length-append one.text t.rest, ap length one.form.form.parts, length-append one.form.form.front one.form.form.back, front.len)
 
--- what is true anyhow is true where memory was refused
+-- A fact that always holds also holds after a failed allocation.
 pub anyhow : {A : Type 0} {P : Type 0} (r : Result A StubFault) → P → OnMemory r P
 anyhow r p = on_memory r (λ _. p) (own r)
   where

@@ -10,7 +10,7 @@ use Rattle.oa_model.specs.Limits.{max_text_bytes}
 use Rattle.oa_wire_text.specs.Texts.{units, text_len, text_units, body, text_bytes, blob, pointee, bstr}
 use Rattle.oa_wire_text.specs.Reading.{body_at, text_at, blob_at, bstr_at}
 
--- what the limit says of a text that is spelled
+-- The length of an encoded text is within the limit.
 body_limit : (text : List ℕ) (p : ℕ) (bytes : List ℕ) → body text p bytes → length text ≤ max_text_bytes
 body_limit text p bytes form = form.second.second.fact
 
@@ -21,7 +21,7 @@ body_reads len small =
     any_then (len % 2) (λ c. length c % 2) (λ c h. ap (λ (n : ℕ). n % 2) h.0)
     (give_reads text (is_len, refl) (omega arith) (λ c h _. h.1)))
 
--- what the three numbers say of a text
+-- The facts about a text that its three numbers give.
 abbrev Told : ℕ → ℕ → ℕ → Option (List ℕ) → Type 0
 Told maximum len size t = ((Always t × (text_units t ≡ maximum)) × (text_len t ≡ len)) × (text_units t ≡ size)
 

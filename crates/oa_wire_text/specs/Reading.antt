@@ -1,4 +1,4 @@
--- Reading as functions on lists, which say the same as the forms (proofs/TextLaws has the laws).
+-- Decoders as functions on lists, which agree with the forms (the theorems are in proofs/TextLaws).
 use Rattle.std.specs.Prelude.{◌≡◌, ℕ, ◌+◌, ◌%◌, ◌==◌, ◌&&◌, nat_le, List, Option, Some, None, Result, Ok, Err, ◌++◌}
 use Rattle.std.specs.Prelude.{length, drop}
 use Rattle.oa_ndr.specs.Forms.{padding}
@@ -8,36 +8,37 @@ use Rattle.oa_wire_text.specs.declared.fault.StubFault.{StubFault}
 use Rattle.oa_wire_text.specs.declared.fault.StubFault.TheVariants.{BadStub, Memory}
 use Rattle.oa_wire_text.specs.Texts.{units}
 
--- What a call returned, and the reader after it, is what reading gives, unless memory ran out.
+-- A call of the code returns and leaves what the decoder does, unless memory runs out.
 abbrev pub ReadsField : {A : Type 0} → Result A StubFault → Cursor → Option (A × Cursor) → Type 0
 ReadsField (Ok x) new read = read ≡ Some (x, new)
 ReadsField (Err BadStub) new read = read ≡ None
 ReadsField (Err Memory) new read = Unit {0}
 
--- what is true where a call was refused memory
+-- The statement holds if the call has failed with `Memory`.
 abbrev pub OnMemory : {A : Type 0} → Result A StubFault → Type 0 → Type 0
 OnMemory (Ok x) P = Unit {0}
 OnMemory (Err BadStub) P = Unit {0}
 OnMemory (Err Memory) P = P
 
--- the bytes from the next multiple of n on
+-- The bytes from the next multiple of n on.
 abbrev pub from_multiple : ℕ → Cursor → List ℕ
 from_multiple n s = drop (padding n s.position) s.rest
 
--- the bytes from one place of a reader to a later one have a form
+-- The bytes between two states of a reader have the form.
 pub record Stretch (F : ℕ → List ℕ → Type 0) (from to : Cursor) : Type 0 where
   pub text : List ℕ
   pub parts : from.rest ≡ text ++ to.rest
   pub place : to.position ≡ from.position + length text
   pub form : F from.position text
 
--- What a call at a reader answers: the value of the bytes that it moved past; BadStub where no bytes there are of the
--- form of any value. At an error the reader is as it was.
+-- The result of a call on a reader is right: the value that the bytes encode that it has moved past; `BadStub` only if
+-- no bytes at the reader encode a value. After an error the reader has not moved.
 abbrev pub IsFront : {A : Type 0} → (A → ℕ → List ℕ → Type 0) → Result A StubFault → Cursor → Cursor → Type 0
 IsFront F (Ok x) old new = Stretch (F x) old new
 IsFront {A} F (Err BadStub) old new = ((x : A) (end : Cursor) → Stretch (F x) old end → ⊥) × (new ≡ old)
 IsFront F (Err Memory) old new = new ≡ old
 
+-- Reads the bytes of a text of this length, and one more after an odd last byte.
 unfoldable pub body_at : ℕ → Reading (List ℕ)
 body_at len = do
   text ← bytes_at len
@@ -49,6 +50,7 @@ text_at len = do
   text ← body_at len
   give (Some text)
 
+-- Reads a text without its referent.
 unfoldable pub blob_at : Reading (Option (List ℕ))
 blob_at = do
   maximum ← unit_at 4
@@ -58,6 +60,7 @@ blob_at = do
       (choose ((maximum == 0) && (size == 0)) (give None) fail)
       (choose ((maximum == units len) && (size == units len) && nat_le len max_text_bytes) (text_at len) fail)
 
+-- Reads a referent and its text.
 unfoldable pub bstr_at : Reading (Option (List ℕ))
 bstr_at = do
   is_set ← referent_at

@@ -1,40 +1,40 @@
--- How a text lies in bytes, as the pointee of a referent: FLAGGED_WORD_BLOB (MS-OAUT 2.2.23).
+-- The encoding of a text as the pointee of a referent: FLAGGED_WORD_BLOB (MS-OAUT section 2.2.23).
 use Rattle.std.specs.Prelude.{◌≡◌, ℕ, ◌+◌, ◌/◌, ◌%◌, ◌≤◌, Bool, true, false, List, length, Option, Some, None}
 use Rattle.oa_ndr.specs.Forms.{Form, ◌▸◌, nothing, unit, exactly, any, with, given, referent}
 use Rattle.oa_model.specs.Limits.{max_text_bytes}
 
--- how many 16-bit units n bytes take, an odd last byte taking one of its own
+-- The number of 16-bit units that contain n bytes; an odd last byte needs one of its own.
 abbrev pub units : ℕ → ℕ
 units n = (n + 1) / 2
 
--- cBytes: null is 0xFFFFFFFF
+-- The value of cBytes, 0xFFFFFFFF for null.
 abbrev pub text_len : Option (List ℕ) → ℕ
 text_len None = 4294967295
 text_len (Some text) = length text
 
--- the maximum count and clSize
+-- The value of the maximum count and of clSize.
 abbrev pub text_units : Option (List ℕ) → ℕ
 text_units None = 0
 text_units (Some text) = units (length text)
 
--- an odd last byte is followed by one more; the number of bytes has a limit (this project's choice)
+-- The bytes of the text, with one more byte after an odd last one. Their number has a limit (this project's choice).
 abbrev pub body : List ℕ → Form
 body text = exactly text ▸ any (length text % 2) ▸ given (length text ≤ max_text_bytes)
 
--- the bytes behind the three numbers
+-- The bytes after the three numbers.
 abbrev pub text_bytes : Option (List ℕ) → Form
 text_bytes None = nothing
 text_bytes (Some text) = body text
 
--- the maximum count, cBytes, clSize, the bytes
+-- The maximum count, cBytes, clSize and the bytes.
 abbrev pub blob : Option (List ℕ) → Form
 blob t = unit 4 (text_units t) ▸ unit 4 (text_len t) ▸ unit 4 (text_units t) ▸ text_bytes t
 
--- what lies behind a referent: a null referent is the null text
+-- The bytes after a referent; a null referent is the null text.
 abbrev pub pointee : Bool → Option (List ℕ) → Form
 pointee true t = blob t
 pointee false t = given (t ≡ None)
 
--- a referent and its pointee
+-- A referent and its pointee.
 abbrev pub bstr : Option (List ℕ) → Form
 bstr t = with referent (λ is_set. pointee is_set t)

@@ -1,4 +1,4 @@
-//! Why bytes are no value.
+//! Why bytes are not decoded as a text.
 
 ghost use Rattle.std.specs.Prelude.{◌≡◌};
 ghost use Rattle.oa_wire_text.specs.declared.fault.StubFault.TheVariants.{BadStub, Memory};
@@ -7,13 +7,13 @@ use oa_ndr::Short;
 use std::alloc::{AllocError, AllocFailed};
 use thiserror::Error;
 
-/// Why a part of a field was not read.
+/// Why a part of a field is not decoded.
 #[derive(Clone, Copy, Debug, PartialEq, Eq, Error)]
 pub enum StubFault {
-    /// The bytes are of no value.
+    /// The bytes encode no value.
     #[error("bad stub data")]
     BadStub,
-    /// The allocator had no block for the value.
+    /// The allocation of the value fails.
     #[error("out of memory")]
     Memory,
 }

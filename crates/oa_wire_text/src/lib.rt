@@ -1,10 +1,10 @@
-//! Texts as pointees of a field (MS-OAUT 2.2.23) over NDR, and what a reading of a part of a field answers.
+//! Texts as pointees in a field (MS-OAUT section 2.2.23) with the alignment of NDR, and the errors of decoding a part of a field.
 //!
-//! Its contract: `read_text` answers the text whose form the bytes are, and a fault exactly where they are of none
-//! (`IsFront`, `blob`); `write_text` adds the one writing (`put_blob`). `read_blob`, `read_bstr`, `add_blob` and
-//! `write_bstr` are the same for a part of a field, and may leave a part at a fault (`blob_at`, `bstr_at`).
+//! Contract: `read_text` returns the text that the bytes encode, or an error if and only if they encode none or memory runs out (`IsFront`,
+//! `blob`). `write_text` appends its one canonical encoding (`put_blob`). `read_blob`, `read_bstr`, `add_blob` and `write_bstr` do so for a
+//! part of a field; after an error, a part may have been read or written (`blob_at`, `bstr_at`).
 //!
-//! What stands on it: oa_wire_array, and oa_wire_variant for `StubFault`.
+//! Used by oa_wire_array, and by oa_wire_variant for `StubFault`.
 #![tactic(auto)]
 
 mod fault;

@@ -1,4 +1,4 @@
-//! Texts as pointees.
+//! Decodes and encodes texts.
 
 ghost use Rattle.std.specs.Prelude.{◌≡◌, ◌≤◌, ◌<◌, OnOk, OnErr, length};
 ghost use Rattle.oa_ndr.specs.Writing.{TakesNothingBack, in_field};
@@ -12,17 +12,17 @@ use oa_model::MAX_TEXT_BYTES;
 use oa_ndr::{Ndr, NdrOut};
 use std::alloc::{AllocError, Global};
 
-// What cBytes holds for the null text.
+// The value of cBytes for the null text.
 const NULL_TEXT: u32 = 0xFFFF_FFFF;
 
-/// How many 16-bit units n bytes take.
+/// Returns the number of 16-bit units that contain n bytes.
 fn units(n: u32) -> u32
     ensures { result ≡ units n }
 {
     n / 2 + n % 2
 }
 
-/// The bytes behind the three numbers.
+/// Reads the bytes after the three numbers.
 #[tactic(auto, unfolding(oa_ndr::specs::Reading::steps, crate::specs::Reading::body_at, crate::specs::Reading::text_at))]
 fn text(alloc: Global, len: u32, r: &mut Ndr<'_>) -> Result<Bstr, StubFault>
     ensures { ReadsField result r.new (text_at len r.old) }
@@ -32,7 +32,7 @@ fn text(alloc: Global, len: u32, r: &mut Ndr<'_>) -> Result<Bstr, StubFault>
     Bstr::from_bytes(alloc, bytes).map_err(|_| StubFault::Memory)
 }
 
-/// The same as `read_text`, but at a fault the reader may have moved: the maximum count, cBytes, clSize and the bytes.
+/// As `read_text`, but after an error the reader may have moved. Reads the maximum count, cBytes, clSize and the bytes.
 #[tactic(auto, unfolding(oa_ndr::specs::Reading::steps, crate::specs::Reading::blob_at))]
 pub fn read_blob(alloc: Global, r: &mut Ndr<'_>) -> Result<Bstr, StubFault>
     ensures value { ReadsField result r.new (blob_at r.old) }
@@ -53,8 +53,9 @@ pub fn read_blob(alloc: Global, r: &mut Ndr<'_>) -> Result<Bstr, StubFault>
     Err(StubFault::BadStub)
 }
 
-/// Reads a referent and its pointee (MS-OAUT 2.2.23), a null referent as the null text. `BadStub` where the bytes end too early or where
-/// `read_text` refuses the pointee, `Memory` where the text gets no block. At a fault the reader may have moved.
+/// Reads a referent and its pointee (MS-OAUT section 2.2.23); a null referent is the null text. After an error the reader may have moved.
+///
+/// Errors: `BadStub` if the bytes end too early or `read_text` refuses the pointee; `Memory` if the allocation of the text fails.
 #[tactic(auto, unfolding(oa_ndr::specs::Reading::steps, crate::specs::Reading::bstr_at))]
 pub fn read_bstr(alloc: Global, r: &mut Ndr<'_>) -> Result<Bstr, StubFault>
     ensures value { ReadsField result r.new (bstr_at r.old) }
@@ -66,12 +67,13 @@ pub fn read_bstr(alloc: Global, r: &mut Ndr<'_>) -> Result<Bstr, StubFault>
     Ok(Bstr::null())
 }
 
-/// Reads a text at the reader's place, as it stands behind its referent: FLAGGED_WORD_BLOB
-/// (MS-OAUT 2.2.23), from the maximum count on.
+/// Reads a text at the reader's offset, as it follows its referent: FLAGGED_WORD_BLOB (MS-OAUT section 2.2.23), from the maximum count on.
+/// After an error the reader has not moved.
 ///
-/// `BadStub` where the bytes end too early, where the maximum count or clSize is not cBytes / 2
-/// rounded up, or where the text has more than `MAX_TEXT_BYTES`. `Memory` only where 12 bytes are there.
-/// At an error the reader is as it was.
+/// Errors:
+/// - `BadStub`: the bytes end too early; the maximum count or clSize is not cBytes / 2 rounded up, or not 0 for the null text, whose cBytes
+///   is 0xFFFFFFFF; or the text has more than `MAX_TEXT_BYTES`.
+/// - `Memory`: the allocation of the text fails. This occurs only if at least 12 bytes are there.
 pub fn read_text(alloc: Global, r: &mut Ndr<'_>) -> Result<Bstr, StubFault>
     ensures exact { IsFront blob result r.old r.new }
     ensures memory { OnMemory result (12 ≤ length r.old.rest) }
@@ -84,7 +86,7 @@ pub fn read_text(alloc: Global, r: &mut Ndr<'_>) -> Result<Bstr, StubFault>
     answer
 }
 
-/// The same as `write_text`, but where memory is refused a part of it may stay.
+/// As `write_text`, but if an allocation fails, a part of the text may have been written.
 pub fn add_blob(out: &mut NdrOut, text: &Bstr) -> Result<(), AllocError>
     ensures ok { OnOk result (out.new ≡ in_field (put_blob text.now) out.old) }
     ensures kept { TakesNothingBack out.old out.new }
@@ -103,10 +105,8 @@ pub fn add_blob(out: &mut NdrOut, text: &Bstr) -> Result<(), AllocError>
     out.zeros(len as usize % 2)
 }
 
-/// Writes a text as it stands behind its referent (see `read_text`): the null text as the count
-/// 0xFFFFFFFF, an odd last byte with a 0 behind it.
-///
-/// Where memory is refused, the output is as it was.
+/// Writes a text as it follows its referent (see `read_text`): the null text with cBytes 0xFFFFFFFF, an odd last byte followed by a 0. Err:
+/// an allocation fails; the output is unchanged.
 pub fn write_text(out: &mut NdrOut, text: &Bstr) -> Result<(), AllocError>
     ensures ok { OnOk result (out.new ≡ in_field (put_blob text.now) out.old) }
     ensures err { OnErr result (out.new ≡ out.old) }
@@ -119,7 +119,7 @@ pub fn write_text(out: &mut NdrOut, text: &Bstr) -> Result<(), AllocError>
     Ok(())
 }
 
-/// Writes a referent and its pointee, the null text as a null referent. Where memory is refused a part of it may stay.
+/// Writes a referent and its pointee; the null text is a null referent. Err: an allocation fails; a part may have been written.
 pub fn write_bstr(out: &mut NdrOut, text: &Bstr) -> Result<(), AllocError>
     ensures ok { OnOk result (out.new ≡ in_field (put_bstr text.now) out.old) }
     ensures kept { TakesNothingBack out.old out.new }

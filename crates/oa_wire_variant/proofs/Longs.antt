@@ -19,7 +19,7 @@ one_by_one zero (x ∷ xs) is = absurd cc
 one_by_one (suc n) [] is = absurd cc
 one_by_one (suc n) (x ∷ xs) is = ap (λ (ys : List ℕ). x ∷ ys) (one_by_one n xs cc)
 
--- what is read of a field of 24 bytes, whose vt and discriminant are that of longs
+-- The value of a field of 24 bytes whose vt and discriminant are those of longs.
 abbrev LongReads : List ℕ → Type 0
 LongReads xs = little_number 2 (take 2 (drop 8 xs)) ≡ 3 → little_number 4 (take 4 (drop 16 xs)) ≡ 3
     → whole variant_at xs ≡ Some (One (I4 (cast_signed w32 (little_number 4 (take 4 (drop 20 xs))))))

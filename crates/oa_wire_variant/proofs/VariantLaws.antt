@@ -1,4 +1,4 @@
--- Reading a whole field reads its form, and what is written is of the form.
+-- Decoding a whole field agrees with its form, and written bytes are of the form.
 use Rattle.std.proofs.Common.{◌≡◌, ℕ, ◌+◌, ◌-◌, ◌/◌, ◌%◌, ◌^◌, ◌<◌, ◌≤◌, ◌⊎◌, inl, inr, Bool, true, false, eqb, ltb, ◌&&◌, ◌||◌, is_some}
 use Rattle.std.proofs.Common.{List, [], ◌++◌, length, Result, Ok, Err, Option, Some, None, refl, sym, ap, ◌∙◌, arith}
 use Rattle.std.specs.Option.{IsSome}
@@ -120,7 +120,7 @@ variant_writes (Array a) h =
     (then_writes (ignored_writes 2 0) (then_writes (ignored_writes 2 0) (then_writes (ignored_writes 2 0)
     (with_writes 8192 (then_writes (unit_writes 4 8192 (omega arith)) (then_writes (given_writes (inl refl)) (then_writes (referent_writes true) (array_writes a h.0 h.1 h.2)))))))))))
 
--- what read_array answered is what reading gives
+-- The result of `read_array` is that of the decoder.
 abbrev AsRead : Result (ArrayValue Scalar) WireFault → Cursor → Option (ArrayValue Scalar × Cursor) → Type 0
 AsRead (Ok a) new read = read ≡ Some (a, new)
 AsRead (Err BadStub) new read = read ≡ None
@@ -156,7 +156,7 @@ array_answers t (Err BadStub) old new h = no_array t old h.1
 array_answers t (Err BadVarType) old new h = no_array t old (λ a end e stretch. untyped t a old end h.0 e stretch)
 array_answers t (Err Memory) old new h = tt
 
--- and what was made of its answer: the array, or what each refusal becomes
+-- The result made of it: the array, or the conversion of each error.
 pub array_told : (P : WireFault → StubFault → Type 0) (t : VarType) (from : Result (ArrayValue Scalar) WireFault) (to : Result (ArrayValue Scalar) StubFault) (old new : Cursor)
     → IsArrayFront t from old new → MatchResult from (λ a. to ≡ Ok a) (λ e. IsErrAnd to (P e))
     → ((f : StubFault) → P BadStub f → f ≡ faults.BadStub) → ((f : StubFault) → P BadVarType f → f ≡ faults.BadStub) → ((f : StubFault) → P Memory f → f ≡ faults.Memory)
@@ -167,7 +167,7 @@ array_told P t (Err BadStub) (Err f) old new h is stub type memory = rw (stub f 
 array_told P t (Err BadVarType) (Err f) old new h is stub type memory = rw (type f is) (array_answers t (Err BadVarType) old new h)
 array_told P t (Err Memory) (Err f) old new h is stub type memory = rw (memory f is) tt
 
--- and want of memory, which comes of want of memory alone
+-- `Memory` is the result only of `Memory`.
 pub array_starved : (P : WireFault → StubFault → Type 0) (t : VarType) (from : Result (ArrayValue Scalar) WireFault) (to : Result (ArrayValue Scalar) StubFault) (old new : Cursor)
     → IsArrayFront t from old new → MatchResult from (λ a. to ≡ Ok a) (λ e. IsErrAnd to (P e))
     → ((f : StubFault) → P BadStub f → f ≡ faults.BadStub) → ((f : StubFault) → P BadVarType f → f ≡ faults.BadStub)

@@ -1,5 +1,5 @@
--- Which bytes of a whole field spell which value, and the fault of a field that spells none: wireVARIANT (MS-OAUT
--- 2.2.29).
+-- The bytes of a whole field that encode a value, and the error of a field that encodes none: wireVARIANT (MS-OAUT
+-- section 2.2.29).
 use Rattle.std.specs.Prelude.{◌≡◌, ℕ, ◌+◌, ◌-◌, ◌≤◌, ◌&&◌, ◌⊎◌, nat_le, nat_lt, is_some, Bool, true, false, not}
 use Rattle.std.specs.Prelude.{if◌then◌else◌, List, length, Option, Some, None, Result, Ok, Err}
 use Rattle.oa_ndr.specs.Forms.{Form, ◌▸◌, align, ignored, unit, with, given, referent}
@@ -17,58 +17,61 @@ use Rattle.oa_wire_array.specs.Arrays.{array}
 use Rattle.oa_wire_array.specs.declared.fault.WireFault.{WireFault}
 use Rattle.oa_wire_array.specs.declared.fault.WireFault.TheVariants.{BadStub, BadVarType, Memory}
 
--- the number of a value's type: that of an array is the number of its cells' type with VT_ARRAY, 0x2000
+-- The number of a value's type: that of an array is the number of its elements' type with VT_ARRAY, 0x2000, added.
 abbrev pub value_vt : Variant → ℕ
 value_vt v = vt_of_value (value_type_of v)
 
--- the union of an array: the discriminant, which is VT_ARRAY or vt (this project's choice), a referent, which is set,
--- and what lies behind it
+-- The union of an array: the discriminant, which is VT_ARRAY or the vt (this project's choice), a referent, which is
+-- set, and the rest of the array.
 abbrev pub array_union : ArrayValue Scalar → Form
 array_union a = with (unit 4) (λ d. given ((d ≡ vt_array) ⊎ (d ≡ vt_of a.elem + vt_array)) ▸ referent true ▸ array a)
 
+-- The union of a value.
 abbrev pub value_union : Variant → Form
 value_union (One s) = union s
 value_union (Array a) = array_union a
 
--- clSize, rpcReserved, vt, three reserved numbers, the union
+-- A wireVARIANT: clSize, rpcReserved, vt, three reserved numbers, the union.
 abbrev pub variant : Variant → Form
 variant v = align 8 ▸ ignored 4 ▸ ignored 4 ▸ unit 2 (value_vt v) ▸ ignored 2 ▸ ignored 2 ▸ ignored 2 ▸ value_union v
 
--- the bytes spell the value, all of them
+-- All of the bytes together encode the value.
 abbrev pub Spells : List ℕ → Variant → Type 0
 Spells bytes v = variant v 0 bytes
 
--- no value has the type VARIANT, which only declared types and the cells of arrays have
+-- The type of some scalar: no value has the type VARIANT, which is only a declared type and a type of the elements of
+-- arrays.
 abbrev pub is_scalar_type : Option VarType → Bool
 is_scalar_type None = false
 is_scalar_type (Some types.Variant) = false
 is_scalar_type (Some t) = true
 
--- there are arrays of the types with an sfType
+-- The type of the elements of some array: those with an sfType.
 abbrev pub is_cell_type : Option VarType → Bool
 is_cell_type None = false
 is_cell_type (Some t) = is_some (sf_type_of t)
 
--- whether some value has this vt
+-- Some value has this vt.
 abbrev pub is_value_type : ℕ → Bool
 is_value_type vt = if nat_lt vt vt_array then is_scalar_type (type_at vt) else is_cell_type (type_at (vt - vt_array))
 
--- the fault of a field that spells no value (this project's choice): its vt, at the offset 8, is asked where the field
--- has room for a vt and a discriminant
+-- The error of a field that encodes no value (this project's choice). It depends on the vt at offset 8, if the field is
+-- long enough for a vt and a discriminant.
 abbrev pub field_fault : List ℕ → WireFault
 field_fault bytes = if nat_le 20 (length bytes) && not (is_value_type (own_vt bytes)) then BadVarType else BadStub
 
--- the vt of an array with cells of a type of which there are arrays
+-- The vt of an array, with a type of which there are arrays.
 abbrev pub IsArrayVt : ℕ → Type 0
 IsArrayVt vt = (vt_array ≤ vt) × (is_cell_type (type_at (vt - vt_array)) ≡ true)
 
--- a value takes memory where it is a text, or an array: its vt is VT_ARRAY with a type of cells (MS-OAUT 2.2.7), and
--- the head, the discriminant, the two referents and the numbers before the bounds are there, 16, 4, 8 and 28 bytes
+-- Decoding these bytes may allocate: they are a text; or they are an array, since the vt is VT_ARRAY with a type of
+-- elements (MS-OAUT section 2.2.7), and have the head, the discriminant, the two referents and the numbers before the
+-- bounds, which are 16, 4, 8 and 28 bytes.
 abbrev pub TakesMemory : List ℕ → Type 0
 TakesMemory bytes = TakesText bytes ⊎ ((56 ≤ length bytes) × IsArrayVt (own_vt bytes))
 
--- what reading a field answers: the value that its bytes spell, or its fault where they spell none; want of memory only
--- where a value takes some
+-- The result of decoding a field is right: the value that its bytes encode, or its error if they encode none. `Memory`
+-- occurs only if the decoding may allocate.
 abbrev pub ReadsVariant : List ℕ → Result Variant WireFault → Type 0
 ReadsVariant bytes (Ok v) = Spells bytes v
 ReadsVariant bytes (Err Memory) = TakesMemory bytes

@@ -1,4 +1,4 @@
-//! Laws of the definitions, each the contract of a function with an empty body.
+//! Theorems about the definitions, each the contract of a function with an empty body.
 
 ghost use Rattle.std.specs.Prelude.{◌≡◌, ℕ, List, [], ◌++◌};
 ghost use Rattle.oa_variant.specs.declared.variant.Variant.{Variant};
@@ -6,18 +6,18 @@ ghost use Rattle.oa_variant.specs.Variants.{IsVariant, unlocked};
 ghost use Rattle.oa_wire_variant.specs.Variants.{Spells};
 ghost use Rattle.oa_wire_variant.specs.Canon.{canon};
 
-/// No bytes spell two values.
+/// No bytes encode two values.
 pub fn one_value()
     ensures { (bytes : List ℕ) (v w : Variant) → Spells bytes v → Spells bytes w → v ≡ w }
 {}
 
-/// What is written is a spelling of the value, without the locks of an array. Each `Variant` of the code is such a value
+/// The canonical encoding of a value encodes the value without the locks of an array. Each `Variant` of the code satisfies the condition
 /// (`oa_variant::laws::is_variant`).
 pub fn canon_spells()
     ensures { (v : Variant) → IsVariant v → Spells (canon v) (unlocked v) }
 {}
 
-/// No spelling is a proper prefix of another.
+/// No encoding is a proper prefix of another.
 pub fn no_proper_prefix()
     ensures { (bytes rest : List ℕ) (v w : Variant) → Spells bytes v → Spells (bytes ++ rest) w → rest ≡ [] }
 {}

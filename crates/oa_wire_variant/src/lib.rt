@@ -1,9 +1,9 @@
-//! Variants as bytes on the wire: wireVARIANT (MS-OAUT 2.2.29) over NDR, one value a field.
+//! Variants as bytes on the wire: wireVARIANT (MS-OAUT section 2.2.29) with the alignment of NDR, one value in a field.
 //!
-//! Its contract: `read_variant` answers a value exactly where the bytes spell it (`Spells`); no bytes spell
-//! two; `write_variant` writes the one canonical spelling.
+//! Contract: `read_variant` returns a value if and only if the bytes encode it (`Spells`) and memory suffices; no bytes encode two values.
+//! `write_variant` writes the one canonical encoding.
 //!
-//! What stands on it: oa_record.
+//! Used by oa_record.
 #![tactic(auto)]
 
 pub mod laws;

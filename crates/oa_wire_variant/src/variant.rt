@@ -1,4 +1,4 @@
-//! Whole fields.
+//! Decodes and encodes whole fields.
 
 ghost use Rattle.std.specs.Prelude.{◌≡◌, ◌++◌, ◌-◌, ◌<◌, ◌≤◌, ◌^◌, length, IfSome, IsSome, OnOk, OnErr, Some};
 ghost use Rattle.oa_model.specs.Invoke.{vt_array};
@@ -32,12 +32,13 @@ use oa_wire_text::StubFault;
 use std::alloc::{AllocError, Global};
 use std::mem;
 
-// How many bytes the field of a long has. Its vt is its discriminant too (MS-OAUT 2.2.7).
+// The number of bytes of the field of a long. Its discriminant is its vt (MS-OAUT section 2.2.7).
 const LONG_BYTES: usize = 24;
 
-// Where the second referent of an array stands.
+// The offset of the second referent of an array.
 const SECOND_REFERENT: usize = 24;
 
+/// Reads the union of a scalar, after its vt.
 fn union(alloc: Global, vt: u16, r: &mut Ndr<'_>) -> Result<Scalar, StubFault>
     ensures value { ReadsField result r.new (union_at vt r.old) }
     ensures memory { OnMemory result ((vt ≡ 8) × (20 ≤ length r.old.rest)) }
@@ -45,6 +46,7 @@ fn union(alloc: Global, vt: u16, r: &mut Ndr<'_>) -> Result<Scalar, StubFault>
     read_union(alloc, vt, r)
 }
 
+/// Reads an array from its second referent on.
 fn array(alloc: Global, elem: VarType, r: &mut Ndr<'_>) -> Result<SafeArray<Scalar>, StubFault>
     ensures value { ReadsField result r.new (array_at elem r.old) }
     ensures memory { OnMemory result (IsSome (sf_type_of elem) × (32 ≤ length r.old.rest)) }
@@ -55,6 +57,7 @@ fn array(alloc: Global, elem: VarType, r: &mut Ndr<'_>) -> Result<SafeArray<Scal
     })
 }
 
+/// Reads a scalar, after its vt.
 #[tactic(auto, unfolding(oa_ndr::specs::Reading::steps, crate::specs::Reading::scalar_value_at))]
 fn scalar_value(alloc: Global, vt: u16, r: &mut Ndr<'_>) -> Result<Variant, StubFault>
     ensures value { ReadsField result r.new (scalar_value_at vt r.old) }
@@ -63,7 +66,7 @@ fn scalar_value(alloc: Global, vt: u16, r: &mut Ndr<'_>) -> Result<Variant, Stub
     Ok(Variant::One(union(alloc, vt, r)?))
 }
 
-/// The discriminant, the first referent and the array.
+/// Reads the discriminant, the first referent and the array.
 #[tactic(auto, unfolding(oa_ndr::specs::Reading::steps, crate::specs::Reading::array_union_at))]
 fn array_union(
     alloc: Global,
@@ -82,6 +85,7 @@ fn array_union(
     Err(StubFault::BadStub)
 }
 
+/// Reads an array, after its vt.
 #[tactic(auto, unfolding(oa_ndr::specs::Reading::steps, crate::specs::Reading::array_value_at))]
 fn array_value(alloc: Global, vt: u16, r: &mut Ndr<'_>) -> Result<Variant, StubFault>
     requires { vt_array ≤ vt }
@@ -94,6 +98,7 @@ fn array_value(alloc: Global, vt: u16, r: &mut Ndr<'_>) -> Result<Variant, StubF
     }
 }
 
+/// Reads a value.
 #[tactic(auto, unfolding(oa_ndr::specs::Reading::steps, crate::specs::Reading::variant_at))]
 fn variant(alloc: Global, r: &mut Ndr<'_>) -> Result<Variant, StubFault>
     ensures value { ReadsField result r.new (variant_at r.old) }
@@ -112,7 +117,7 @@ fn variant(alloc: Global, r: &mut Ndr<'_>) -> Result<Variant, StubFault>
     array_value(alloc, vt, r)
 }
 
-/// The number of a long, the value that most fields spell. None of any other field.
+/// Returns the number of a long, which is the value of most fields. None for any other field.
 #[tactic(auto, using(crate::proofs::Longs::long_reads))]
 fn long(bytes: &[u8]) -> Option<i32>
     ensures { IfSome result (λ number. whole variant_at bytes.now ≡ Some (One (I4 number))) }
@@ -126,6 +131,7 @@ fn long(bytes: &[u8]) -> Option<i32>
     None
 }
 
+/// Reads a value that uses all of the bytes.
 fn whole(alloc: Global, bytes: &[u8]) -> Result<Variant, StubFault>
     ensures value { ReadsWholeField result (whole variant_at bytes.now) }
     ensures memory { OnMemory result (TakesMemory bytes.now) }
@@ -138,7 +144,7 @@ fn whole(alloc: Global, bytes: &[u8]) -> Result<Variant, StubFault>
     Ok(value)
 }
 
-/// Whether some value has this vt.
+/// Returns whether some value has this vt.
 fn is_value_type(vt: u16) -> bool
     ensures { result ≡ is_value_type vt }
 {
@@ -155,6 +161,7 @@ fn is_value_type(vt: u16) -> bool
     }
 }
 
+/// Returns the error of a field that encodes no value.
 fn field_fault(bytes: &[u8]) -> WireFault
     ensures { result ≡ field_fault bytes.now }
 {
@@ -165,14 +172,14 @@ fn field_fault(bytes: &[u8]) -> WireFault
     }
 }
 
-/// The value that all of the bytes spell (MS-OAUT 2.2.29): a scalar, or an array, which has no locks.
+/// Decodes the value that all of the bytes encode (MS-OAUT section 2.2.29): a scalar, or an array, which has no locks.
 ///
-/// `BadVarType` where they spell none, are at least 20, and the vt at the offset 8 is that of no
-/// value: outside the types of `VarType`, VARIANT, or VT_ARRAY with anything but a type of which
-/// there are arrays. `BadStub` where they spell none for another reason, bytes left over among them.
-/// `Memory` only where a block for the value was refused: the vt is that of BSTR and the field has at
-/// least 36 bytes, all before the text, or the vt is VT_ARRAY with a type of which there are arrays and
-/// the field has at least 56 bytes, all before the bounds.
+/// Errors:
+/// - `BadVarType`: they encode no value, are at least 20 bytes, and no value has the vt at offset 8: it is outside the types of `VarType`,
+///   it is VARIANT, or it is VT_ARRAY with a type of which there are no arrays.
+/// - `BadStub`: they encode no value for another reason; for example, some bytes are left over.
+/// - `Memory`: the allocation of the value fails. Either the vt is that of BSTR, and the field has at least the 36 bytes before the text;
+///   or the vt is VT_ARRAY with a type of which there are arrays, and the field has at least the 56 bytes before the bounds.
 #[inline(always)]
 pub fn read_variant(alloc: Global, bytes: &[u8]) -> Result<Variant, WireFault>
     ensures exact { ReadsVariant bytes.now result }
@@ -183,7 +190,7 @@ pub fn read_variant(alloc: Global, bytes: &[u8]) -> Result<Variant, WireFault>
     read_other(alloc, bytes)
 }
 
-/// The same of a field that may be any.
+/// As `read_variant`, for any field.
 fn read_other(alloc: Global, bytes: &[u8]) -> Result<Variant, WireFault>
     ensures exact { ReadsVariant bytes.now result }
 {
@@ -193,7 +200,7 @@ fn read_other(alloc: Global, bytes: &[u8]) -> Result<Variant, WireFault>
     })
 }
 
-/// How many bytes `write_variant` adds. Of an array it is what clSize counts.
+/// Returns the number of bytes that `write_variant` appends. For an array these are the bytes that clSize counts.
 #[tactic(auto, unfolding(oa_wire_array::specs::Canon::scalar_len))]
 fn measure(value: &Variant) -> usize
     ensures value { result ≡ length (canon value.now) }
@@ -206,7 +213,7 @@ fn measure(value: &Variant) -> usize
     }
 }
 
-/// How many bytes `write_variant` adds.
+/// Returns the number of bytes that `write_variant` appends.
 pub fn wire_len(value: &Variant) -> usize
     ensures value { result ≡ length (canon value.now) }
     ensures small { result < 2 ^ 40 }
@@ -214,7 +221,7 @@ pub fn wire_len(value: &Variant) -> usize
     measure(value)
 }
 
-/// What stands before the second referent of an array.
+/// Writes the bytes before the second referent of an array.
 fn write_array_head(out: &mut NdrOut, size: u32, vt: u16) -> Result<(), AllocError>
     ensures ok { OnOk result (out.new ≡ in_field (put_array_head size vt) out.old) }
     ensures before { out.new.before ≡ out.old.before }
@@ -224,6 +231,7 @@ fn write_array_head(out: &mut NdrOut, size: u32, vt: u16) -> Result<(), AllocErr
     out.referent(true)
 }
 
+/// Writes an array with the given clSize.
 fn write_sized_array(
     out: &mut NdrOut,
     size: u32,
@@ -237,7 +245,7 @@ fn write_sized_array(
     write_array(out, array)
 }
 
-/// Adds the bytes of a value, in place; `len` is how many an array takes.
+/// Writes the bytes of a value; `len` is the length of the encoding of an array.
 fn write_field(out: &mut NdrOut, value: &Variant, len: usize) -> Result<(), AllocError>
     requires counted { IsArrayLen len value.now }
     requires small { len < 2 ^ 40 }
@@ -253,11 +261,9 @@ fn write_field(out: &mut NdrOut, value: &Variant, len: usize) -> Result<(), Allo
     }
 }
 
-/// Adds the bytes of a value, a field of its own: its places count from the end of `out`. The bytes
-/// are the spelling of the value with 0 in reserved numbers and padding, 0x00020000 as referent
-/// and clSize in units of 8 bytes. Locks are no part of them.
-///
-/// Where memory is refused, `out` is as it was.
+/// Appends the encoding of a value to `out`, as a field of its own: its offsets count from the end of `out`. In this encoding reserved
+/// numbers and padding are 0, a referent is 0x00020000, and clSize counts units of 8 bytes. Locks are not encoded. Err: an allocation
+/// fails; `out` is unchanged.
 pub fn write_variant(value: &Variant, out: &mut Vec<u8>) -> Result<(), AllocError>
     ensures ok { OnOk result (out.new.items ≡ out.old.items ++ canon value.now) }
     ensures err { OnErr result (out.new.items ≡ out.old.items) }

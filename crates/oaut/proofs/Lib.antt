@@ -1,1 +1,1 @@
-mod SharedSessionEnds
+mod SessionEnds

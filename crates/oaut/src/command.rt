@@ -1,11 +1,11 @@
-//! What the command line may be: the commands with their words, options and help.
+//! The command line: the commands with their words, options and help.
 use clap::error::ErrorKind;
 use clap::{Arg, ArgAction, ArgMatches, Command, Error, value_parser};
 use oa_journal::{LEAST_BANK_BYTES, MOST_BANK_BYTES};
 use oa_model::MAX_GROUP;
 use std::alloc::{AllocError, Global};
 
-/// A word that has to be there.
+/// A required word.
 fn word<'a>(alloc: Global, name: &'a str, help: &'a str) -> Arg<'a> {
     Arg::new(alloc, name).required(true).help(help)
 }
@@ -28,7 +28,7 @@ fn library_or_input<'a>(alloc: Global) -> Arg<'a> {
     )
 }
 
-/// A word that may be there, and takes no value.
+/// An optional word without a value.
 fn flag<'a>(alloc: Global, name: &'a str, help: &'a str) -> Arg<'a> {
     Arg::new(alloc, name)
         .long(name)
@@ -41,21 +41,21 @@ fn named<'a>(alloc: Global, name: &'a str, about: &'a str, more: &'a str) -> Com
     Command::new(alloc, name).about(about).after_help(more)
 }
 
-/// Sessions over lines of digits.
+/// The option for lines of hexadecimal digits.
 fn hex<'a>(alloc: Global) -> Arg<'a> {
     flag(
         alloc,
         "hex",
-        "Take one request a line in hexadecimal digits, and write each reply as such a line",
+        "Read one request per line in hexadecimal digits, and write each reply as such a line",
     )
 }
 
-/// Sessions of many clients, whose requests are records.
+/// The option for sessions of many clients, whose requests are records.
 fn shared<'a>(alloc: Global) -> Result<Arg<'a>, AllocError> {
     flag(
         alloc,
         "shared",
-        "Take the records of many clients in frames, and write each reply in a frame of its client",
+        "Read the records of many clients in frames, and write each reply in a frame of its client",
     )
     .conflicts_with("hex")
 }
@@ -64,20 +64,20 @@ fn play<'a>(alloc: Global) -> Result<Command<'a>, AllocError> {
     named(
         alloc,
         "play",
-        "Answers the requests of standard input on standard output, with objects in memory",
-        "Each request and each reply is a record: its length in 4 bytes, little-endian, and that many bytes. A frame is the number of a client and a length, 4 bytes each, and that many bytes of the client's records.\n\nExample, four requests and their replies as lines:\n  oaut play examples/small.idl --hex < examples/first.hex",
+        "Executes requests from standard input, with objects in memory",
+        "Each request and each reply is a record: a length in 4 bytes, little-endian, and that many bytes. A frame is the number of a client and a length, 4 bytes each, and that many bytes of the client's records.\n\nExample, four requests and their replies as lines:\n  oaut play examples/small.idl --hex < examples/first.hex",
     )
     .arg(library(alloc))?
     .arg(hex(alloc))?
     .arg(shared(alloc)?)
 }
 
-/// The place of a syntax fault.
+/// The option for the place of a syntax error.
 fn place<'a>(alloc: Global) -> Arg<'a> {
     flag(
         alloc,
         "where",
-        "After a syntax fault, write its line and column, the text of that line, and a caret under the place",
+        "After a syntax error, print its line and column, the text of that line, and a caret under the place",
     )
 }
 
@@ -85,7 +85,7 @@ fn check<'a>(alloc: Global) -> Result<Command<'a>, AllocError> {
     named(
         alloc,
         "check",
-        "Checks a type library, and writes its canonical text on standard output",
+        "Checks a type library, and prints its canonical text",
         "Examples:\n  oaut check examples/full.idl\n  oaut check --where - < examples/full.idl",
     )
     .arg(library_or_input(alloc))?
@@ -96,8 +96,8 @@ fn format<'a>(alloc: Global) -> Result<Command<'a>, AllocError> {
     named(
         alloc,
         "format",
-        "Makes a file the store of a type library, without objects",
-        "A file that is not there is made, with 33,562,624 bytes and twice B, which is all that a store will ever take. One that is there begins anew, in its own length: the objects that it held are gone.\n\nExample:\n  oaut format items.store examples/small.idl",
+        "Makes a store of a type library, without objects",
+        "A new file has 33,562,624 bytes plus twice B, and never grows. An existing file keeps its length, and its objects are erased.\n\nExample:\n  oaut format items.store examples/small.idl",
     )
     .arg(word(alloc, "STORE", "The store's file"))?
     .arg(library_or_input(alloc))?
@@ -108,14 +108,14 @@ fn upgrade<'a>(alloc: Global) -> Result<Command<'a>, AllocError> {
     named(
         alloc,
         "upgrade",
-        "Brings a store of format 1 to format 2, which this program serves, with what it holds",
-        "A file that is too short is lengthened to 33,562,624 bytes and twice B. A stop at any moment leaves the store in the old format or in the new one, and the same command goes on from there. There is no way back.\n\nExample:\n  oaut upgrade items.store",
+        "Converts a store from format 1 to format 2, with the same objects and library",
+        "A file that is too short is lengthened to 33,562,624 bytes plus twice B. After a crash the store has the old or the new format: run the command again. There is no conversion back.\n\nExample:\n  oaut upgrade items.store",
     )
     .arg(word(alloc, "STORE", "The store's file"))?
     .arg(bank(alloc))
 }
 
-/// How large a bank is.
+/// The option for the size of a bank.
 fn bank<'a>(alloc: Global) -> Arg<'a> {
     Arg::new(alloc, "bank")
         .long("bank")
@@ -125,11 +125,11 @@ fn bank<'a>(alloc: Global) -> Arg<'a> {
         ))
         .default_value("20971520")
         .help(
-            "Give each of the store's two banks B bytes, from 20971520 to 1073741824; the objects may take 5242880 fewer as an image",
+            "Bytes of each of the store's two banks, from 20971520 to 1073741824; the serialized objects may have 5242880 fewer",
         )
 }
 
-/// How many requests are committed together.
+/// The option for the number of requests that are committed together.
 fn group<'a>(alloc: Global) -> Arg<'a> {
     Arg::new(alloc, "group")
         .long("group")
@@ -137,7 +137,7 @@ fn group<'a>(alloc: Global) -> Arg<'a> {
         .value_parser(value_parser!(u32).range(1..=MAX_GROUP as i64))
         .default_value("1")
         .help(
-            "Commit N requests together, from 1 to 1024, and write their replies behind that; with 1 each request is committed before its reply",
+            "Commit N requests together, from 1 to 1024, and then write their replies; with 1 each request is committed before its reply",
         )
 }
 
@@ -145,8 +145,8 @@ fn serve<'a>(alloc: Global) -> Result<Command<'a>, AllocError> {
     named(
         alloc,
         "serve",
-        "Answers the requests of standard input on standard output, with objects that a store keeps",
-        "A reply tells that what it changed is on the device. Requests and replies are as those of play.\n\nExample:\n  oaut format items.store examples/small.idl\n  oaut serve items.store examples/small.idl --hex < examples/first.hex",
+        "Executes requests from standard input, with objects in a store",
+        "A reply is written after its change is on the device. Requests and replies are as those of play.\n\nExample:\n  oaut format items.store examples/small.idl\n  oaut serve items.store examples/small.idl --hex < examples/first.hex",
     )
     .arg(word(alloc, "STORE", "The store's file, as format made it"))?
     .arg(library(alloc))?
@@ -159,23 +159,23 @@ fn dump<'a>(alloc: Global) -> Result<Command<'a>, AllocError> {
     named(
         alloc,
         "dump",
-        "Writes the objects of a store and their cells on standard output, one line each",
-        "The lines: next NUMBER, and of each object: object NUMBER CLASS, cell INTERFACE DISPID KEY VALUE. KEY and VALUE are images in hexadecimal digits, - is a key of no scalars. Nothing of the store is changed, and it may be of either format.\n\nExamples:\n  oaut dump items.store\n  oaut dump items.store --library > items.idl",
+        "Prints the objects of a store and their cells, one per line",
+        "The lines: next NUMBER, and for each object: object NUMBER CLASS, cell INTERFACE DISPID KEY VALUE. KEY and VALUE are serialized, in hexadecimal digits; - is a key without arguments. The store may have either format, and is not changed.\n\nExamples:\n  oaut dump items.store\n  oaut dump items.store --library > items.idl",
     )
     .arg(word(alloc, "STORE", "The store's file"))?
     .arg(kept_library(alloc))
 }
 
-/// The library of a store in the place of its objects.
+/// The option for the library of a store instead of its objects.
 fn kept_library<'a>(alloc: Global) -> Arg<'a> {
     flag(
         alloc,
         "library",
-        "Write the canonical text of the store's library alone",
+        "Print the canonical text of the store's library, and nothing else",
     )
 }
 
-/// A command with one more subcommand.
+/// Adds a subcommand to a command.
 fn with<'a>(
     command: Command<'a>,
     part: Result<Command<'a>, AllocError>,
@@ -183,20 +183,20 @@ fn with<'a>(
     command.subcommand(part?)
 }
 
-/// The program without its commands.
+/// Returns the program without its commands.
 fn program<'a>(alloc: Global) -> Command<'a> {
     named(
         alloc,
         "oaut",
-        "A server of OLE Automation objects, whose coclasses a type library describes",
-        "Examples:\n  oaut check examples/full.idl\n  oaut play examples/small.idl --hex < examples/first.hex\nEach command says more under --help, as in oaut play --help.",
+        "A durable OLE Automation object server",
+        "Examples:\n  oaut check examples/full.idl\n  oaut play examples/small.idl --hex < examples/first.hex\nSee also the help of each command, such as oaut play --help.",
     )
-    .version("0.1.0")
+    .version("0.2.0")
     .disable_help_subcommand(true)
     .subcommand_required(true)
 }
 
-/// What the program takes.
+/// Returns the program with its commands. Err: an allocation failed.
 pub(crate) fn command<'a>(alloc: Global) -> Result<Command<'a>, AllocError> {
     let command = with(program(alloc), play(alloc))?;
     let command = with(command, serve(alloc))?;
@@ -206,7 +206,8 @@ pub(crate) fn command<'a>(alloc: Global) -> Result<Command<'a>, AllocError> {
     with(command, check(alloc))
 }
 
-/// The refusal of a command line whose number of bytes or requests has a sign, which std's reading of numbers takes.
+/// Returns the error of a command line whose number of bytes or requests has a sign, which std's parser of numbers
+/// accepts.
 pub(crate) fn signed_number(
     alloc: Global,
     matches: &ArgMatches,

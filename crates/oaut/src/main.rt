@@ -1,8 +1,9 @@
 //! The program: a command line over the server.
 //!
-//! Its contract: it is safe and total. What it prints, its statuses and its calls of the system are tested (`tests/`).
+//! Contract: safe and total; a session meets the contract of its command (`specs/Sessions`). What it prints, its
+//! statuses and its calls of the system are tested (`tests/`).
 //!
-//! What stands on it: no crate; the clients of `clients/` start it or reach it over a socket.
+//! Used by no crate; the clients of `clients/` start it, or reach it over a socket.
 #![tactic(auto)]
 
 mod command;
@@ -25,14 +26,14 @@ fn main(rt: HostRuntime) -> ExitCode {
     match run(&rt) {
         Ok(code) => code,
         Err(fault) => {
-            // The status tells of the fault also where standard error takes no text.
+            // The exit status reports the fault even if standard error cannot be written.
             let _ = eprintln!(rt; "oaut: {fault}");
             ExitCode::from(fault.status())
         }
     }
 }
 
-/// Does what the command line asks.
+/// Executes the command line.
 fn run(rt: &HostRuntime) -> Result<ExitCode, Fault> {
     let alloc = rt.alloc();
     let words = words(rt, alloc)?;
@@ -46,19 +47,19 @@ fn run(rt: &HostRuntime) -> Result<ExitCode, Fault> {
     }
 }
 
-/// Says why a command line is refused, or what was asked for by `--help` and `--version`.
+/// Prints why a command line is refused, or what `--help` or `--version` asked for.
 fn refuse(rt: &HostRuntime, error: &clap::Error) -> Result<ExitCode, Fault> {
     if error.kind() == ErrorKind::OutOfMemory {
         return Err(Fault::Memory);
     }
-    // Help and the version are what was asked for: that they could not be written is a fault.
+    // Help and version are the requested output: that they could not be written is a fault.
     if error.print(rt).is_err() && error.exit_code() == 0 {
         return Err(Fault::Write);
     }
     Ok(ExitCode::from(error.exit_code() as u8))
 }
 
-/// The words of the command line, with the program's name.
+/// Returns the words of the command line, with the program's name.
 fn words(rt: &HostRuntime, alloc: Global) -> Result<Vec<String>, Fault> {
     match env::args(rt) {
         Ok(words) => Ok(words.collect(alloc)?),
@@ -67,7 +68,8 @@ fn words(rt: &HostRuntime, alloc: Global) -> Result<Vec<String>, Fault> {
     }
 }
 
-/// Carries out the command that was matched. It stands apart, since all that `run` holds is dropped at each of its exits.
+/// Executes the command that was matched. It is a function of its own because `run` drops everything that it holds at
+/// each of its exits.
 fn perform(rt: &HostRuntime, matches: &ArgMatches) -> Result<ExitCode, Fault> {
     let Some((name, arguments)) = matches.subcommand() else {
         return Ok(ExitCode::from(2));
@@ -75,7 +77,8 @@ fn perform(rt: &HostRuntime, matches: &ArgMatches) -> Result<ExitCode, Fault> {
     act(rt, name, arguments)
 }
 
-/// Carries out a command. The words of each are taken in a function of its own, since a proof sees all that one function holds at once.
+/// Executes a command. The words of each command are read in a function of its own, since a proof sees at once
+/// everything that one function holds.
 fn act(rt: &HostRuntime, name: &str, arguments: &ArgMatches) -> Result<ExitCode, Fault> {
     if name == "play" {
         plays(rt, arguments)?;
@@ -90,7 +93,7 @@ fn act(rt: &HostRuntime, name: &str, arguments: &ArgMatches) -> Result<ExitCode,
     } else if name == "check" {
         checks(rt, arguments)?;
     } else {
-        // The parser of the command line lets no other word through.
+        // The parser of the command line accepts no other word.
         return Ok(ExitCode::from(2));
     }
     Ok(ExitCode::SUCCESS)

@@ -1,13 +1,18 @@
-//! Answering requests with objects in memory.
-ghost use Rattle.oaut.specs.Clients.{HasPlayed};
+//! Serving objects in memory.
+ghost use Rattle.oa_stream.specs.Ahead.{ahead};
+ghost use Rattle.oaut.specs.Sessions.{HasPlayed, HasPlayedShared};
 
-use crate::session::{hold, hold_shared};
+use crate::session::{StandardInput, StandardOutput, hold, hold_shared};
 use oa_commands::{Fault, STANDARD_INPUT, read_library};
 use oa_disk::{Disk, NoDisk};
 use oa_server::Server;
+use oa_stream::{Sink, Source};
 
-/// Holds a session over a library, with objects in memory.
-pub(crate) fn play(rt: &HostRuntime, path: &str, hex: bool) -> Result<(), Fault> {
+/// Serves a session over a library, with objects in memory.
+pub(crate) fn play(rt: &HostRuntime, path: &str, hex: bool) -> Result<(), Fault>
+    ensures { HasPlayed ⟦<NoDisk as Disk>⟧ (ahead ⟦<StandardInput as Source>⟧.input)
+        ⟦<StandardOutput<'static> as Sink>⟧.out hex result }
+{
     if path == STANDARD_INPUT {
         return Err(Fault::TwoInputs);
     }
@@ -16,14 +21,15 @@ pub(crate) fn play(rt: &HostRuntime, path: &str, hex: bool) -> Result<(), Fault>
     hold(rt, &mut server, 1, hex)
 }
 
-/// Holds a session of many clients over a library, with objects in memory.
+/// Serves a session of many clients over a library, with objects in memory.
 pub(crate) fn play_shared(rt: &HostRuntime, path: &str) -> Result<(), Fault>
-    ensures { HasPlayed ⟦<NoDisk as Disk>⟧ result }
+    ensures { HasPlayedShared ⟦<NoDisk as Disk>⟧ (ahead ⟦<StandardInput as Source>⟧.input)
+        ⟦<StandardOutput<'static> as Sink>⟧.out result }
 {
     if path == STANDARD_INPUT {
         return Err(Fault::TwoInputs);
     }
     let alloc = rt.alloc();
-    let mut server = Server::in_memory(alloc, read_library(rt, alloc, path)?).shared();
+    let mut server = Server::in_memory(alloc, read_library(rt, alloc, path)?);
     hold_shared(rt, &mut server, 1)
 }

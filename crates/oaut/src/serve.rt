@@ -1,21 +1,26 @@
-//! Answering requests with objects that a store keeps.
+//! Serving the objects of a store.
 ghost use Rattle.std.specs.Prelude.{IfErr, IfOk};
-ghost use Rattle.oaut.specs.Clients.{HasServed, IsOfNoStore, OpensStore, group_near};
+ghost use Rattle.oa_stream.specs.Ahead.{ahead};
+ghost use Rattle.oaut.specs.Sessions.{HasServed, HasServedShared, IsOfNoStore, OpensStore, group_near};
 
-use crate::session::{hold, hold_shared};
+use crate::session::{StandardInput, StandardOutput, hold, hold_shared};
 use oa_commands::{Fault, STANDARD_INPUT, StandardStreams, open_store_file, read_library};
 use oa_disk::{Disk, FileDisk};
 use oa_model::MAX_GROUP;
 use oa_server::Server;
+use oa_stream::{Sink, Source};
 
-/// Holds a session over a store of a library, so many requests committed together.
+/// Serves a session over a store of a library, with commit groups of up to `group` requests.
 pub(crate) fn serve(
     rt: &HostRuntime,
     store: &str,
     library: &str,
     group: u32,
     hex: bool,
-) -> Result<(), Fault> {
+) -> Result<(), Fault>
+    ensures { HasServed ⟦<FileDisk as Disk>⟧ (ahead ⟦<StandardInput as Source>⟧.input)
+        ⟦<StandardOutput<'static> as Sink>⟧.out hex (group_near group) result }
+{
     if library == STANDARD_INPUT {
         return Err(Fault::TwoInputs);
     }
@@ -24,24 +29,26 @@ pub(crate) fn serve(
     hold(rt, &mut server, (group as usize).clamp(1, MAX_GROUP), hex)
 }
 
-/// Holds a session of many clients over a store of a library, so many requests committed together, whoever made them.
+/// Serves a session of many clients over a store of a library, with commit groups of up to `group` requests of any
+/// clients.
 pub(crate) fn serve_shared(
     rt: &HostRuntime,
     store: &str,
     library: &str,
     group: u32,
 ) -> Result<(), Fault>
-    ensures { HasServed ⟦<FileDisk as Disk>⟧ (group_near group) result }
+    ensures { HasServedShared ⟦<FileDisk as Disk>⟧ (ahead ⟦<StandardInput as Source>⟧.input)
+        ⟦<StandardOutput<'static> as Sink>⟧.out (group_near group) result }
 {
     if library == STANDARD_INPUT {
         return Err(Fault::TwoInputs);
     }
     let streams = StandardStreams::fill_closed(rt);
-    let mut server = opened(rt, &streams, store, library)?.shared();
+    let mut server = opened(rt, &streams, store, library)?;
     hold_shared(rt, &mut server, (group as usize).clamp(1, MAX_GROUP))
 }
 
-/// A server over a store of a library.
+/// Opens a server over a store of a library.
 fn opened(
     rt: &HostRuntime,
     streams: &StandardStreams,

@@ -1,18 +1,25 @@
 //! Sessions over standard input and output.
 ghost use Rattle.std.specs.Prelude.{◌≤◌};
 ghost use Rattle.oa_model.specs.Limits.{max_group};
-ghost use Rattle.oaut.specs.Clients.{HoldsClients};
+ghost use Rattle.oa_stream.specs.Ahead.{ahead};
+ghost use Rattle.oaut.specs.Sessions.{Holds, ServesClient, ServesClients, framing_of};
 
-use oa_commands::{Fault, clients_ended};
+use oa_commands::{Fault, client_ended, clients_ended};
 use oa_disk::Disk;
 use oa_model::MAX_LINE_CHARACTERS;
-use oa_server::{End, Server, SharedServer};
-use oa_stream::{Ahead, Behind, Inlet, Outlet};
+use oa_server::Server;
+use oa_stream::{Ahead, Behind, Inlet, Outlet, Sink, Source};
 use std::alloc::{AllocError, Global};
-use std::io;
+use std::io::{self, Printer, StdinLock};
 
-/// Answers the requests of standard input on standard output, until the input ends or is refused: records, or lines of hexadecimal digits,
-/// so many of them committed together.
+/// The reader of standard input.
+pub(crate) type StandardInput = Inlet<StdinLock<'static>>;
+
+/// The writer of standard output.
+pub(crate) type StandardOutput<'a> = Behind<Outlet<Printer<'a, HostRuntime>>>;
+
+/// Answers the requests of standard input on standard output until the input ends or is invalid: lines of hexadecimal
+/// digits if `hex`, else records. The changes of up to `group` requests are committed together.
 pub(crate) fn hold<D: Disk + Drop>(
     rt: &HostRuntime,
     server: &mut Server<D>,
@@ -21,29 +28,30 @@ pub(crate) fn hold<D: Disk + Drop>(
 ) -> Result<(), Fault>
     requires positive { 1 ≤ group }
     requires small { group ≤ max_group }
+    ensures session { Holds (ahead ⟦<StandardInput as Source>⟧.input) ⟦<StandardOutput<'static> as Sink>⟧.out
+        (ServesClient (framing_of hex) group result) result server.old.engine server.new.engine }
 {
     let alloc = rt.alloc();
     keep_long_blocks(alloc)?;
     let mut reader = Ahead::new(alloc, Inlet::new(rt.reader()))?;
     let mut writer = Behind::new(alloc, Outlet::new(io::writer(rt)))?;
-    let served = if hex {
-        server.serve_hex(&mut reader, &mut writer, group)?
-    } else {
-        server.serve(&mut reader, &mut writer, group)?
-    };
-    ended(served.why)
+    if hex {
+        return client_ended(server.serve_hex(&mut reader, &mut writer, group)?.why);
+    }
+    client_ended(server.serve(&mut reader, &mut writer, group)?.why)
 }
 
-/// Answers the frames of many clients of standard input on standard output, until the input ends or a head says nothing, so many requests
-/// committed together.
+/// Answers the frames of many clients of standard input on standard output until the input ends or a frame's head is
+/// invalid. The changes of up to `group` requests of any clients are committed together.
 pub(crate) fn hold_shared<D: Disk + Drop>(
     rt: &HostRuntime,
-    server: &mut SharedServer<D>,
+    server: &mut Server<D>,
     group: usize,
 ) -> Result<(), Fault>
     requires positive { 1 ≤ group }
     requires small { group ≤ max_group }
-    ensures session { HoldsClients group result server.old.engine server.new.engine }
+    ensures session { Holds (ahead ⟦<StandardInput as Source>⟧.input) ⟦<StandardOutput<'static> as Sink>⟧.out
+        (ServesClients group result) result server.old.engine server.new.engine }
 {
     let alloc = rt.alloc();
     keep_long_blocks(alloc)?;
@@ -52,22 +60,11 @@ pub(crate) fn hold_shared<D: Disk + Drop>(
     clients_ended(server.serve_shared(&mut reader, &mut writer, group)?)
 }
 
-/// Takes a block as long as the longest line and gives it back, untouched. From then on the C library keeps the blocks of long texts that are
-/// given back, which it would else have from the system anew, page by page, for each of them (mallopt(3), M_MMAP_THRESHOLD).
+/// Allocates a block as long as the longest line and frees it, untouched. From then on the C library keeps the freed
+/// blocks of long texts. Otherwise it would get each of them anew from the system, page by page (mallopt(3),
+/// M_MMAP_THRESHOLD).
 fn keep_long_blocks(alloc: Global) -> Result<(), AllocError> {
     let block: Vec<u8> = Vec::with_capacity(alloc, MAX_LINE_CHARACTERS as usize)?;
     drop(block);
     Ok(())
-}
-
-/// What the end of a session is for the program: the end of the input is what was asked for.
-fn ended(why: End) -> Result<(), Fault> {
-    match why {
-        End::Closed => Ok(()),
-        End::Cut => Err(Fault::Cut),
-        End::TooLong => Err(Fault::TooLong),
-        End::BadHex(line) => Err(Fault::BadHex(line)),
-        End::ReadFault => Err(Fault::Read),
-        End::WriteFault => Err(Fault::Write),
-    }
 }

@@ -14,7 +14,7 @@ use oa_table::TableFault;
 use oa_variant::{Scalar, Variant};
 
 impl Decider<'_> {
-    /// How many locks the array in a cell has. Refused where the cell holds no array, and where it was never put.
+    /// Returns how many locks the array in a cell has. Refused if the cell has no array, or was never put.
     pub(super) fn find_locks(&self, cell: &BoundCell) -> Result<u16, Refusal>
         ensures { result ≡ locks_found self.now cell.now }
     {
@@ -25,7 +25,7 @@ impl Decider<'_> {
     }
 }
 
-/// The array that a value is.
+/// Returns the array in a value; refused if the value is none.
 fn array_of(value: &Variant) -> Result<&SafeArray<Scalar>, Refusal>
     ensures { result_map_both (λ a. a.now) (λ e. e) result ≡ array_of value.now }
 {
@@ -35,14 +35,14 @@ fn array_of(value: &Variant) -> Result<&SafeArray<Scalar>, Refusal>
     }
 }
 
-/// The element of a value at an index list, from where it stands.
+/// Returns the element of a value at an index list, by reference.
 pub(super) fn element_of<'a>(index: &[i32], value: &'a Variant) -> Result<&'a Scalar, Refusal>
     ensures { result_map_both (λ s. s.now) (λ e. e) result ≡ element_of index.now value.now }
 {
     element_at(index, array_of(value)?)
 }
 
-/// The type of that element.
+/// Returns the type of that element.
 pub(super) fn element_type_of(index: &[i32], value: &Variant) -> Result<VarType, Refusal>
     ensures { result ≡ element_type_of index.now value.now }
 {
@@ -62,7 +62,8 @@ fn type_at(index: &[i32], array: &SafeArray<Scalar>) -> Result<VarType, Refusal>
     Ok(array.elem())
 }
 
-/// Why no index list reaches an element of a cell that was never put: the zero of its type is no array, or an array without indices.
+/// Returns why a cell that was never put has no element at any index list: the zero of its type is no array, or an
+/// array without elements.
 pub(super) fn no_element(declared: ValueType) -> Refusal
     ensures read { (index : List ℤ) → element_of index (zero_value declared) ≡ Err result }
     ensures typed { (index : List ℤ) → element_type_of index (zero_value declared) ≡ Err result }
@@ -73,7 +74,7 @@ pub(super) fn no_element(declared: ValueType) -> Refusal
     }
 }
 
-/// Why the array of a cell that was never put has no lock to give or to take.
+/// Returns why the array of a cell that was never put can be neither locked nor unlocked.
 fn no_lock(declared: ValueType) -> Refusal
     ensures { array_locks declared None ≡ Err result }
 {

@@ -19,7 +19,8 @@ use oa_table::{CellName, LiveObject, Place};
 use oa_typelib::{Access, Dispinterface, Kind, Member};
 use oa_variant::Variant;
 
-/// The cell of a property that a call names, and what the call brings for it. Public for the definitions that name it.
+/// The cell of a property that a call addresses, and the call's new value for it. Public for the definitions that use
+/// it.
 #[derive(Drop)]
 pub struct BoundCell {
     /// The cell.
@@ -31,9 +32,9 @@ pub struct BoundCell {
 }
 
 impl Decider<'_> {
-    /// The cell of a property that a call names. The refusals in their order: those of the object, its interface and riid; of the member,
-    /// where it has not the form that `access` asks for; of the arguments, which are bound in that form for an INVOKE's flags, and as a
-    /// get's for any other access.
+    /// Finds the cell of a property that a call addresses. Refusals, in this order: those of the object, its
+    /// interface and riid; of the member, if it does not have the form that `access` requires; of the arguments.
+    /// These are bound in the form that an INVOKE's flags ask for, and as those of a get for any other access.
     #[tactic(auto, unfolding(crate::specs::Cells::cell_called))]
     pub(super) fn find_cell(&self, call: Call, access: Access) -> Result<BoundCell, Undecided>
         ensures cell { FindsDue (cell_called self.now call access) (FindingTakesMemory self.now call access) result }
@@ -43,7 +44,7 @@ impl Decider<'_> {
         self.find_cell_of(object, call, access)
     }
 
-    /// The same of an object that was found.
+    /// Finds the cell for an object that was found.
     #[tactic(auto, unfolding(crate::specs::Cells::cell_called))]
     pub(super) fn find_cell_of(
         &self,
@@ -60,7 +61,7 @@ impl Decider<'_> {
         self.find_cell_in(&interface, call, access)
     }
 
-    /// The same of an interface that was found.
+    /// Finds the cell for an interface that was found.
     #[tactic(auto, unfolding(crate::specs::Cells::cell_called))]
     fn find_cell_in(
         &self,
@@ -90,7 +91,7 @@ impl Decider<'_> {
         })
     }
 
-    /// The call that the arguments make of a property.
+    /// Binds the arguments of a call to the parameters of a property.
     fn bind_call(
         &self,
         member: &Member<'_>,
@@ -108,7 +109,8 @@ impl Decider<'_> {
     }
 }
 
-/// The member that a call names of an interface, and the form of it that the call asks for. Arguments can be bound to it.
+/// Finds the member of an interface that a call addresses, in the form that the call asks for. Arguments can be bound
+/// to it.
 fn find_member<'a>(
     interface: &Dispinterface<'a>,
     dispid: i32,
@@ -120,7 +122,7 @@ fn find_member<'a>(
     Ok(interface.member(dispid, access)?)
 }
 
-/// The form that arguments are bound in.
+/// Returns the form in which arguments are bound.
 fn bound_as(access: Access, form: Kind) -> Kind
     ensures { result ≡ bound_as access form }
 {

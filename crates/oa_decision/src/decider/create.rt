@@ -16,7 +16,7 @@ use oa_table::Event;
 use uuid::Uuid;
 
 impl Decider<'_> {
-    /// Decides a CREATE: a new object with the next number. Memory is wanted only where it can be made.
+    /// Decides a CREATE: a new object with the next number. It allocates only if the object can be made.
     pub(super) fn creation(&self, class: Uuid) -> Result<Decision, Undecided>
         ensures decided { Decides (creation self.now class) (IsOk (creation self.now class)) result }
         ensures unlocked { IfOk result ChangesNoLocks }
@@ -29,7 +29,7 @@ impl Decider<'_> {
         Ok(Decision::Change { event, fields })
     }
 
-    /// Whether the table may have a new object.
+    /// Checks that the table may have a new object.
     fn find_room(&self, creation: &SizedEvent) -> Result<(), Refusal>
         ensures { result ≡ fitting (allowed self.now.bank creation.now self.now.table) }
     {
@@ -39,7 +39,7 @@ impl Decider<'_> {
         }
     }
 
-    /// Whether an object of a coclass can be made.
+    /// Checks that an object of a coclass can be made.
     fn find_class(&self, class: &Uuid) -> Result<(), Refusal>
         ensures { result ≡ class_found self.now class.now }
     {

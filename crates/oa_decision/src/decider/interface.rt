@@ -1,4 +1,4 @@
-//! The interface of an object that a call names.
+//! The interface of an object that a call addresses.
 ghost use Rattle.std.specs.Prelude.{◌≡◌, ℕ, IfErr, IfOk, None, Some};
 ghost use Rattle.oa_model.specs.Codes.{rpc_e_disconnected};
 ghost use Rattle.oa_decision.specs.Interfaces.{interface_found};
@@ -13,7 +13,7 @@ use oa_typelib::Dispinterface;
 use uuid::Uuid;
 
 impl Decider<'_> {
-    /// The object of a number.
+    /// Returns the object with a number.
     pub(super) fn find_object(&self, number: u32) -> Result<&LiveObject, Refusal>
         ensures live { IfOk result (λ object. object_at number self.now.table ≡ Some object.now) }
         ensures refused { IfErr result (λ refusal. (object_at number self.now.table ≡ None)
@@ -25,7 +25,7 @@ impl Decider<'_> {
         }
     }
 
-    /// The interface that a call names of an object.
+    /// Returns the interface of an object that a call addresses.
     #[tactic(auto, unfolding(crate::specs::Interfaces::interface_found))]
     pub(super) fn find_interface(
         &self,
@@ -39,7 +39,7 @@ impl Decider<'_> {
         self.find_interface_of(object, interface, riid)
     }
 
-    /// The same of an object that was found.
+    /// Returns the interface for an object that was found.
     #[inline(always)]
     #[tactic(auto, unfolding(crate::specs::Interfaces::interface_found))]
     pub(super) fn find_interface_of(

@@ -9,12 +9,12 @@ use oa_record::{MAX_FIELDS_BYTES, put_number_field, put_object_field};
 use oa_table::Table;
 use std::alloc::AllocError;
 
-/// How many objects the fields of one reply have room for.
+/// How many objects fit into the fields of one reply.
 const MAX_LISTED: usize = (MAX_FIELDS_BYTES - 8) / 24;
 
 impl Decider<'_> {
-    /// The live objects by rising number, each with its coclass, as the fields of a reply, in room that is reserved once. A reply has room for
-    /// more than are ever live: a table of more is as if memory was refused.
+    /// Returns the live objects by rising number, each with its coclass, as the fields of a reply, in one allocation.
+    /// More objects fit into a reply than can be live; a table with even more is reported as out of memory.
     pub(super) fn objects_field(&self) -> Result<Fields, AllocError>
         ensures { IfOk result (λ fields. fields ≡ objects_field self.now.table) }
     {
@@ -29,7 +29,7 @@ impl Decider<'_> {
     }
 }
 
-/// Adds the objects of a table.
+/// Appends the objects of a table.
 #[tactic(auto, using(crate::proofs::Added::goes_on, crate::proofs::Added::is_done))]
 fn put_objects(table: &Table, out: &mut Vec<u8>) -> Result<(), AllocError>
     ensures value { OnOk result (out.new.items ≡ out.old.items ++ flat_map entry_of table.now.objects) }

@@ -23,7 +23,7 @@ impl Decider<'_> {
         self.ids_answer(found)
     }
 
-    /// The answer to names; their DISPIDs are told also where not all are known.
+    /// Returns the reply to names; it contains their DISPIDs even if not all names are known.
     fn ids_answer(&self, found: DispIds) -> Result<Decision, Undecided>
         requires { length found.ids ≤ max_names }
         ensures decided { Decides (Ok (ids_answer found)) ⊤ result }

@@ -22,7 +22,7 @@ use oa_typelib::Access;
 use oa_variant::{Scalar, Variant};
 
 impl Decider<'_> {
-    /// Decides a PUTELEM: an element of an array is set, where it stands.
+    /// Decides a PUTELEM: an element of an array is set in place.
     pub(super) fn element_put(
         &self,
         call: Call,
@@ -43,7 +43,7 @@ impl Decider<'_> {
         Ok(Decision::Change { event, fields })
     }
 
-    /// What a value becomes as the element of a cell at an index list.
+    /// Coerces a value to the element of a cell at an index list.
     fn element_for(
         &self,
         cell: &BoundCell,
@@ -56,7 +56,7 @@ impl Decider<'_> {
         as_element(elem, value)
     }
 
-    /// The type of the element of a cell at an index list.
+    /// Returns the type of the element of a cell at an index list.
     fn element_type_in(&self, cell: &BoundCell, index: &[i32]) -> Result<VarType, Refusal>
         ensures { result ≡ element_type_in self.now index.now cell.now }
     {
@@ -67,7 +67,7 @@ impl Decider<'_> {
     }
 }
 
-/// What a value becomes as an element of a type. An array is no element.
+/// Coerces a value to an element of a type. An array is refused.
 fn as_element(elem: VarType, value: Variant) -> Result<Scalar, Refusal>
     ensures { result ≡ as_element elem value }
 {

@@ -41,7 +41,7 @@ impl Decider<'_> {
         })
     }
 
-    /// The zero of a declared type with another first bound.
+    /// Returns the zero of a declared type with another first bound.
     fn zero_with(&self, bound: Bound, declared: ValueType) -> Result<Variant, Undecided>
         requires { HasZero declared }
         ensures value { FindsDue (zero_with bound declared) ⊤ result }

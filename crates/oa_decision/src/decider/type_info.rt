@@ -12,7 +12,8 @@ use oa_model::HResult;
 use oa_typelib::DescribeError;
 
 impl Decider<'_> {
-    /// Decides a TYPEINFO: the description of an interface or a coclass of the library. Memory is wanted only where there is one.
+    /// Decides a TYPEINFO: the description of an interface or a coclass of the library. It allocates only if there is
+    /// one.
     #[tactic(auto, unfolding(crate::specs::TypeInfo::description_of))]
     pub(super) fn information(&self, index: u32) -> Result<Decision, Undecided>
         ensures decided { Decides (information self.now index) (IsOk (information self.now index)) result }

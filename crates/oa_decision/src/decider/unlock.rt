@@ -12,7 +12,7 @@ use oa_record::{Call, number_field};
 use oa_typelib::Access;
 
 impl Decider<'_> {
-    /// Decides an UNLOCK, which takes a lock of the array in a cell away. The reply tells how many there are then.
+    /// Decides an UNLOCK, which removes a lock from the array in a cell. The reply contains the new count.
     pub(super) fn unlocking(&self, call: Call) -> Result<Decision, Undecided>
         ensures decided { Decides (unlocking self.now call) (FindingTakesMemory self.now call Get ⊎ IsOk (unlocking self.now call)) result }
         ensures unlocked { IfOk result ChangesNoLocks }

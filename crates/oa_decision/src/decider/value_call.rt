@@ -1,4 +1,4 @@
-//! An INVOKE that brings no more than a put's new value, of a property without parameters.
+//! The fast path of an INVOKE without arguments except a put's new value, on a property without parameters.
 ghost use Rattle.std.specs.Prelude.{◌≡◌, IfSome, Some};
 ghost use Rattle.oa_checks.specs.Declarations.{kind_of_property};
 ghost use Rattle.oa_coerce.specs.Answers.{coerced};
@@ -22,9 +22,10 @@ use oa_variant::Variant;
 use uuid::Uuid;
 
 impl Decider<'_> {
-    /// What is left of the turn of an INVOKE that brings this value or nothing, under this tag: the reply (E_OUTOFMEMORY where memory was
-    /// wanted), or the change, which may still be refused. None, of which nothing is said, where the call is refused and where its member is
-    /// no property of scalars that alone has its DISPID. Only reads.
+    /// Fast path of an INVOKE on a property of scalars without parameters, with this new value or none. Returns the
+    /// reply (E_OUTOFMEMORY if an allocation failed), or the put to make, which may still be refused. None, without a
+    /// further meaning, if the call is refused, or its member is not a property of scalars that alone has its DISPID:
+    /// then use `decide`. It only reads.
     pub fn plan_value(&self, tag: u32, head: &CallHead, value: Option<Variant>) -> Option<ValuePlan>
         ensures { IfSome result (PlansValue self.now tag (ByCall Invoke (bringing head.now value))) }
     {
@@ -52,7 +53,7 @@ impl Decider<'_> {
         }
     }
 
-    /// A get tells the value of its cell, or that memory was wanted.
+    /// Plans a get: it replies with the value of its cell, or with out of memory.
     fn plan_get(
         &self,
         tag: u32,
@@ -81,7 +82,8 @@ impl Decider<'_> {
         }
     }
 
-    /// A put sets its cell to what the argument becomes as a value of the declared type, without locks. None where it becomes none.
+    /// Plans a put: it sets its cell to the argument, coerced to the declared type, without locks. None if the
+    /// coercion fails.
     #[inline(always)]
     #[tactic(auto, using(crate::proofs::Zeros::no_locks))]
     fn plan_put(
@@ -108,8 +110,9 @@ impl Decider<'_> {
     }
 }
 
-/// A property of `properties:` that alone has a DISPID, where it holds scalars: their type, and the form of it that a call asks for. It
-/// has no parameters, and one declaration, which is not made to be asked. None of any other member, and where it has not the form.
+/// Returns the type of a property of `properties:` that alone has a DISPID and has scalars, and the form that a call
+/// asks for. Such a property has no parameters, and one declaration, which need not be built. None for any other
+/// member, or if it does not have the form.
 fn find_keyless(
     interface: &Dispinterface<'_>,
     dispid: i32,
@@ -134,7 +137,7 @@ fn find_keyless(
     }
 }
 
-/// Whether a property has a form: one that is only read has no put.
+/// Returns whether a property has a form: a read-only one has no put.
 fn lets(form: Kind, readonly: bool) -> bool
     ensures { result ≡ lets form (kind_of_property readonly) }
 {

@@ -1,4 +1,4 @@
-//! Which lock a body asks to be changed, and locks that are taken back without a request.
+//! Which lock a request changes, and releasing locks without a request.
 ghost use Rattle.std.specs.Prelude.{◌≡◌, ◌⊎◌, true, Some, None, Ok};
 ghost use Rattle.oa_decision.specs.declared.decision.LockChange.TheVariants.{Unlock as AnUnlock};
 ghost use Rattle.oa_record.specs.Replacement.{is_replacement};
@@ -15,8 +15,8 @@ use oa_table::CellName;
 use std::alloc::AllocError;
 
 impl Host {
-    /// The lock that a body asks to be changed, where it is a LOCK or an UNLOCK of an array that is there; None for every other body. Only
-    /// reads. Err where memory is refused.
+    /// Returns the change that a LOCK or an UNLOCK of an existing array asks for; None for any other request. It only
+    /// reads. Err: an allocation failed.
     pub fn lock_asked(&self, body: &[u8]) -> Result<Option<LockChange>, AllocError>
         ensures finds { FindsLock self.now body.now result }
         ensures plain { is_replacement body.now ≡ true → result ≡ Ok None }
@@ -28,7 +28,7 @@ impl Host {
         self.lock_in(body)
     }
 
-    /// The same of any body.
+    /// Returns the change of a lock that any body asks for.
     fn lock_in(&self, body: &[u8]) -> Result<Option<LockChange>, AllocError>
         ensures { FindsLock self.now body.now result }
     {
@@ -42,7 +42,7 @@ impl Host {
         }
     }
 
-    /// The same of a request.
+    /// Returns the change of a lock that a request asks for.
     fn lock_by(&self, request: Request) -> Result<Option<LockChange>, AllocError>
         ensures { FindsLockBy self.now request result }
     {
@@ -58,7 +58,7 @@ impl Host {
         }
     }
 
-    /// Takes a lock of the array in a cell back, where it has one. Takes no memory.
+    /// Releases a lock of the array in a cell, if it has one. Allocates nothing.
     pub fn take_back(&mut self, name: &CellName)
         ensures state { self.new ≡ after_locks self.old (Some (AnUnlock name.now)) }
         ensures same { HoldsSame self.old self.new }

@@ -11,16 +11,16 @@ use oa_record::{Reply, lost_field, replacement_text, tag_of};
 use oa_typelib::Library;
 use std::alloc::Global;
 
-/// What becomes of a body that asks for another library.
+/// The plan for a request to replace the library.
 #[derive(Drop)]
 pub enum ReplacementPlan {
     /// It is refused.
     Answered(Reply),
-    /// The library is to take the place of the other.
+    /// This library is to replace the present one.
     Replaced(Library),
 }
 
-/// The library whose text the body has, or the code of a refusal.
+/// Returns the library whose text is in the body, or the code of a refusal.
 fn library_of(alloc: Global, body: &[u8]) -> Result<Library, HResult>
     ensures { IsLibraryOf body.now result }
 {
@@ -30,7 +30,7 @@ fn library_of(alloc: Global, body: &[u8]) -> Result<Library, HResult>
     read_library(alloc, text).map_err(text_code)
 }
 
-/// What is answered where a text gives no library.
+/// Returns the code for a text that is no library.
 fn text_code(fault: TextError) -> HResult
     ensures { result ≡ text_code fault }
 {
@@ -40,7 +40,7 @@ fn text_code(fault: TextError) -> HResult
     }
 }
 
-/// The reply that names what is lost.
+/// Returns the reply with the first incompatibility.
 fn refuse_loss(alloc: Global, tag: u32, lost: Lost) -> Reply
     ensures { RefusesLoss tag lost result }
 {
@@ -51,7 +51,7 @@ fn refuse_loss(alloc: Global, tag: u32, lost: Lost) -> Reply
 }
 
 impl Host {
-    /// What becomes of a body that asks for another library. Only reads.
+    /// Plans a request to replace the library. It only reads.
     pub fn plan_replacement(&self, body: &[u8]) -> ReplacementPlan
         ensures { PlansReplacement self.now body.now result }
     {
@@ -66,7 +66,8 @@ impl Host {
         }
     }
 
-    /// One turn of a body with opcode 12. Want of memory is told in the reply, which then leaves all as it was, as does any other refusal.
+    /// Answers one request with opcode 12. If an allocation fails, the reply is E_OUTOFMEMORY; after any refusal
+    /// nothing has changed.
     pub fn replace(&mut self, body: &[u8]) -> Reply
         requires kind { is_replacement body.now ≡ true }
         ensures turn { Turn self.old body.now result self.new }

@@ -1,4 +1,5 @@
--- `release` makes room of the block's places, and hands it back with the allocator's token. Assumes `Logic`.
+-- `release` makes uninitialized memory of the block's places, and returns it together with the allocator's token.
+-- Assumes `Logic`.
 use Rattle.oa_cells.proofs.Steps.{◌≡◌, refl, sym, ap, subst, ◌∙◌, ℕ, ◌*◌, ◌<◌, ◌^◌, arith, List, [], ◌∷◌, ◌++◌, T, length, Ura, SProp, ent}
 use Rattle.oa_cells.proofs.Steps.{never, id⊢, Lft, Share, ftrue, flft, froom, Incl-trans, Fn, named, w64, ty_array, ty_unit, inst_fn, Val}
 use Rattle.oa_cells.proofs.Steps.{vptr, vint, vunit, has_ty, WT, Memory, align, capped, capped_fits, Routine, Env, Calls, Loops, WpFn}

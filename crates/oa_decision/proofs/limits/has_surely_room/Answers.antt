@@ -6,9 +6,9 @@ use Rattle.oa_table.specs.Sizes.{table_size}
 use Rattle.oa_table.specs.declared.event.Event.TheVariants.{Put}
 use Rattle.oa_decision.proofs.limits.has_surely_room.Goals as goal
 
-pub returns-in-Put : goal.returns-in-Put
+pub returns-in-Put-clause-room : goal.returns-in-Put-clause-room
 unfolding table_size
-returns-in-Put c = λ is.
+returns-in-Put-clause-room c = λ is.
     let put : c.args.event.now ≡ Put c.in-Put.name c.in-Put.value = sym c.as_event.ensures ∙ c.in-Put.is in
     let counted : c.len.result ≡ event_size (Put c.in-Put.name c.in-Put.value) = rw put at c.len.ensures.counted in
     let below = leb-true c.image_size.result c.saturating_sub.result is in

@@ -6,10 +6,10 @@ use Rattle.oa_model.specs.Limits.{max_event_bytes}
 use Rattle.oa_table.specs.Sizes.{size_due, table_size}
 use Rattle.oa_decision.proofs.limits.is_surely_within.Goals as goal
 
-pub returns-then-len-le-MAX_EVENT_BYTES : goal.returns-then-len-le-MAX_EVENT_BYTES
-returns-then-len-le-MAX_EVENT_BYTES c = λ is new made.
+pub returns-then-len-le-MAX_EVENT_BYTES-clause-within : goal.returns-then-len-le-MAX_EVENT_BYTES-clause-within
+returns-then-len-le-MAX_EVENT_BYTES-clause-within c = λ is new made.
     let room = c.args.bank - reserved_bytes in
     let sized = ap (λ due. size_due table_size due c.args.table.now) made in
     let event : event_size c.args.event.now ≤ max_event_bytes = omega (arith, c.len.ensures.counted) in
-    let table : table_size new ≤ room = omega (arith, c.has_surely_room.ensures is, sized) in
+    let table : table_size new ≤ room = omega (arith, c.has_surely_room.ensures.room is, sized) in
     rw (le-ltb max_event_bytes (event_size c.args.event.now) event, le-ltb room (table_size new) table) refl

@@ -2,7 +2,7 @@ use Rattle.std.proofs.Common.{List, refl, sym, subst}
 use Rattle.std.proofs.lemmas.List.{take_all}
 use Rattle.std.proofs.lemmas.Result.{err_from_is_err_and}
 use Rattle.oa_disk.specs.Memory.{contents_of}
-use Rattle.oa_history.specs.Lived.{IsStepped, Lives}
+use Rattle.oa_history.specs.Lived.{Lives}
 use Rattle.oa_history.specs.declared.session.Step.{Step}
 use Rattle.oa_history.proofs.Living.{lives_more, shown_library, shown_table}
 use Rattle.oa_history.proofs.history.relive_on.Goals as goal
@@ -20,7 +20,7 @@ steps-preserved c = record {
       let lives = c.steps.invariant.lives first kept in
       let told = c.in_ok-told.ensures.stepped lives.0 lives.2 in (
         told.0,
-        lives_more IsStepped (contents_of c.args.disk) first c.args.steps.now c.steps.step-index c.steps.heard.items c.push.new.self.items (contents_of c.steps.disk) lives.0
+        lives_more (contents_of c.args.disk) first c.args.steps.now c.steps.step-index c.steps.heard.items c.push.new.self.items (contents_of c.steps.disk) lives.0
             c.step-item.result c.in_ok-told.told (contents_of c.in_ok-told.left) told.0 c.steps-test.true (sym c.step-item.is) c.in_ok-push.ensures.items lives.1 told.1,
         told.2,
       );
@@ -37,7 +37,7 @@ returns-clause-lived c first kept =
     record {
       left = contents_of disk;
       last = lives.0;
-      lives = subst (λ (ss : List Step). Lives IsStepped (contents_of c.args.disk) first ss c.steps.heard.items (contents_of disk) lives.0) (take_all c.steps.step-index c.args.steps.now c.steps-test.false) lives.1;
+      lives = subst (λ (ss : List Step). Lives (contents_of c.args.disk) first ss c.steps.heard.items (contents_of disk) lives.0) (take_all c.steps.step-index c.args.steps.now c.steps-test.false) lives.1;
       end = disk;
       holds_left = refl;
       begins = c.in_ok-opened.ensures.begins lives.0 held;

@@ -1,35 +1,40 @@
-use Rattle.std.proofs.Common.{ℕ, refl, subst, arith, min}
+use Rattle.std.proofs.Common.{[], refl, ap, subst, arith, min}
 use Rattle.std.proofs.lemmas.Result.{err_from_is_err_and}
-use Rattle.oa_disk.specs.Memory.{IsTornAt, contents_of, history_of, moments_of}
+use Rattle.oa_disk.specs.Memory.{contents_of, history_of, moments_of}
 use Rattle.oa_disk.specs.Replaying.{since_falls}
+use Rattle.oa_groups.proofs.Calling.{session_ended}
 use Rattle.oa_decision.specs.States.{State}
-use Rattle.oa_server.specs.Storages.{Serves}
-use Rattle.oa_history.specs.Stops.{Made}
-use Rattle.oa_turn.specs.Beginnings.{CanBegin}
 use Rattle.oa_server.specs.Requests.{requests}
+use Rattle.oa_server.specs.Sharing.{Shared, shared}
+use Rattle.oa_server.specs.SharedRequests.{shared_requests}
+use Rattle.oa_server.specs.Storages.{Serves}
+use Rattle.oa_turn.specs.Beginnings.{CanBegin}
+use Rattle.oa_history.specs.Framed.{ServesShared}
+use Rattle.oa_history.specs.Lived.{calls_of}
+use Rattle.oa_history.specs.Stops.{Made, Stops}
+use Rattle.oa_history.proofs.CallsOverStore.{requests_are_served}
+use Rattle.oa_history.proofs.Cutting.{with_cut}
+use Rattle.oa_history.proofs.ForMany.{CanBeginShared, clients_are_served, groups_begin_for_many, is_over_store, opened_again_for_many, sits_over, without_locks}
 use Rattle.oa_history.proofs.Found.{opened_again}
 use Rattle.oa_history.proofs.Leaving.{leaves, min_at}
-use Rattle.oa_history.proofs.CallsOverStore.{requests_are_served}
 use Rattle.oa_history.proofs.stopping.stopped.Goals as goal
 
-pub returns-clause-stopped : goal.returns-clause-stopped
-returns-clause-stopped c before kept =
+pub returns-in_ok-answers-in-Calls-clause-stopped : goal.returns-in_ok-answers-in-Calls-clause-stopped
+returns-in_ok-answers-in-Calls-clause-stopped c = with_cut c.cut.result c.cut.ensures.heard c.cut.ensures.torn c.cut.ensures.left (λ r heard torn may before kept.
     let session = c.args.session.now in
-    let image = contents_of c.in_ok-left.left in
-    let disk = c.into_disk-disk.result in
+    let image = contents_of r.1 in
+    let disk = c.into_disk.result in
     let first = c.in_ok-server.field-0.server.engine in
-    let last = c.replied.new.server.engine in
-    let asked = c.in_ok-replies.ensures.asked in
+    let last = c.answered.new.server.engine in
+    let calls = calls_of c.as_slice.result.now c.in_ok-answers-in-Calls.answers.items in
     let begins = c.in_ok-server.ensures.begins before kept in
-    let made = subst (λ (s : State). Made Serves first.storage s asked.0 last.storage last.host) begins.host asked.2 in
+    let made = subst (λ (s : State). Made Serves first.storage s calls last.storage last.host) begins.host c.in_ok-answers-in-Calls.ensures.made in
     let left = leaves requests CanBegin opened_again c.no_trace_of_groups.ensures c.what_was_served_is_served_again.ensures.groups c.what_was_served_is_served_again.ensures.opened _
     c.a_stop_keeps_what_was_answered.ensures.stopped c.a_stop_keeps_what_was_answered.ensures.all
-    c.args.disk asked.0 before kept.begins c.min.result session.moment image (omega (arith, c.requires.start))
-    Serves (requests_are_served _) c.sessions_go_on.ensures.late first.storage last.storage last.host disk begins.over made c.into_disk-disk.ensures
-    (min_at c.min.result session.moment (moments_of disk) c.moments.result c.min.ensures c.moments.ensures)
-    (λ k le. since_falls (history_of disk) k c.min.result image le c.in_ok-left.ensures.left) in
-    let torn = subst (λ (n : ℕ). IsTornAt disk session.tear (min session.moment n) image) c.moments.ensures
-    (subst (λ (n : ℕ). IsTornAt disk session.tear n image) c.min.ensures c.in_ok-left.ensures.torn) in (
+    c.args.disk calls before kept.begins (min session.moment (moments_of disk)) session.moment image (omega (arith, c.requires.start))
+    Serves (requests_are_served _) c.sessions_go_on.ensures.late first.storage last.storage last.host disk begins.over made c.into_disk.ensures
+    (min_at (min session.moment (moments_of disk)) session.moment (moments_of disk) (moments_of disk) refl refl)
+    (λ k le. since_falls (history_of disk) k (min session.moment (moments_of disk)) image le may) in (
       left.after,
       record {
         start = c.args.disk;
@@ -37,17 +42,98 @@ returns-clause-stopped c before kept =
         holds_found = refl;
         first = c.in_ok-server.field-0;
         begins = begins;
-        last = record { server = c.replied.new.server };
-        calls = asked.0;
-        asks = asked.1;
-        made = made;
-        disk = c.into_disk-disk.ensures;
-        torn = torn;
-        stops = left.stops;
+        played = rw (heard.0, heard.1, c.in-Calls.is, ← c.as_slice.ensures.value) (record {
+          calls = calls;
+          last = last.storage;
+          end = last.host;
+          asks = record { all = c.in_ok-answers-in-Calls.ensures.all; are = refl };
+          made = made;
+          disk = c.into_disk.ensures;
+          stops = left.stops;
+        });
+        torn = rw heard.1 torn;
         holds = left.holds;
       },
       record { holds = left.holds; begins = left.begins; unlocked = left.unlocked },
-    )
+    ))
+
+pub returns-in_ok-written-in-Stream-clause-stopped : goal.returns-in_ok-written-in-Stream-clause-stopped
+returns-in_ok-written-in-Stream-clause-stopped c = with_cut c.cut-in-Stream.result c.cut-in-Stream.ensures.heard c.cut-in-Stream.ensures.torn c.cut-in-Stream.ensures.left (λ r heard torn may before kept.
+    let session = c.args.session.now in
+    let image = contents_of r.1 in
+    let disk = c.into_disk-in-Stream.result in
+    let first = c.in_ok-server.field-0.server.engine in
+    let last = c.written.new.server.engine in
+    let asked = c.in_ok-written-in-Stream.ensures.written in
+    let begins = c.in_ok-server.ensures.begins before kept in
+    let made = subst (λ (s : State). Made Serves first.storage s asked.0 last.storage last.host) begins.host asked.2 in
+    let left = leaves requests CanBegin opened_again c.no_trace_of_groups.ensures c.what_was_served_is_served_again.ensures.groups c.what_was_served_is_served_again.ensures.opened _
+    c.a_stop_keeps_what_was_answered.ensures.stopped c.a_stop_keeps_what_was_answered.ensures.all
+    c.args.disk asked.0 before kept.begins (min session.moment (moments_of disk)) session.moment image (omega (arith, c.requires.start))
+    Serves (requests_are_served _) c.sessions_go_on.ensures.late first.storage last.storage last.host disk begins.over made c.into_disk-in-Stream.ensures
+    (min_at (min session.moment (moments_of disk)) session.moment (moments_of disk) (moments_of disk) refl refl)
+    (λ k le. since_falls (history_of disk) k (min session.moment (moments_of disk)) image le may) in (
+      left.after,
+      record {
+        start = c.args.disk;
+        fresh = c.requires;
+        holds_found = refl;
+        first = c.in_ok-server.field-0;
+        begins = begins;
+        played = rw (heard.0, heard.1, c.in-Stream.is) (record {
+          calls = asked.0;
+          last = last.storage;
+          end = last.host;
+          asks = asked.1;
+          made = made;
+          disk = c.into_disk-in-Stream.ensures;
+          stops = left.stops;
+        });
+        torn = rw heard.1 torn;
+        holds = left.holds;
+      },
+      record { holds = left.holds; begins = left.begins; unlocked = left.unlocked },
+    ))
+
+pub returns-in_ok-written-in-Frames-clause-stopped : goal.returns-in_ok-written-in-Frames-clause-stopped
+returns-in_ok-written-in-Frames-clause-stopped c = with_cut c.cut-in-Frames.result c.cut-in-Frames.ensures.heard c.cut-in-Frames.ensures.torn c.cut-in-Frames.ensures.left (λ r heard torn may before kept.
+    let session = c.args.session.now in
+    let image = contents_of r.1 in
+    let disk = c.into_disk-in-Frames.result in
+    let first = c.in_ok-server.field-0.server.engine in
+    let last = c.framed.new.server.engine in
+    let begins = c.in_ok-server.ensures.begins before kept in
+    let sits = sits_over c.args.disk before c.requires.alone (λ d. refl) kept.holds first.storage begins.found begins.over in
+    let asked = c.in_ok-written-in-Frames.ensures.written (is_over_store _ first.storage sits) in
+    let made = subst (λ (s : State). Made ServesShared first.storage (shared s []) asked.0 last.storage asked.1) begins.host asked.3 in
+    let again = c.what_was_served_is_served_again.ensures in
+    let left = leaves shared_requests CanBeginShared opened_again_for_many c.many_clients.ensures.others (groups_begin_for_many again.turn) (λ one. again.opened one.state) _
+    c.many_clients.ensures.stopped (λ old new first calls last session m le. session_ended shared_requests _ _ old new first calls last session m le)
+    c.args.disk asked.0 (shared before []) kept.begins (min session.moment (moments_of disk)) session.moment image (omega (arith, c.requires.start))
+    ServesShared (clients_are_served _) c.many_clients.ensures.late first.storage last.storage asked.1 disk sits made c.into_disk-in-Frames.ensures
+    (min_at (min session.moment (moments_of disk)) session.moment (moments_of disk) (moments_of disk) refl refl)
+    (λ k le. since_falls (history_of disk) k (min session.moment (moments_of disk)) image le may) in (
+      left.after.state,
+      record {
+        start = c.args.disk;
+        fresh = c.requires;
+        holds_found = refl;
+        first = c.in_ok-server.field-0;
+        begins = begins;
+        played = rw (heard.0, heard.1, c.in-Frames.is) (record {
+          calls = asked.0;
+          last = last.storage;
+          end = asked.1;
+          asks = asked.2;
+          made = made;
+          disk = c.into_disk-in-Frames.ensures;
+          stops = subst (λ (s : Shared). Stops shared_requests session.moment asked.0 (shared before []) s) (without_locks left.after left.unlocked) left.stops;
+        });
+        torn = rw heard.1 torn;
+        holds = left.holds;
+      },
+      record { holds = left.holds; begins = left.begins; unlocked = ap (λ (s : Shared). s.state) left.unlocked },
+    ))
 
 pub returns-in_err-server-clause-wanting : goal.returns-in_err-server-clause-wanting
 returns-in_err-server-clause-wanting c = let p = err_from_is_err_and c.from_residual.result c.from_residual.ensures.1 in rw (p.1, p.2) (λ before kept. c.in_err-server.ensures.wanting before kept)

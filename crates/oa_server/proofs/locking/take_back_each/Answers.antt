@@ -1,11 +1,9 @@
-use Rattle.std.proofs.Common.{arith, sym}
-use Rattle.oa_server.proofs.LockTurns.{each_back, each_taken}
+use Rattle.std.proofs.Common.{rules, ◌≡◌, ap, map, ◌∙◌}
+use Rattle.oa_owners.specs.Counts.{name_of}
+use Rattle.oa_server.proofs.LocksBack.{clients_begin, taken_clients}
 use Rattle.oa_server.proofs.locking.take_back_each.Goals as goal
 
-pub locks-preserved : goal.locks-preserved
-locks-preserved c = record {
-  rest = each_back c.args.locks.now c.locks.lock-index c.lock-item.result c.locks.host c.take_back.new.self c.args.host.now c.locks-test.true (sym c.lock-item.is) c.take_back.ensures.state c.locks.invariant.rest;
-}
-
-pub returns : goal.returns
-returns c = each_taken c.args.locks.now c.locks.lock-index c.locks.host c.args.host.now (omega (arith, c.locks-test.false)) c.locks.invariant.rest
+pub clients-init : goal.clients-init
+clients-init c =
+    let same : c.into_iter-client-iterator.result ≡ c.clients-client-items.result = search rules in
+    ap (λ l. taken_clients l c.args.host.now) same ∙ clients_begin c.clients-client-items.result (map name_of c.args.owners.now) c.args.host.now c.clients-client-items.ensures

@@ -9,7 +9,7 @@ use Rattle.oa_server.proofs.serving.talk.Goals as goal
 pub returns-clause-session : goal.returns-clause-session
 returns-clause-session g c =
     let was = c.args.engine.now in
-    let open_group = was.open_group in
+    let open_group = was.desk.open_group in
     let need = c.requires in
     serves_session {g = g.D.Disk} (λ d f honest since. g.met.D.Disk.only_now d f honest since) open_group.size (frames c.args.framing) last_written _ _ _ _ was c.serve.new.server c.serve.result need.positive need.replies need.batch
     (begins {g = g.D.Disk} (λ d f honest since. g.met.D.Disk.only_now d f honest since) open_group.size was.storage was.host open_group refl need.positive need.places need.replies need.batch)

@@ -10,10 +10,10 @@ returns-clause-change c =
     changed c.args.bank c.args.event c.args.table.now c.apply.new.table _ c.apply.result c.map_err.result ok (rw c.into_event-2.ensures at c.apply.ensures.change) c.map_err.ensures.cases (λ e code h. search rules)
 
 pub returns-then-is_surely_within-clause-change : goal.returns-then-is_surely_within-clause-change
-returns-then-is_surely_within-clause-change c = (rw c.into_event.ensures at c.change_within.ensures.change) c.args.bank (c.if-is_surely_within.ensures refl)
+returns-then-is_surely_within-clause-change c = (rw c.into_event.ensures at c.change_within.ensures.change) c.args.bank (c.if-is_surely_within.ensures.within refl)
 
 pub returns-then-is_surely_within-clause-sound : goal.returns-then-is_surely_within-clause-sound
-returns-then-is_surely_within-clause-sound c = (rw c.into_event.ensures at c.change_within.ensures.sound) c.args.bank (c.if-is_surely_within.ensures refl) c.requires.sound
+returns-then-is_surely_within-clause-sound c = (rw c.into_event.ensures at c.change_within.ensures.sound) c.args.bank (c.if-is_surely_within.ensures.within refl) c.requires.sound
 
 pub returns-clause-released : goal.returns-clause-released
 returns-clause-released c = λ number is.

@@ -13,7 +13,7 @@ use Rattle.oa_wire_variant.specs.Variants.{Spells, ReadsVariant, TakesMemory, fi
 use Rattle.oa_wire_variant.proofs.VariantLaws.{variant_reads}
 use Rattle.oa_wire_variant.proofs.variant.read_other.Goals as goal
 
--- a field's own fault is not want of memory
+-- The own error of a field is not `Memory`.
 no_memory : (b : Bool) → Memory ≡ cond b BadVarType BadStub → ⊥
 no_memory true e = absurd cc
 no_memory false e = absurd cc
@@ -23,7 +23,7 @@ fault_is bytes BadStub is never = (never, sym is)
 fault_is bytes BadVarType is never = (never, sym is)
 fault_is bytes Memory is never = absurd (no_memory _ is)
 
--- what was made of the answer of `whole`: the value, or what each refusal becomes
+-- The result made of that of `whole`: the value, or the conversion of each error.
 told : (P : StubFault → WireFault → Type 0) (bytes : List ℕ) (from : Result Variant StubFault) (to : Result Variant WireFault)
     → ReadsWholeField from (whole variant_at bytes) → OnMemory from (TakesMemory bytes) → MatchResult from (λ v. to ≡ Ok v) (λ e. IsErrAnd to (P e))
     → ((e : WireFault) → P faults.BadStub e → e ≡ field_fault bytes) → ((e : WireFault) → P faults.Memory e → e ≡ Memory) → ReadsVariant bytes to

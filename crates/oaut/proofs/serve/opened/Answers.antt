@@ -1,4 +1,4 @@
-use Rattle.oaut.proofs.SharedSessionEnds.{opens}
+use Rattle.oaut.proofs.SessionEnds.{opens}
 use Rattle.oaut.proofs.serve.opened.Goals as goal
 
 pub returns-in-Ok-clause-opened : goal.returns-in-Ok-clause-opened

@@ -1,7 +1,17 @@
-use Rattle.std.proofs.Common.{rules, ◌==◌, not, sym}
-use Rattle.std.proofs.lemmas.Fn.{filter_same}
-use Rattle.oa_owners.specs.declared.owners.ClientLock.{ClientLock}
+use Rattle.std.proofs.Common.{sym, ap, ◌∙◌}
+use Rattle.oa_owners.proofs.InClients.{cells_in, ended, own_cells}
+use Rattle.oa_owners.specs.Kept.{all_locks}
 use Rattle.oa_owners.proofs.owners.Owners.take_all.Goals as goal
 
-pub returns : goal.returns
-returns c = rw (sym c.self.view_is) (filter_same _ (λ (lock : ClientLock). not (lock.client == c.args.client)) _ (λ x b f' k. search rules) _ _ c.retain.ensures.filtered)
+pub returns-in_default-clause-others : goal.returns-in_default-clause-others
+returns-in_default-clause-others c = rw (sym c.self.view_is) (ap all_locks c.in_default.ensures.entries ∙ sym (ended c.args.client c.self.inside.clients c.len-count.ensures.ordered))
+
+pub returns-in_default-clause-own : goal.returns-in_default-clause-own
+returns-in_default-clause-own c =
+    rw (sym c.self.view_is) (c.new.ensures ∙ sym (own_cells c.args.client c.self.inside.clients c.len-count.ensures.ordered ∙ ap cells_in (sym c.in_default.ensures.value)))
+
+pub returns-clause-others : goal.returns-clause-others
+returns-clause-others c = rw (sym c.self.view_is) (ap all_locks c.in-Some.ensures.entries ∙ sym (ended c.args.client c.self.inside.clients c.len-count.ensures.ordered))
+
+pub returns-clause-own : goal.returns-clause-own
+returns-clause-own c = rw (sym c.self.view_is) (sym (own_cells c.args.client c.self.inside.clients c.len-count.ensures.ordered ∙ ap cells_in (sym c.in-Some.ensures.value)))

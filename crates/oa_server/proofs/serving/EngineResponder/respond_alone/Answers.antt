@@ -6,7 +6,7 @@ use Rattle.oa_server.proofs.BehindEnds.{none_held}
 use Rattle.oa_server.proofs.serving.EngineResponder.respond_alone.Goals as goal
 
 pub take_alone-reply-requires-clause-none : goal.take_alone-reply-requires-clause-none
-take_alone-reply-requires-clause-none g c = let ended = c.requires.ended in none_held {g = g.D.Disk} c.in-Disk.store ended.0.host c.args.self.now.host ended.0.storage ended.0.open_group c.args.self.now.open_group ended.1 (rw c.in-Disk.is at ended.2)
+take_alone-reply-requires-clause-none g c = let ended = c.requires.ended in none_held {g = g.D.Disk} c.in-Disk.store ended.0.host c.args.self.now.host ended.0.storage ended.0.desk.open_group c.args.self.now.desk.open_group ended.1 (rw c.in-Disk.is at ended.2)
 
 pub returns-in-Memory : goal.returns-in-Memory
 returns-in-Memory g c =

@@ -1,0 +1,13 @@
+mod Own
+mod Streams
+mod Given
+mod Ends
+mod Bodies
+mod Spelling
+mod Deeds
+mod Outcomes
+mod Turned
+mod Disconnected
+mod Queued
+mod Begun
+mod Placed

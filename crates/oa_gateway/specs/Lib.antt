@@ -1,0 +1,10 @@
+pub mod Requests
+pub mod Places
+pub mod Frames
+pub mod Hearing
+pub mod Traces
+pub mod Turns
+pub mod Disconnects
+pub mod Queues
+pub mod Exclusive
+pub mod Beginnings

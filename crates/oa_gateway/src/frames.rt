@@ -1,0 +1,82 @@
+//! Frames for the server.
+ghost use Rattle.std.specs.Prelude.{◌≡◌, ◌<◌, ◌≤◌, ◌+◌, ◌∷◌, [], ◌++◌, length, take, ℕ, List, IfSome, IsNone};
+ghost use Rattle.oa_share.specs.Frames.{InHead, all_clients, frame_of, items_in, max_frame_bytes};
+ghost use Rattle.oa_share.specs.Marks.{Last, Now, Of, pieces};
+ghost use Rattle.oa_gateway.specs.Frames.{Spells, gateway_number, room_for};
+
+use oa_share::laws::frames_are_read;
+use oa_share::{ALL_CLIENTS, MAX_FRAME_BYTES, frame_head};
+
+/// The number by which the gateway ends as a client of its own after a batch. Its end is answered after all that was asked before.
+pub const GATEWAY: u32 = 4_294_967_294;
+
+/// How many bytes of a stream to the server end a batch.
+pub const NOW_BYTES: usize = 16;
+
+/// The most bytes in a frame, its head apart.
+const MOST: usize = MAX_FRAME_BYTES as usize;
+
+/// Puts a client's bytes into frames of its number, at the beginning of `out`. Returns how many bytes the frames are; None if they may need more room.
+pub(crate) fn put_bytes(number: u32, bytes: &[u8], out: &mut [u8]) -> Option<usize>
+    requires { number < all_clients }
+    ensures some { IfSome result (λ n. (n ≤ length out.new) × Spells number (take n out.new) (pieces bytes.now)) }
+    ensures none { IsNone result → length out.old < room_for (length bytes.now) }
+{
+    if out.len() < bytes.len() || (out.len() - bytes.len()) / 8 < bytes.len() / MOST + 1 {
+        return None;
+    }
+    let mut at = 0;
+    let mut done = 0;
+    frames_are_read();
+    'frames: while done < bytes.len() {
+        let count = (bytes.len() - done).min(MOST);
+        put_frame(
+            number,
+            &bytes[done..done + count],
+            &mut out[at..at + 8 + count],
+        );
+        at += 8 + count;
+        done += count;
+    }
+    Some(at)
+}
+
+/// Fills these bytes with one frame.
+fn put_frame(number: u32, bytes: &[u8], out: &mut [u8])
+    requires short { length bytes.now ≤ max_frame_bytes }
+    requires room { length out.old ≡ 8 + length bytes.now }
+    ensures { out.new ≡ frame_of number bytes.now }
+{
+    out[..8].copy_from_slice(&frame_head(number, bytes.len() as u32));
+    out[8..].copy_from_slice(bytes);
+}
+
+/// Puts the end of a client's stream at the beginning of `out`. Returns 8, the bytes that it has; None if they have no room.
+pub(crate) fn put_last(number: u32, out: &mut [u8]) -> Option<usize>
+    requires { number < all_clients }
+    ensures some { IfSome result (λ n. (n ≤ length out.new) × Spells number (take n out.new) (Last ∷ [])) }
+    ensures none { IsNone result → length out.old < 8 }
+{
+    if out.len() < 8 {
+        return None;
+    }
+    frames_are_read();
+    put_frame(number, &[], &mut out[..8]);
+    Some(8)
+}
+
+/// Puts what ends a batch at the beginning of `out`: the gateway's own end, and that all that was asked is to be committed and answered now. Returns
+/// how many bytes these are; None if they have no room.
+pub fn put_now(out: &mut [u8]) -> Option<usize>
+    ensures some { IfSome result (λ n. (n ≤ length out.new) × ((rest : List ℕ)
+        → items_in (InHead []) (take n out.new ++ rest) ≡ Of gateway_number Last ∷ Now ∷ items_in (InHead []) rest)) }
+    ensures none { IsNone result → length out.old < 16 }
+{
+    if out.len() < NOW_BYTES {
+        return None;
+    }
+    frames_are_read();
+    put_frame(GATEWAY, &[], &mut out[..8]);
+    put_frame(ALL_CLIENTS, &[], &mut out[8..16]);
+    Some(NOW_BYTES)
+}

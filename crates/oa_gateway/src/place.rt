@@ -1,0 +1,197 @@
+//! A number of the server, which serves one client of the gateway after another.
+ghost use Rattle.std.specs.Prelude.{◌≡◌, ◌<◌, ◌≤◌, length, IfSome, IsNone, IsSome};
+ghost use Rattle.oa_gateway.specs.Frames.{Puts, gateway_number, room_for};
+ghost use Rattle.oa_gateway.specs.Places.{Closes, HearsEnd, Leaves, MayDo, Sends, after, number_of, restarted};
+ghost use Rattle.oa_gateway.specs.Hearing.{Becomes, EndBecomes};
+ghost use Rattle.oa_gateway.specs.declared.place.Fate.TheVariants as fate;
+
+use crate::frames::{GATEWAY, put_bytes, put_last};
+
+/// `Place::presence` of a client of which nothing was sent.
+pub const ABSENT: u32 = 0;
+/// Of one of which something was sent.
+pub const PRESENT: u32 = 1;
+/// Of one whose end was sent.
+pub const ENDING: u32 = 2;
+/// Of a client that sends and receives nothing more.
+pub const OVER: u32 = 3;
+
+/// The state of a number's client at the server.
+#[derive(Clone, Copy, PartialEq, Eq)]
+pub enum Standing {
+    /// Nothing of it was sent.
+    Absent,
+    /// Some of its bytes were sent.
+    Present,
+    /// Its end was sent, too.
+    Ending,
+    /// It sends and receives nothing more.
+    Over,
+}
+
+/// The decision on a frame of the server.
+#[derive(Clone, Copy)]
+pub enum Fate {
+    /// Its replies go to the client that has the number.
+    Given,
+    /// It is that client's end.
+    Ended,
+    /// It is for a client that has gone.
+    Dropped,
+    /// It is for no client that ever had the number.
+    Wrong,
+}
+
+/// The state of a number.
+#[repr(C)]
+#[derive(Clone, Copy, Debug, PartialEq, Eq)]
+pub struct Place {
+    /// The state of its present client: `ABSENT`, `PRESENT`, `ENDING`, and `OVER` or any other number.
+    pub presence: u32,
+    /// How many ends the server owes to clients that had the number before and have gone.
+    pub owed: u32,
+}
+
+impl Place {
+    /// Returns the state of its client.
+    pub fn standing(&self) -> Standing
+        ensures { result ≡ (number_of self.now).standing }
+    {
+        match self.presence {
+            0 => Standing::Absent,
+            1 => Standing::Present,
+            2 => Standing::Ending,
+            _ => Standing::Over,
+        }
+    }
+
+    /// Sends bytes of the client: puts their frames at the beginning of `out`, and returns how many bytes these are. None, and nothing is done, if the
+    /// client has had its end, if `number` is none of a client, or if `out` may have too little room.
+    pub fn send(&mut self, number: u32, bytes: &[u8], out: &mut [u8]) -> Option<usize>
+        ensures some { IfSome result (λ n. Puts (Sends bytes.now) number n out.new (number_of self.old) (number_of self.new)) }
+        ensures none { IsNone result → self.new ≡ self.old }
+        ensures succeeds { MayDo (number_of self.old) (Sends bytes.now) → number < gateway_number → room_for (length bytes.now) ≤ length out.old → IsSome result }
+    {
+        if number >= GATEWAY {
+            return None;
+        }
+        match self.standing() {
+            Standing::Absent => self.put(number, bytes, out),
+            Standing::Present => self.put(number, bytes, out),
+            Standing::Ending => None,
+            Standing::Over => None,
+        }
+    }
+
+    /// Sends bytes of a client that has not had its end.
+    fn put(&mut self, number: u32, bytes: &[u8], out: &mut [u8]) -> Option<usize>
+        requires client { number < gateway_number }
+        requires may { MayDo (number_of self.old) (Sends bytes.now) }
+        ensures some { IfSome result (λ n. Puts (Sends bytes.now) number n out.new (number_of self.old) (number_of self.new)) }
+        ensures none { IsNone result → (self.new ≡ self.old) × (length out.old < room_for (length bytes.now)) }
+    {
+        let count = put_bytes(number, bytes, out)?;
+        self.presence = PRESENT;
+        Some(count)
+    }
+
+    /// Nothing more comes of the client. If some of its bytes were sent, its end is put at the beginning of `out`; returns how many bytes go to the server,
+    /// 8 or 0. None, and nothing is done, if `number` is none of a client, or if `out` has too little room.
+    pub fn close(&mut self, number: u32, out: &mut [u8]) -> Option<usize>
+        ensures some { IfSome result (λ n. Puts Closes number n out.new (number_of self.old) (number_of self.new)) }
+        ensures none { IsNone result → self.new ≡ self.old }
+        ensures succeeds { number < gateway_number → 8 ≤ length out.old → IsSome result }
+    {
+        if number >= GATEWAY {
+            return None;
+        }
+        match self.standing() {
+            Standing::Absent => {
+                self.presence = OVER;
+                Some(0)
+            }
+            Standing::Present => {
+                let count = put_last(number, out)?;
+                self.presence = ENDING;
+                Some(count)
+            }
+            Standing::Ending => Some(0),
+            Standing::Over => Some(0),
+        }
+    }
+
+    /// The client has gone, and the number is the next one's. If some of its bytes were sent, and its end was not, that is put at the beginning of `out`;
+    /// returns how many bytes go to the server, 8 or 0. None, and nothing is done, if `number` is none of a client, if `out` has too little room, or if
+    /// the server owes 2^32 - 1 ends.
+    pub fn leave(&mut self, number: u32, out: &mut [u8]) -> Option<usize>
+        ensures some { IfSome result (λ n. Puts Leaves number n out.new (number_of self.old) (number_of self.new)) }
+        ensures none { IsNone result → self.new ≡ self.old }
+        ensures succeeds { number < gateway_number → 8 ≤ length out.old → self.old.owed < 4294967295 → IsSome result }
+    {
+        if number >= GATEWAY || self.owed == u32::MAX {
+            return None;
+        }
+        match self.standing() {
+            Standing::Absent => Some(0),
+            Standing::Present => {
+                let end = put_last(number, out)?;
+                *self = Place {
+                    presence: ABSENT,
+                    owed: self.owed + 1,
+                };
+                Some(end)
+            }
+            Standing::Ending => {
+                self.presence = ABSENT;
+                self.owed += 1;
+                Some(0)
+            }
+            Standing::Over => {
+                self.presence = ABSENT;
+                Some(0)
+            }
+        }
+    }
+
+    /// The server has replies for the number.
+    pub(crate) fn hear(&self) -> Fate
+        ensures { Becomes result (number_of self.now) }
+    {
+        if self.owed != 0 {
+            return Fate::Dropped;
+        }
+        match self.standing() {
+            Standing::Present | Standing::Ending => Fate::Given,
+            Standing::Absent | Standing::Over => Fate::Wrong,
+        }
+    }
+
+    /// The server has an end for the number.
+    pub(crate) fn hear_end(&mut self) -> Fate
+        ensures told { EndBecomes result (number_of self.old) }
+        ensures goes { number_of self.new ≡ after (number_of self.old) HearsEnd }
+        ensures wrong { result ≡ fate.Wrong → self.new ≡ self.old }
+    {
+        if self.owed > 0 {
+            self.owed -= 1;
+            Fate::Dropped
+        } else if self.standing() == Standing::Ending {
+            self.presence = OVER;
+            Fate::Ended
+        } else {
+            Fate::Wrong
+        }
+    }
+
+    /// Another server was started.
+    pub(crate) fn restart(&mut self)
+        ensures { number_of self.new ≡ restarted (number_of self.old) }
+    {
+        let presence = if self.presence == ABSENT {
+            ABSENT
+        } else {
+            OVER
+        };
+        *self = Place { presence, owed: 0 };
+    }
+}

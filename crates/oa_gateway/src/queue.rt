@@ -1,0 +1,201 @@
+//! In which order clients have their turns.
+ghost use Rattle.std.specs.Prelude.{◌≡◌, ◌<◌, ◌≤◌, ◌+◌, ◌-◌, ℕ, true, false, length, slice_get, slice_index, IfSome, IsNone};
+ghost use Rattle.oa_gateway.specs.Queues.{HasRoom, IsQueue, IsWithout, begun, joined, next_batch, next_turn, queue_of, turn_of};
+
+/// The queue of clients that wait for turns, by their numbers in an array that the caller lends.
+#[repr(C)]
+#[derive(Clone, Copy, Debug, PartialEq, Eq)]
+pub struct Queue {
+    /// How many clients at the beginning of the array have the first turns of the next batch.
+    pub kept: usize,
+    /// Where the clients begin that wait for turns in this batch.
+    pub next: usize,
+    /// Where they end.
+    pub end: usize,
+}
+
+/// When a client has its next turn.
+#[derive(Clone, Copy, Debug, PartialEq, Eq)]
+pub enum NextTurn {
+    /// It has no request that waits.
+    Never,
+    /// After all that wait, perhaps in the same batch.
+    Last,
+    /// In the next batch, before all that wait for one in this batch.
+    Kept,
+}
+
+/// When a client has its next turn, after one: `waits` is whether it has more requests, and `took` whether the batch took some of them in this turn.
+fn next_turn_of(waits: bool, took: bool) -> NextTurn
+    ensures { result ≡ next_turn waits took }
+{
+    if !waits {
+        NextTurn::Never
+    } else if took {
+        NextTurn::Last
+    } else {
+        NextTurn::Kept
+    }
+}
+
+impl Queue {
+    /// Whether it is one in an array of so many places.
+    fn is_in(&self, places: usize) -> bool
+        ensures yes { result ≡ true → IsQueue self.now places }
+        ensures no { result ≡ false → IsQueue self.now places → ⊥ }
+    {
+        if self.kept > self.next {
+            return false;
+        }
+        if self.next > self.end {
+            return false;
+        }
+        self.end <= places
+    }
+
+    /// Moves the clients that wait for turns in this batch down, to those that have the first turns of the next one.
+    fn close_up(&mut self, places: &mut [u32])
+        requires { IsQueue self.old (length places.old) }
+        ensures same { queue_of self.new places.new ≡ queue_of self.old places.old }
+        ensures queue { IsQueue self.new (length places.new) }
+        ensures length { length places.new ≡ length places.old }
+        ensures kept { (self.new.kept ≡ self.old.kept) × (self.new.next ≡ self.old.kept) }
+        ensures end { self.new.end + self.old.next ≡ self.old.end + self.old.kept }
+    {
+        let gap = self.next - self.kept;
+        places[self.kept..self.end].rotate_left(gap);
+        self.next -= gap;
+        self.end -= gap;
+    }
+
+    /// A client waits for its turn, after all others. Returns `false`, and nothing is done, if the array has no place for it, or if the queue is none in this array.
+    pub fn join(&mut self, places: &mut [u32], client: u32) -> bool
+        ensures done { result ≡ true → queue_of self.new places.new ≡ joined client (queue_of self.old places.old) }
+        ensures not { result ≡ false → (self.new ≡ self.old) × (places.new ≡ places.old) }
+        ensures succeeds { HasRoom self.old (length places.old) → result ≡ true }
+        ensures queue { result ≡ true → IsQueue self.new (length places.new) }
+    {
+        if !self.is_in(places.len()) {
+            return false;
+        }
+        if self.end == places.len() {
+            if self.kept == self.next {
+                return false;
+            }
+            self.close_up(places);
+        }
+        self.add(places, client);
+        true
+    }
+
+    /// A client waits for its turn, after all others.
+    fn add(&mut self, places: &mut [u32], client: u32)
+        requires queue { IsQueue self.old (length places.old) }
+        requires room { self.old.end < length places.old }
+        ensures done { queue_of self.new places.new ≡ joined client (queue_of self.old places.old) }
+        ensures queue { IsQueue self.new (length places.new) }
+    {
+        places[self.end] = client;
+        self.end += 1;
+    }
+
+    /// The client that has the next turn of this batch; None if nobody waits for one.
+    pub fn first(&self, places: &[u32]) -> Option<u32>
+        ensures { result ≡ slice_get (queue_of self.now places.now).waiting 0 }
+    {
+        if self.next < self.end && self.next < places.len() {
+            Some(places[self.next])
+        } else {
+            None
+        }
+    }
+
+    /// The first client has had its turn: `waits` is whether it has more requests, and `took` whether the batch took some of them. Returns `false`, and nothing is
+    /// done, if the queue is none in this array.
+    pub fn had_turn(&mut self, places: &mut [u32], waits: bool, took: bool) -> bool
+        ensures done { result ≡ true → queue_of self.new places.new ≡ turn_of (queue_of self.old places.old) (next_turn waits took) }
+        ensures not { result ≡ false → (self.new ≡ self.old) × (places.new ≡ places.old) }
+        ensures succeeds { IsQueue self.old (length places.old) → result ≡ true }
+        ensures queue { result ≡ true → IsQueue self.new (length places.new) }
+    {
+        if !self.is_in(places.len()) {
+            return false;
+        }
+        if self.next < self.end {
+            self.go_on(places, next_turn_of(waits, took));
+        }
+        true
+    }
+
+    /// The first client has had its turn, and has its next one then.
+    fn go_on(&mut self, places: &mut [u32], turn: NextTurn)
+        requires queue { IsQueue self.old (length places.old) }
+        requires some { self.old.next < self.old.end }
+        ensures done { queue_of self.new places.new ≡ turn_of (queue_of self.old places.old) turn }
+        ensures queue { IsQueue self.new (length places.new) }
+    {
+        let client = places[self.next];
+        self.next += 1;
+        match turn {
+            NextTurn::Never => {}
+            NextTurn::Last => {
+                self.join(places, client);
+            }
+            NextTurn::Kept => {
+                places[self.kept] = client;
+                self.kept += 1;
+            }
+        }
+    }
+
+    /// The batch is made: all clients wait for turns in the next one. Returns `false`, and nothing is done, if the queue is none in this array.
+    pub fn renew(&mut self, places: &mut [u32]) -> bool
+        ensures done { result ≡ true → queue_of self.new places.new ≡ begun (next_batch (queue_of self.old places.old)) }
+        ensures not { result ≡ false → (self.new ≡ self.old) × (places.new ≡ places.old) }
+        ensures succeeds { IsQueue self.old (length places.old) → result ≡ true }
+        ensures queue { result ≡ true → IsQueue self.new (length places.new) }
+    {
+        if !self.is_in(places.len()) {
+            return false;
+        }
+        if self.kept > 0 || self.next == self.end {
+            self.close_up(places);
+            self.kept = 0;
+            self.next = 0;
+        }
+        true
+    }
+
+    /// A client has gone, and waits no more. Returns `false`, and nothing is done, if it waits for no turn in this batch, or if the queue is none in this array.
+    pub fn remove(&mut self, places: &mut [u32], client: u32) -> bool
+        ensures done { result ≡ true → IsWithout client (queue_of self.old places.old) (queue_of self.new places.new) }
+        ensures not { result ≡ false → (self.new ≡ self.old) × (places.new ≡ places.old) }
+        ensures none { result ≡ false → IsQueue self.old (length places.old)
+            → (at : ℕ) → self.old.next ≤ at → at < self.old.end → slice_index places.old at ≡ client → ⊥ }
+        ensures queue { result ≡ true → IsQueue self.new (length places.new) }
+    {
+        if !self.is_in(places.len()) {
+            return false;
+        }
+        let Some(at) = self.find(places, client) else {
+            return false;
+        };
+        places[at..self.end].rotate_left(1);
+        self.end -= 1;
+        true
+    }
+
+    /// Where a client is that waits for a turn in this batch.
+    fn find(&self, places: &[u32], client: u32) -> Option<usize>
+        requires { IsQueue self.now (length places.now) }
+        ensures some { IfSome result (λ at. (self.now.next ≤ at) × (at < self.now.end) × (slice_index places.now at ≡ client)) }
+        ensures none { IsNone result → (at : ℕ) → self.now.next ≤ at → at < self.now.end → slice_index places.now at ≡ client → ⊥ }
+    {
+        'places: for at in self.next..self.end {
+            if places[at] == client {
+                return Some(at);
+            }
+        }
+        None
+    }
+}

@@ -1,0 +1,146 @@
+//! Which requests of a client go into a batch.
+ghost use Rattle.std.specs.Prelude.{◌≡◌, ◌<◌, ◌+◌};
+ghost use Rattle.oa_gateway.specs.Turns.{asked, asks, behind_other, behind_taking, invoke_asks, opcode_of, taking};
+ghost use Rattle.oa_gateway.specs.declared.turns.Taking.TheVariants.{Taken};
+
+/// The opcodes of requests that ask for something; INVOKE does if it is a method or a get.
+const INVOKE: u16 = 4;
+
+const GET_ELEMENT: u16 = 5;
+
+const TYPE_INFO: u16 = 10;
+
+const LIST: u16 = 11;
+
+/// The limits of what a client may still put into a batch, and of the replies to it.
+#[repr(C)]
+#[derive(Clone, Copy, Debug, PartialEq, Eq)]
+pub struct Turn {
+    /// How many more requests it may put in.
+    pub requests: u32,
+    /// How many more requests that ask for something, so that their replies may be long.
+    pub asks: u32,
+    /// How many more bytes of requests the batch takes. One request may exceed them.
+    pub bytes: usize,
+    /// How many bytes the reply to such a request has, about; 0 if they are not counted.
+    pub weight: usize,
+    /// How many bytes of replies the batch has, about, to the requests that are in it.
+    pub expected: usize,
+    /// How many it may have.
+    pub most: usize,
+    /// For how many there is memory.
+    pub room: usize,
+    /// Whether there is memory for the first reply of a batch, however long it is.
+    pub first: bool,
+}
+
+/// The decision on a request.
+#[derive(Clone, Copy, Debug, PartialEq, Eq)]
+pub enum Taking {
+    /// It is in the batch.
+    Taken,
+    /// The turn has all its requests, or the batch all its bytes.
+    Full,
+    /// It asks for something, and the turn has all its requests that do.
+    Often,
+    /// Its reply would be too much for the batch.
+    Much,
+    /// There is no memory for its reply.
+    Lacks,
+}
+
+impl Turn {
+    /// Takes the next request of a client, by its body, into the batch, if it may be there.
+    pub fn take(&mut self, body: &[u8]) -> Taking
+        ensures decides { result ≡ taking self.old body.now }
+        ensures goes { self.new ≡ behind_taking result self.old body.now }
+    {
+        if self.requests == 0 {
+            return Taking::Full;
+        }
+        if self.bytes == 0 {
+            return Taking::Full;
+        }
+        if !asks_for_something(body) {
+            self.count(body);
+            return Taking::Taken;
+        }
+        let found = self.ask();
+        if found == Taking::Taken {
+            self.asks -= 1;
+            if self.weight > 0 {
+                self.expected += self.weight;
+            }
+            self.count(body);
+        }
+        found
+    }
+
+    /// A request with this body is in the batch. It has four bytes more, its length.
+    fn count(&mut self, body: &[u8])
+        requires { 0 < self.old.requests }
+        ensures { self.new ≡ behind_other self.old body.now }
+    {
+        self.requests -= 1;
+        self.bytes = self.bytes.saturating_sub(body.len()).saturating_sub(4);
+    }
+
+    /// Decides on a request that asks for something.
+    fn ask(&self) -> Taking
+        ensures decides { result ≡ asked self.now }
+        ensures asks { result ≡ Taken → 0 < self.now.asks }
+        ensures fits { result ≡ Taken → 0 < self.now.weight → self.now.expected + self.now.weight < 18446744073709551616 }
+    {
+        if self.asks == 0 {
+            return Taking::Often;
+        }
+        if self.weight == 0 {
+            return Taking::Taken;
+        }
+        if self.expected > 0 && self.weight > self.most.saturating_sub(self.expected) {
+            return Taking::Much;
+        }
+        if self.weight <= self.room && self.expected <= self.room - self.weight {
+            return Taking::Taken;
+        }
+        if self.expected == 0 && self.first {
+            return Taking::Taken;
+        }
+        Taking::Lacks
+    }
+}
+
+/// Whether a request asks for something, by its body.
+fn asks_for_something(body: &[u8]) -> bool
+    ensures { result ≡ asks body.now }
+{
+    match opcode(body) {
+        INVOKE => invoke_asks_for_something(body),
+        GET_ELEMENT => true,
+        TYPE_INFO => true,
+        LIST => true,
+        _ => false,
+    }
+}
+
+/// The opcode in a request's body, 0 if it has none.
+fn opcode(body: &[u8]) -> u16
+    ensures { result ≡ opcode_of body.now }
+{
+    if body.len() < 8 {
+        return 0;
+    }
+    let found = &body[4..6];
+    u16::from_le_bytes([found[0], found[1]])
+}
+
+/// Whether an INVOKE is that of a method or a get.
+fn invoke_asks_for_something(body: &[u8]) -> bool
+    ensures { result ≡ invoke_asks body.now }
+{
+    if body.len() < 56 {
+        return false;
+    }
+    let found = &body[52..56];
+    u32::from_le_bytes([found[0], found[1], found[2], found[3]]) % 4 != 0
+}

@@ -1,0 +1,4 @@
+pub mod Heard
+pub mod Taken
+pub mod Judged
+pub mod Begun

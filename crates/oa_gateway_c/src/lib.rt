@@ -1,0 +1,393 @@
+//! The decisions of oa_gateway as a static library for C: `clients/gateway` calls it.
+//!
+//! C lends bytes and places, and every call accepts whatever is in them. They are valid memory, as large as is said, and no two arguments share any. Nothing is
+//! allocated or kept between calls. `clients/gateway/gateway.h` declares these functions for C.
+#![tactic(auto)]
+
+ghost use Rattle.std.specs.Prelude.{◌≡◌, ◌<◌, ◌≤◌, ◌∷◌, ◌++◌, [], ℕ, List, Bool, true, false, length, take, slice_get, slice_index, Some, None};
+ghost use Rattle.oa_share.specs.Frames.{InHead, items_in};
+ghost use Rattle.oa_share.specs.Marks.{Last, Now, Of};
+ghost use Rattle.oa_gateway.specs.Beginnings.{begins};
+ghost use Rattle.oa_gateway.specs.Disconnects.{AllHaveRead, IsHeaviest, gives_way, judged};
+ghost use Rattle.oa_gateway.specs.Exclusive.{behind_batch, behind_holder, waiting_in, whose};
+ghost use Rattle.oa_gateway.specs.Frames.{Puts, gateway_number, room_for};
+ghost use Rattle.oa_gateway.specs.Hearing.{Hearing};
+ghost use Rattle.oa_gateway.specs.Places.{AllRestarted, Closes, Leaves, MayDo, Sends, number_of};
+ghost use Rattle.oa_gateway.specs.Queues.{HasRoom, IsQueue, IsWithout, begun, joined, next_batch, next_turn, queue_of, turn_of};
+ghost use Rattle.oa_gateway.specs.Requests.{CutsAt};
+ghost use Rattle.oa_gateway.specs.Turns.{behind_taking, taking};
+ghost use Rattle.oa_gateway.specs.declared.hearing.Heard.{Heard};
+ghost use Rattle.oa_gateway_c.specs.Heard.{frame_of};
+ghost use Rattle.oa_gateway_c.specs.Taken.{taking_code};
+ghost use Rattle.oa_gateway_c.specs.Judged.{verdict_code};
+ghost use Rattle.oa_gateway_c.specs.Begun.{whose_code};
+
+use oa_gateway::{
+    Conduct, Exclusion, Heard, Moment, Patience, Place, Queue, Taking, Turn, Verdict, Whose,
+    waiting_in,
+};
+
+/// `Frame::what` of a frame that has not come whole.
+pub const PART: u32 = 0;
+/// Of the gateway's own end: all that was asked before is answered.
+pub const ALL_ANSWERED: u32 = 1;
+/// Of replies, which go to the client of `Frame::client`.
+pub const GIVEN: u32 = 2;
+/// Of the end of that client.
+pub const ENDED: u32 = 3;
+/// Of one for a client that had this number before and has gone.
+pub const DROPPED: u32 = 4;
+/// Of one for no client that there is or was.
+pub const WRONG: u32 = 5;
+
+/// The decision on a frame of the server.
+#[repr(C)]
+#[derive(Clone, Copy, Debug, PartialEq, Eq)]
+pub struct Frame {
+    /// `PART`, `ALL_ANSWERED`, `GIVEN`, `ENDED`, `DROPPED` or `WRONG`.
+    pub what: u32,
+    /// The client's number if it is given, ended or dropped, else 0.
+    pub client: u32,
+    /// How many bytes follow the frame's head if it is given or dropped, else 0.
+    pub count: usize,
+}
+
+/// Finds the whole requests at the beginning of a client's bytes. Returns how many bytes they are; `ends` is whether the four bytes after them are no length of
+/// a request, so that none follows.
+#[unsafe(no_mangle)]
+pub extern "C" fn oa_find_requests(bytes: &[u8], ends: &mut bool) -> usize
+    ensures { CutsAt bytes.now result ends.new }
+{
+    let found = oa_gateway::find_requests(bytes);
+    *ends = found.ends;
+    found.whole
+}
+
+/// Sends bytes of the client of a number: their frames are the first `count` bytes of `out`. Returns `false`, and nothing is done, if the client has had its
+/// end, if the number is none of a client, or if `out` may have too little room.
+#[unsafe(no_mangle)]
+pub extern "C" fn oa_send(
+    place: &mut Place,
+    number: u32,
+    bytes: &[u8],
+    out: &mut [u8],
+    count: &mut usize,
+) -> bool
+    ensures done { result ≡ true → Puts (Sends bytes.now) number count.new out.new (number_of place.old) (number_of place.new) }
+    ensures not { result ≡ false → place.new ≡ place.old }
+    ensures succeeds { MayDo (number_of place.old) (Sends bytes.now) → number < gateway_number → room_for (length bytes.now) ≤ length out.old
+        → result ≡ true }
+{
+    let Some(sent) = place.send(number, bytes, out) else {
+        return false;
+    };
+    *count = sent;
+    true
+}
+
+/// Nothing more comes of the client of a number. Its end, if the server has to have one, is the first `count` bytes of `out`, 8 or 0. Returns `false`, and
+/// nothing is done, if the number is none of a client, or if `out` has too little room.
+#[unsafe(no_mangle)]
+pub extern "C" fn oa_close(
+    place: &mut Place,
+    number: u32,
+    out: &mut [u8],
+    count: &mut usize,
+) -> bool
+    ensures done { result ≡ true → Puts Closes number count.new out.new (number_of place.old) (number_of place.new) }
+    ensures not { result ≡ false → place.new ≡ place.old }
+    ensures succeeds { number < gateway_number → 8 ≤ length out.old → result ≡ true }
+{
+    let Some(end) = place.close(number, out) else {
+        return false;
+    };
+    *count = end;
+    true
+}
+
+/// The client of a number has gone, and the number is the next one's. Its end, if the server has to have one, is the first `count` bytes of `out`, 8 or 0.
+/// Returns `false`, and nothing is done, if the number is none of a client, if `out` has too little room, or if the server owes 2^32 - 1 ends.
+#[unsafe(no_mangle)]
+pub extern "C" fn oa_leave(
+    place: &mut Place,
+    number: u32,
+    out: &mut [u8],
+    count: &mut usize,
+) -> bool
+    ensures done { result ≡ true → Puts Leaves number count.new out.new (number_of place.old) (number_of place.new) }
+    ensures not { result ≡ false → place.new ≡ place.old }
+    ensures succeeds { number < gateway_number → 8 ≤ length out.old → place.old.owed < 4294967295 → result ≡ true }
+{
+    let Some(last) = place.leave(number, out) else {
+        return false;
+    };
+    *count = last;
+    true
+}
+
+/// Ends a batch: the gateway's own end and a *now* are the first `count` bytes of `out`. Returns `false` if they have no room.
+#[unsafe(no_mangle)]
+pub extern "C" fn oa_put_now(out: &mut [u8], count: &mut usize) -> bool
+    ensures within { result ≡ true → count.new ≤ length out.new }
+    ensures done { result ≡ true → (rest : List ℕ)
+        → items_in (InHead []) (take count.new out.new ++ rest) ≡ Of gateway_number Last ∷ Now ∷ items_in (InHead []) rest }
+    ensures not { result ≡ false → length out.old < 16 }
+{
+    let Some(put) = oa_gateway::put_now(out) else {
+        return false;
+    };
+    *count = put;
+    true
+}
+
+/// Hears the first frame of the server's bytes, for the client to whose number it is.
+#[unsafe(no_mangle)]
+pub extern "C" fn oa_hear(places: &mut [Place], bytes: &[u8], frame: &mut Frame)
+    ensures { (heard : Heard) × (frame.new ≡ frame_of heard) × Hearing heard bytes.now places.old places.new }
+{
+    let heard = oa_gateway::hear(places, bytes);
+    *frame = told(heard);
+}
+
+/// A frame as C sees what becomes of it.
+fn told(heard: Heard) -> Frame
+    ensures { result ≡ frame_of heard }
+{
+    match heard {
+        Heard::More => Frame {
+            what: PART,
+            client: 0,
+            count: 0,
+        },
+        Heard::Answered => Frame {
+            what: ALL_ANSWERED,
+            client: 0,
+            count: 0,
+        },
+        Heard::Given { client, count } => Frame {
+            what: GIVEN,
+            client,
+            count,
+        },
+        Heard::Ended(client) => Frame {
+            what: ENDED,
+            client,
+            count: 0,
+        },
+        Heard::Dropped { client, count } => Frame {
+            what: DROPPED,
+            client,
+            count,
+        },
+        Heard::Wrong => Frame {
+            what: WRONG,
+            client: 0,
+            count: 0,
+        },
+    }
+}
+
+/// The server has ended, and another one was started or will be: it owes nothing, and of the clients that were there nothing is sent to it.
+#[unsafe(no_mangle)]
+pub extern "C" fn oa_restart(places: &mut [Place])
+    ensures { AllRestarted places.old places.new }
+{
+    oa_gateway::restart(places);
+}
+
+/// `oa_take` of a request that is in the batch.
+pub const TAKEN: u32 = 0;
+/// Of one for which the turn has no more room.
+pub const FULL: u32 = 1;
+/// Of one that asks for something, if the turn has all its requests that do.
+pub const OFTEN: u32 = 2;
+/// Of one whose reply would be too much for the batch.
+pub const MUCH: u32 = 3;
+/// Of one for whose reply there is no memory.
+pub const LACKS: u32 = 4;
+
+/// Takes the next request of a client, by its body, into the batch, if it may be there. Returns what becomes of it.
+#[unsafe(no_mangle)]
+pub extern "C" fn oa_take(turn: &mut Turn, body: &[u8]) -> u32
+    ensures decides { result ≡ taking_code (taking turn.old body.now) }
+    ensures goes { turn.new ≡ behind_taking (taking turn.old body.now) turn.old body.now }
+{
+    number_of_taking(turn.take(body))
+}
+
+/// The number by which C knows it.
+fn number_of_taking(taking: Taking) -> u32
+    ensures { result ≡ taking_code taking }
+{
+    match taking {
+        Taking::Taken => TAKEN,
+        Taking::Full => FULL,
+        Taking::Often => OFTEN,
+        Taking::Much => MUCH,
+        Taking::Lacks => LACKS,
+    }
+}
+
+/// A client waits for its turn, after all others. Returns `false`, and nothing is done, if the array has no place for it, or if the queue is none in this array.
+#[unsafe(no_mangle)]
+pub extern "C" fn oa_join(queue: &mut Queue, places: &mut [u32], client: u32) -> bool
+    ensures done { result ≡ true → queue_of queue.new places.new ≡ joined client (queue_of queue.old places.old) }
+    ensures not { result ≡ false → (queue.new ≡ queue.old) × (places.new ≡ places.old) }
+    ensures succeeds { HasRoom queue.old (length places.old) → result ≡ true }
+    ensures sound { result ≡ true → IsQueue queue.new (length places.new) }
+{
+    queue.join(places, client)
+}
+
+/// The client that has the next turn of this batch. Returns `false` if nobody waits for one.
+#[unsafe(no_mangle)]
+pub extern "C" fn oa_first(queue: &Queue, places: &[u32], client: &mut u32) -> bool
+    ensures some { result ≡ true → slice_get (queue_of queue.now places.now).waiting 0 ≡ Some client.new }
+    ensures none { result ≡ false → slice_get (queue_of queue.now places.now).waiting 0 ≡ None }
+{
+    let Some(first) = queue.first(places) else {
+        return false;
+    };
+    *client = first;
+    true
+}
+
+/// The first client has had its turn: `waits` is whether it has more requests, and `took` whether the batch took some of them. Returns `false`, and nothing is
+/// done, if the queue is none in this array.
+#[unsafe(no_mangle)]
+pub extern "C" fn oa_had_turn(
+    queue: &mut Queue,
+    places: &mut [u32],
+    waits: bool,
+    took: bool,
+) -> bool
+    ensures done { result ≡ true → queue_of queue.new places.new ≡ turn_of (queue_of queue.old places.old) (next_turn waits took) }
+    ensures not { result ≡ false → (queue.new ≡ queue.old) × (places.new ≡ places.old) }
+    ensures succeeds { IsQueue queue.old (length places.old) → result ≡ true }
+    ensures sound { result ≡ true → IsQueue queue.new (length places.new) }
+{
+    queue.had_turn(places, waits, took)
+}
+
+/// The batch is made: all clients wait for turns in the next one. Returns `false`, and nothing is done, if the queue is none in this array.
+#[unsafe(no_mangle)]
+pub extern "C" fn oa_renew(queue: &mut Queue, places: &mut [u32]) -> bool
+    ensures done { result ≡ true → queue_of queue.new places.new ≡ begun (next_batch (queue_of queue.old places.old)) }
+    ensures not { result ≡ false → (queue.new ≡ queue.old) × (places.new ≡ places.old) }
+    ensures succeeds { IsQueue queue.old (length places.old) → result ≡ true }
+    ensures sound { result ≡ true → IsQueue queue.new (length places.new) }
+{
+    queue.renew(places)
+}
+
+/// A client has gone, and waits no more. Returns `false`, and nothing is done, if it waits for no turn in this batch, or if the queue is none in this array.
+#[unsafe(no_mangle)]
+pub extern "C" fn oa_remove(queue: &mut Queue, places: &mut [u32], client: u32) -> bool
+    ensures done { result ≡ true → IsWithout client (queue_of queue.old places.old) (queue_of queue.new places.new) }
+    ensures not { result ≡ false → (queue.new ≡ queue.old) × (places.new ≡ places.old) }
+    ensures none { result ≡ false → IsQueue queue.old (length places.old)
+        → (at : ℕ) → queue.old.next ≤ at → at < queue.old.end → slice_index places.old at ≡ client → ⊥ }
+    ensures sound { result ≡ true → IsQueue queue.new (length places.new) }
+{
+    queue.remove(places, client)
+}
+
+/// `oa_begin` of a batch without requests.
+pub const NOBODYS: u32 = 0;
+/// Of one of the exclusive client that has the server to itself.
+pub const HOLDERS: u32 = 1;
+/// Of one of the first exclusive client that waits, which has the server to itself from now on.
+pub const NEXT_HOLDERS: u32 = 2;
+/// Of one of shared clients.
+pub const SHARED_ONES: u32 = 3;
+
+/// Begins a batch. Returns whose requests are in it: `own` is the queue of the exclusive client that has the server to itself, and `exclusive` that of the others.
+#[unsafe(no_mangle)]
+pub extern "C" fn oa_begin(
+    exclusion: &mut Exclusion,
+    own: &Queue,
+    exclusive: &Queue,
+    shared: &Queue,
+) -> u32
+    ensures decides { result ≡ whose_code (whose exclusion.old (waiting_in own.now exclusive.now shared.now)) }
+    ensures goes { exclusion.new ≡ behind_batch (whose exclusion.old (waiting_in own.now exclusive.now shared.now)) exclusion.old }
+{
+    match exclusion.begin(&waiting_in(own, exclusive, shared)) {
+        Whose::Nobody => NOBODYS,
+        Whose::Holder => HOLDERS,
+        Whose::NextHolder => NEXT_HOLDERS,
+        Whose::Shared => SHARED_ONES,
+    }
+}
+
+/// The exclusive client that had the server to itself has gone.
+#[unsafe(no_mangle)]
+pub extern "C" fn oa_let_go(exclusion: &mut Exclusion)
+    ensures { exclusion.new ≡ behind_holder exclusion.old }
+{
+    exclusion.let_go();
+}
+
+/// Whether a batch begins if nothing else happens before, and `after` how many nanoseconds. The queues are those of `oa_begin`.
+#[unsafe(no_mangle)]
+pub extern "C" fn oa_begins(
+    moment: &Moment,
+    exclusion: &Exclusion,
+    own: &Queue,
+    exclusive: &Queue,
+    shared: &Queue,
+    after: &mut u64,
+) -> bool
+    ensures some { result ≡ true → begins moment.now (whose exclusion.now (waiting_in own.now exclusive.now shared.now)) ≡ Some after.new }
+    ensures none { result ≡ false → begins moment.now (whose exclusion.now (waiting_in own.now exclusive.now shared.now)) ≡ None }
+{
+    let whose = exclusion.whose(&waiting_in(own, exclusive, shared));
+    let Some(pause) = moment.begins_in(whose) else {
+        return false;
+    };
+    *after = pause;
+    true
+}
+
+/// `oa_judge` of a client that stays connected.
+pub const STAYS: u32 = 0;
+/// Of one that does not read its replies.
+pub const UNREAD: u32 = 1;
+/// Of one that does not complete its request.
+pub const INCOMPLETE: u32 = 2;
+/// Of one that sends no request.
+pub const IDLE: u32 = 3;
+
+/// Returns whether a client that behaves so stays connected, and if not, why.
+#[unsafe(no_mangle)]
+pub extern "C" fn oa_judge(conduct: &Conduct, patience: &Patience) -> u32
+    ensures { result ≡ verdict_code (judged conduct.now patience.now) }
+{
+    match oa_gateway::judge(conduct, patience) {
+        Verdict::Stays => STAYS,
+        Verdict::Unread => UNREAD,
+        Verdict::Incomplete => INCOMPLETE,
+        Verdict::Idle => IDLE,
+    }
+}
+
+/// Whether a client is disconnected since replies need its memory: `lacks` is whether a request waits for such memory, and `used` is how many bytes of
+/// `memory` replies have.
+#[unsafe(no_mangle)]
+pub extern "C" fn oa_gives_way(conduct: &Conduct, used: usize, memory: usize, lacks: bool) -> bool
+    ensures { result ≡ gives_way conduct.now used memory lacks }
+{
+    oa_gateway::must_give_way(conduct, used, memory, lacks)
+}
+
+/// The client with the most bytes of unread replies, by its number; that of no client, so many as there are, if all have read theirs.
+#[unsafe(no_mangle)]
+pub extern "C" fn oa_heaviest(unread: &[usize]) -> usize
+    ensures some { result < length unread.now → IsHeaviest unread.now result }
+    ensures none { length unread.now ≤ result → AllHaveRead unread.now }
+{
+    match oa_gateway::heaviest(unread) {
+        Some(client) => client,
+        None => unread.len(),
+    }
+}

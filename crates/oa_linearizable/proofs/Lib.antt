@@ -1,0 +1,12 @@
+pub mod Orders
+pub mod Parts
+pub mod Told
+pub mod Fronts
+pub mod EachClient
+pub mod FramesOut
+pub mod Crashed
+pub mod Durable
+pub mod InMemory
+pub mod Sessions
+pub mod Mutexes
+pub mod Seen

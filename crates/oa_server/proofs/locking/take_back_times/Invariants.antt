@@ -1,0 +1,7 @@
+use Rattle.std.proofs.Common.{◌≡◌, ◌-◌, []}
+use Rattle.oa_owners.specs.Kept.{copies}
+use Rattle.oa_server.specs.Sharing.{taken_back}
+use Rattle.oa_server.proofs.locking.take_back_times.Given as goal
+
+abbrev pub invariant-times : goal.invariant-times
+invariant-times l = taken_back (copies (l.count - l.counter) l.name []) l.host ≡ taken_back (copies l.count l.name []) l.fn.host

@@ -1,0 +1,16 @@
+use Rattle.oaut.proofs.SessionEnds.{answers}
+use Rattle.oaut.proofs.play.play.Goals as goal
+
+pub returns : goal.returns
+returns c = answers _ _ c.hold.result (record {
+  old = c.in_memory-server.result.engine;
+  new = c.hold.new.server.engine;
+  begins = record {
+    memory = c.in_memory-server.ensures.memory;
+    library = c.in_ok-read_library.field-0;
+    text = c.in_ok-read_library.ensures.read.0;
+    is = c.in_ok-read_library.ensures.read.1;
+    state_is = c.in_memory-server.ensures.state;
+  };
+  holds = c.hold.ensures.session;
+})

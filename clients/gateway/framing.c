@@ -1,4 +1,4 @@
-/* What stands in a client's bytes: where a request ends, in records or in lines, and replies as its framing has them. */
+/* Requests and replies in a client's bytes: the ends of requests, in records or in lines, and replies in its framing. */
 #include "gateway.h"
 
 /* How many bytes of room the next reading has to have. Of a line the length is not known, so a long one has to have all. */
@@ -43,29 +43,37 @@ static void signs_came(Client *c, const char *signs, size_t size) {
         else c->in.at[c->in.end - 1] |= (char)value;
     }
 }
-/* Bytes have come: those of records already stand in the client's buffer, those of lines at `signs`. */
+/* Bytes have come: those of records are already in the client's buffer, those of lines at `signs`. */
 void bytes_came(Client *c, const char *signs, size_t size) {
     Buffer *in = &c->in;
     size_t before = in->mark;
-    uint32_t n;
+    bool ends = false;
     if (in->end == in->mark) c->begun = now;
     if (c->kind == HEX) signs_came(c, signs, size);
-    else in->end += size;
-    while (c->kind != HEX && c->stage == OPEN && in->end - in->mark >= 4) {
-        memcpy(&n, in->at + in->mark, 4);
-        if (!n || n > BODY) {
-            in->end = in->mark + 4;
-            c->stage = CLOSED;
-        } else if (in->end - in->mark < 4 + (size_t)n) break;
-        else in->mark += 4 + n;
+    else {
+        in->end += size;
+        in->mark += oa_find_requests(in->at + in->mark, in->end - in->mark, &ends);
+    }
+    if (ends) {
+        in->end = in->mark + 4;
+        c->stage = CLOSED;
     }
     if (in->mark > before) c->begun = now;
+    if (c->kind == READ) keep_from_changing(in->at + before, in->mark - before);
     look(c);
 }
-/* Nothing more comes: what came of a last record is for the server to refuse. */
+/* Nothing more comes: the server will refuse the part of a last record that came. */
 void end_came(Client *c) {
     if (c->kind == HEX && c->digits && c->stage == OPEN) line_ended(c);
     if (c->stage == OPEN) c->stage = CLOSED;
+    look(c);
+}
+/* A client is disconnected: the part of a last request that came is refused. A line of digits gets a length that it does not have, since without its
+ * end nobody knows whether it is whole. */
+void cut_short(Client *c) {
+    uint32_t size = (uint32_t)(c->in.end - c->in.mark) - 3;
+    if (c->kind == HEX && c->in.end > c->in.mark) memcpy(c->in.at + c->in.mark, &size, 4);
+    c->stage = CLOSED;
     look(c);
 }
 /* The same, and what came of it is dropped. */

@@ -1,4 +1,4 @@
-/* What is told: on standard error, to systemd, in Prometheus' text and on the control socket. */
+/* Reports: on standard error, to systemd, in Prometheus' format and on the control socket. */
 #include "gateway.h"
 
 #include <stdarg.h>
@@ -13,21 +13,25 @@ void say(const char *format, ...) {
     fputc('\n', stderr);
     va_end(words);
 }
-/* Tells systemd, where it has started the gateway. */
-void notify(const char *format, ...) {
+/* Notifies systemd, if it has started the gateway. False if its socket is full: the gateway does not wait for it. */
+bool notify(const char *format, ...) {
     char text[300];
     struct sockaddr_un to = {.sun_family = AF_UNIX};
     const char *path = getenv("NOTIFY_SOCKET");
     va_list words;
-    if (!path || strlen(path) >= sizeof to.sun_path) return;
+    if (!path || strlen(path) >= sizeof to.sun_path) return true;
     va_start(words, format);
     vsnprintf(text, sizeof text, format, words);
     va_end(words);
     memcpy(to.sun_path, path, strlen(path));
     if (*path == '@') to.sun_path[0] = 0;
     int fd = socket(AF_UNIX, SOCK_DGRAM | SOCK_CLOEXEC, 0);
-    sendto(fd, text, strlen(text), MSG_NOSIGNAL, (struct sockaddr *)&to, (socklen_t)(offsetof(struct sockaddr_un, sun_path) + strlen(path)));
+    if (fd < 0) return false;
+    socklen_t size = (socklen_t)(offsetof(struct sockaddr_un, sun_path) + strlen(path));
+    ssize_t n = sendto(fd, text, strlen(text), MSG_NOSIGNAL | MSG_DONTWAIT, (struct sockaddr *)&to, size);
+    bool is_full = n < 0 && errno == EAGAIN;
     close(fd);
+    return !is_full;
 }
 
 void observe(Histogram *it, double value) {
@@ -36,7 +40,7 @@ void observe(Histogram *it, double value) {
     it->buckets[bucket]++;
     it->sum += value;
 }
-/* A reply has this code. */
+/* Counts the code of a reply. */
 void note(uint32_t code) {
     static const uint32_t WRITE_FAULT = 0x8003001D;
     if (!code) return;
@@ -49,20 +53,20 @@ void note(uint32_t code) {
             return;
         }
 }
-/* A line for the journal, so often, where there is something to tell. */
+/* Prints a line for the journal at intervals, if there is something to report. */
 void report_counts(void) {
     static struct counts before;
     static double reported;
     if (!(report > 0) || now < reported + report) return;
     reported = now;
     if (counts.requests == before.requests && counts.turned_away == before.turned_away) return;
-    say("%lu clients, %lu requests in %lu batches, %lu refused, %.3f ms for a batch, %lu turned away, %lu let go", counts.live,
+    say("%lu clients, %lu requests in %lu batches, %lu refused, %.3f ms for a batch, %lu turned away, %lu disconnected", counts.live,
         counts.requests - before.requests, counts.batches - before.batches, counts.refused - before.refused, 1e3 * took,
         counts.turned_away - before.turned_away, counts.stalled + counts.silent - before.stalled - before.silent);
     before = counts;
 }
-static void tell_one(FILE *to, const char *kind, const char *name, const char *help, double value) {
-    fprintf(to, "# HELP oaut_gateway_%s %s\n# TYPE oaut_gateway_%s %s\noaut_gateway_%s %.15g\n", name, help, name, kind, name, value);
+void tell_one(FILE *to, const char *kind, const char *of, const char *name, const char *help, double value) {
+    fprintf(to, "# HELP %s_%s %s\n# TYPE %s_%s %s\n%s_%s %.15g\n", of, name, help, of, name, kind, of, name, value);
 }
 static void tell_all(FILE *to, const char *name, const char *help, const Histogram *it) {
     uint64_t count = 0;
@@ -79,23 +83,32 @@ static void tell(FILE *to) {
         double value;
     } all[] = {
         {"gauge", "clients", "Clients that are connected.", (double)counts.live},
-        {"gauge", "clients_waiting", "Clients with requests that are not with the server yet.", (double)waiting},
+        {"gauge", "clients_waiting", "Clients with requests that are not with the server yet.", (double)waiting()},
         {"gauge", "buffer_bytes", "Bytes of the clients' buffers.", (double)(in_bytes + out_bytes)},
-        {"gauge", "kept_waiting", "Whether one that has the server alone, or a backup, keeps the others waiting.", (double)kept_waiting()},
+        {"gauge", "kept_waiting", "Whether an exclusive client or a backup makes the others wait.", (double)kept_waiting()},
+        {"gauge", "unanswered_seconds", "Seconds for which the server has had a request without a reply.", unanswered_for()},
         {"gauge", "faulted", "Whether the store's device has failed.", counts.faulted},
         {"counter", "connections_total", "Clients that have connected.", (double)counts.clients},
         {"counter", "turned_away_total", "Connections beyond the limit, or of users that are not allowed.", (double)counts.turned_away},
-        {"counter", "stalled_total", "Clients let go: replies were left, or a request was.", (double)counts.stalled},
-        {"counter", "silent_total", "Clients let go since they were silent.", (double)counts.silent},
+        {"counter", "stalled_total", "Clients disconnected because they read no replies or did not finish a request.", (double)counts.stalled},
+        {"counter", "silent_total", "Clients disconnected because they were silent.", (double)counts.silent},
         {"counter", "requests_total", "Requests that went to the server.", (double)counts.requests},
         {"counter", "batches_total", "Batches that went to the server.", (double)counts.batches},
         {"counter", "received_bytes_total", "Bytes of requests.", (double)counts.in},
         {"counter", "sent_bytes_total", "Bytes of replies.", (double)counts.out},
         {"counter", "server_starts_total", "How often the server was started.", (double)counts.starts},
         {"counter", "backups_total", "Backups.", (double)counts.holds},
-        {"counter", "held_seconds_total", "Seconds that backups kept the server waiting.", counts.held},
+        {"counter", "held_seconds_total", "Seconds for which backups paused the server.", counts.held},
+        {"gauge", "watchers", "Connections that watch changes.", (double)watcher_count},
+        {"counter", "changes_total", "Acknowledged changes, if there is a socket of --watch.", (double)counts.changes},
+        {"counter", "missed_changes_total", "Changes that slow watching clients have missed.", (double)counts.missed},
+        {"counter", "read_only_refused_total", "Requests that a read-only socket has refused.", (double)counts.turned_down},
+        {"counter", "slow_batches_total", "Batches that took longer than --slow.", (double)counts.slow},
+        {"counter", "measure_failures_total", "How often the store could not be measured.", (double)counts.unmeasured},
     };
-    for (unsigned i = 0; i < sizeof all / sizeof *all; i++) tell_one(to, all[i].kind, all[i].name, all[i].help, all[i].value);
+    fputs("# HELP oaut_gateway_build_info The version of the program.\n# TYPE oaut_gateway_build_info gauge\n", to);
+    fputs("oaut_gateway_build_info{version=\"" VERSION "\"} 1\n", to);
+    for (unsigned i = 0; i < sizeof all / sizeof *all; i++) tell_one(to, all[i].kind, "oaut_gateway", all[i].name, all[i].help, all[i].value);
     fputs("# HELP oaut_gateway_refused_total Requests that were refused, by code.\n# TYPE oaut_gateway_refused_total counter\n", to);
     for (unsigned i = 0; i < CODES && counts.codes[i].count; i++)
         fprintf(to, "oaut_gateway_refused_total{code=\"0x%08x\"} %lu\n", counts.codes[i].code, counts.codes[i].count);
@@ -103,11 +116,12 @@ static void tell(FILE *to) {
     tell_all(to, "commit_seconds", "From a batch's sending to its last reply.", &counts.commit);
     tell_all(to, "wait_seconds", "From the coming of a client's requests to their replies.", &counts.wait);
 }
-/* Answers what has come whole on a socket of metrics or of control; a control socket may ask again. */
+/* Answers a whole request on a socket of metrics or of control; a control socket may send more. */
 void answer_monitor(Client *c) {
     const char *asked = c->in.at;
     char *text = NULL;
     size_t size = 0;
+    bool is_gone = false;
     FILE *to = open_memstream(&text, &size);
     if (!to) fail(1, "out of memory");
     c->stage = ANSWERED;
@@ -115,12 +129,20 @@ void answer_monitor(Client *c) {
         bool found = !strncmp(asked, "GET /metrics ", 13);
         fprintf(to, "HTTP/1.0 %s\r\nContent-Type: text/plain; version=0.0.4\r\n\r\n", found ? "200 OK" : "404 Not Found");
         if (found) tell(to);
-    } else if (!strcmp(asked, "status\n")) tell(to);
+        if (found) tell_fullness(to);
+    } else if (c->kind == WATCH && !strncmp(asked, "keys ", 5)) is_gone = send_keys(c, asked, to);
+    else if (c->kind == WATCH) begin_watching(c, asked, to);
+    else if (!strcmp(asked, "status\n")) tell(to);
     else if (!strcmp(asked, "store\n")) c->stage = (fprintf(to, "%s\n", store), OPEN);
+    else if (!strncmp(asked, "reload\t", 7) || !strcmp(asked, "reload\n")) reload(asked + 6, to);
+    else if (!strcmp(asked, "track\n") && tracker && tracker != c) c->stage = (fputs("busy\n", to), OPEN);
+    else if (!strcmp(asked, "track\n")) c->stage = (track(c), OPEN);
     else if (!strcmp(asked, "hold\n") && !holder) c->stage = (holder = c, OPEN);
+    else if (!strcmp(asked, "tail\n") && begin_tail(c)) c->stage = (fputs("{}\n", to), OPEN);
     else if (!strcmp(asked, "free\n") && c == holder && is_held) fprintf(to, "held for %.3f s\n", let_go_on());
     else fputs("refused\n", to);
-    fclose(to);
-    append(&c->out, &out_bytes, text, size);
+    if (fclose(to)) fail(1, "out of memory");
+    if (is_gone) gone(c);
+    else append(&c->out, &out_bytes, text, size);
     free(text);
 }

@@ -1,5 +1,6 @@
 """The gateway, clients/gateway, as its tests have it: built once, with sanitizers where the compiler has them, and started over a store of its own."""
 import contextlib
+import fcntl
 import functools
 import os
 import pathlib
@@ -8,7 +9,10 @@ import signal
 import socket
 import struct
 import subprocess
+import sys
 import tempfile
+import termios
+import threading
 import time
 import unittest
 
@@ -17,9 +21,10 @@ from running import PROGRAM, ROOT, run_in
 from wire import oaut
 
 GATEWAY = f"{ROOT}/clients/gateway"
+LIBRARY = f"{ROOT}/crates/oa_gateway_c/out/liboa_gateway_c.a"  # the proved part, by tools/gateway_library.py
 FULL = f"{ROOT}/examples/full.idl"
 SANITIZED = "-O1 -g -fsanitize=address,undefined -fno-sanitize-recover=all"
-SECONDS = 180  # of each thing that is waited for
+SECONDS = float(os.environ.get("OAUT_SECONDS") or 180)  # of each thing that is waited for
 
 
 def left_out(*tools):
@@ -36,7 +41,10 @@ def compiled(words, flags):
 @functools.lru_cache(None)
 def built(flags=None):
     """The gateway's program and what its build said, with the folder that holds it as long as this process lives. With sanitizers, where nothing is said and the
-    compiler has them."""
+    compiler has them. OAUT_GATEWAY and OAUT_GATEWAY_PLAIN name programs that are there already (tools/gateway_mutants.py)."""
+    there = os.environ.get("OAUT_GATEWAY" if flags is None else "OAUT_GATEWAY_PLAIN")
+    if there:
+        return there, (0, ""), None
     folder = tempfile.TemporaryDirectory()
     status, said = compiled([f"{GATEWAY}/build.sh", folder.name], SANITIZED if flags is None else flags)
     if status and flags is None:
@@ -54,7 +62,7 @@ def library(name, source):
     return f"{folder.name}/{name}.so", folder
 
 
-# a device whose syncs fail from one on
+# a device whose syncs fail from one on, with the error of this number, EIO if there is none
 FAILS = r"""
 #define _GNU_SOURCE
 #include <dlfcn.h>
@@ -63,7 +71,7 @@ FAILS = r"""
 int fdatasync(int fd) {
     static long left = -1;
     if (left < 0) left = atol(getenv("SYNCS"));
-    if (!left) { errno = EIO; return -1; }
+    if (!left) { errno = getenv("SYNC_ERROR") ? atoi(getenv("SYNC_ERROR")) : EIO; return -1; }
     left--;
     return ((int (*)(int))dlsym(RTLD_NEXT, "fdatasync"))(fd);
 }
@@ -110,6 +118,7 @@ class Gateway:
         starts=True,
         library=FULL,
         program=PROGRAM,
+        flags=None,
         **variables,
     ):
         self.own = tempfile.TemporaryDirectory(dir=fast_folder()) if room is None else None
@@ -118,7 +127,8 @@ class Gateway:
         if not os.path.exists(self.store):
             copy_store(store_of(library)[0], self.store)
         named = [part for it in sockets for part in (f"--{it}", f"{self.room}/{it}")]
-        self.words = [*under, built()[0], "--program", program, *named, *words, self.store]
+        self.binary = built(flags)[0]
+        self.words = [*under, self.binary, "--program", program, *named, *words, self.store]
         self.variables = {"ASAN_OPTIONS": "detect_leaks=1:abort_on_error=0", **variables}
         self.process, self.said = None, ""
         if starts:
@@ -132,15 +142,23 @@ class Gateway:
         return self
 
     def answers(self):
+        """Whether it listens. It has told the connection that asks its end by then, so all of its sockets have their names."""
         try:
-            with self.dial("listen"):
+            with self.dial("listen") as sock:
+                with contextlib.suppress(OSError):
+                    sock.shutdown(socket.SHUT_WR)
+                rest(sock)
                 return True
         except OSError:
             return False
 
+    def settles(self, count=0):
+        """Waits until so many clients are connected. A connection that was closed counts until the gateway has seen its end."""
+        self.wait_for(lambda: self.counters().get("oaut_gateway_clients") == count, f"there are not {count} clients")
+
     @staticmethod
-    def wait_for(fact, what):
-        until = time.monotonic() + SECONDS
+    def wait_for(fact, what, seconds=SECONDS):
+        until = time.monotonic() + seconds
         while not (found := fact()):
             if time.monotonic() > until:
                 raise AssertionError(what)
@@ -188,8 +206,10 @@ class Gateway:
 
     def server(self):
         """The process that serves, of the gateway's children; 0 where there is none."""
-        path = f"/proc/{self.process.pid}/task/{self.process.pid}/children"
-        for it in map(int, pathlib.Path(path).read_text().split()):
+        path, children = f"/proc/{self.process.pid}/task/{self.process.pid}/children", ""
+        with contextlib.suppress(OSError):
+            children = pathlib.Path(path).read_text()
+        for it in map(int, children.split()):
             with contextlib.suppress(OSError):
                 if b"serve" in pathlib.Path(f"/proc/{it}/cmdline").read_bytes().split(b"\0"):
                     return it
@@ -197,7 +217,7 @@ class Gateway:
 
     def counters(self):
         """What `status` prints, by name."""
-        done = subprocess.run([built()[0], "status", f"{self.room}/control"], capture_output=True, text=True, timeout=SECONDS)
+        done = subprocess.run([self.binary, "status", f"{self.room}/control"], capture_output=True, text=True, timeout=SECONDS)
         return {name: float(value) for name, value in (line.rsplit(" ", 1) for line in done.stdout.splitlines() if not line.startswith("#"))}
 
     def end(self, with_=signal.SIGTERM):
@@ -224,6 +244,23 @@ def hear(sock, count):
     while len(got) < count and (some := sock.recv(count - len(got))):
         got += some
     return bytes(got)
+
+
+def sends(sock, data):
+    """Sends in a thread of its own."""
+
+    def send():
+        with contextlib.suppress(OSError):
+            sock.sendall(data)
+
+    thread = threading.Thread(target=send, daemon=True)
+    thread.start()
+    return thread
+
+
+def arrived(sock):
+    """How many bytes have come to a socket that nobody has read yet."""
+    return int.from_bytes(fcntl.ioctl(sock, termios.FIONREAD, bytes(4)), sys.byteorder)
 
 
 def bodies_of(data):

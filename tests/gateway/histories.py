@@ -2,26 +2,32 @@
 
     OAUT_PROGRAM=PATH python3 tests/gateway/histories.py [--seed S] [--rounds N]
 
-In a round 16 clients ask over all opcodes at once, some in pieces, some by lines, some alone, some over a line that delays, splits and stalls their bytes (in the
-place of netem, which not every kernel has), and hang up in several ways; meanwhile the server, the gateway or both are killed, the device fails, or nothing happens. Between gateway and server stands a program that writes down what goes by in either direction: the order
-in which the server was asked. Behind each round this is looked at:
+In a round 16 clients ask over all opcodes at once: some in pieces, some by lines, some alone, some over a line that delays, splits and stalls their bytes (in
+the place of netem, which not every kernel has). They hang up in several ways, some in the middle of their requests. Meanwhile the server, the gateway or both
+are killed, the device fails or is full, the server or some clients do nothing for a while, or nothing happens. Between gateway and server a program writes down
+what goes by in either direction: the order in which the server was asked. After each round this is looked at:
 
 - each reply of the server is the model's, request by request in that order, and to whom asked it: locks have owners, and end with them (tests/support/sharing.py);
 - each client's requests stand there in its own order and under one number, none twice, none that it did not send, and each reply that it got is the one of its own
   request;
 - a request that was sent behind the reply to another one stands behind it;
 - nobody comes between two requests of who has the server alone;
+- what comes by a read-only socket changes nothing, and is refused where it might;
+- those who watch were told each change that was answered with S_OK, once and in that order, and nothing else; of a gateway that was killed some first of them;
 - the store opens to the model's objects behind some first of the requests, all that were answered among them.
 """
 import argparse
 import collections
 import contextlib
 import copy
+import errno
+import json
 import os
 import random
 import signal
 import socket
 import struct
+import subprocess
 import sys
 import tempfile
 import threading
@@ -32,16 +38,23 @@ from asked import REPLACE, Answering, Bytes
 from codes import WRITE_FAULT
 from drawn import Session
 from due import dump_of
-from gateways import FAILS, Gateway, library, record
+from gateways import FAILS, SECONDS, Gateway, library, record
 from kept import changed
 from model import LIBRARY, Refusal
-from running import PROGRAM, run_in
-from sharing import Owned, Sharing, Streams, told_of
+from running import PROGRAM, goes_on, run_in
+from sharing import STUB, Owned, Sharing, Streams, told_of
+from watched import expected, passed, unpatched
 
 CLIENTS = 16
 OWN = 0xFFFF_FFFE  # the gateway's own number
 E_FAIL = 0x8000_4005
-KILLS = ("nothing", "server", "gateway", "both", "device", "end")
+# what happens in a round: `device` and `full` are a sync that fails with EIO and ENOSPC, `stop` is a server that does nothing for a while, `stall` are clients
+# that do so
+KILLS = ("nothing", "server", "gateway", "both", "device", "full", "stop", "stall", "end")
+FAULTS = {"device": errno.EIO, "full": errno.ENOSPC}
+SYNCS = 60  # the last sync that fails is the one of this number
+STALLED = 1  # seconds after which the gateway lets such a client go
+LONGEST = 600  # seconds of a round's clients: far more than they need on a machine that is busy
 LIBRARIES = {}
 
 RECORDER = r"""#!%s -SE
@@ -181,6 +194,8 @@ class Visit:
         self.bodies, self.sent_at, self.replies, self.heard_at = [], [], [], []
         self.out, self.got, self.planned, self.most = b"", b"", dice.randrange(4, 40), dice.choice([1, 1, 4, 32])
         self.ended = self.half = False
+        self.stalls, self.until = None, 0  # behind so many requests it does nothing, until a point in time
+        self.leaves = dice.randrange(1, 12) if dice.random() < 0.15 else None  # behind so many it goes, whatever it waits for
         sock.setblocking(False)
 
     def ask(self, guide):
@@ -191,8 +206,16 @@ class Visit:
             self.out += body.hex().encode() + b"\n" if self.kind == "listen-hex" else record(body)
             self.planned -= 1
 
+    def passed(self, serial):
+        """What the server is asked of a request."""
+        return passed(self.bodies[serial]) if self.kind == "listen-read" else self.bodies[serial]
+
     def step(self, guide):
         """Sends and hears what it can; false once it has ended."""
+        if self.stalls is not None and len(self.bodies) >= self.stalls:
+            self.stalls, self.until = None, time.monotonic() + self.dice.uniform(STALLED / 2, 3 * STALLED)
+        if time.monotonic() < self.until:
+            return True
         self.ask(guide)
         try:
             if self.out:
@@ -210,6 +233,9 @@ class Visit:
         except OSError:
             self.ended = True
         self.hear()
+        if self.leaves is not None and len(self.bodies) >= self.leaves:
+            self.sock.setsockopt(socket.SOL_SOCKET, socket.SO_LINGER, struct.pack("ii", 1, 0))
+            self.ended, self.half = True, False
         done = not self.planned and not self.out and len(self.replies) == len(self.bodies)
         if self.half and not self.ended and not self.planned and not self.out and self.half != "shut":
             self.sock.shutdown(socket.SHUT_WR)
@@ -239,10 +265,38 @@ class Visit:
             self.heard_at.append(now)
 
 
+class Watcher:
+    """One who watches a gateway to its end."""
+
+    def __init__(self, gateway):
+        self.lines, self.first, self.sock = [], None, None
+        gateway.wait_for(lambda: self.dialled(gateway) or gateway.process.poll() is not None, "nobody may watch")
+        self.thread = threading.Thread(target=self.hear, daemon=True)
+        self.thread.start()
+
+    def dialled(self, gateway):
+        try:
+            self.sock = gateway.dial("watch")
+            self.sock.sendall(b"watch values\n")
+        except OSError:
+            return False
+        return True
+
+    def hear(self):
+        if self.sock is None:
+            return
+        with contextlib.suppress(OSError), self.sock, self.sock.makefile("rb") as file:
+            for line in file:
+                if line.endswith(b"\n"):
+                    self.lines.append(json.loads(line))
+        if self.lines and "epoch" in self.lines[0]:
+            self.first = self.lines.pop(0)
+
+
 class Round:
     def __init__(self, gateway, seed, model):
-        self.gateway, self.dice, self.visits = gateway, random.Random(seed), []
-        self.kind, self.bad_lines = KILLS[seed % len(KILLS)], 0
+        self.gateway, self.seed, self.dice, self.visits = gateway, seed, random.Random(seed), []
+        self.kind, self.bad_lines, self.resumes = KILLS[seed % len(KILLS)], 0, None
         self.guide = Guide(seed)
         self.guide.model = copy.deepcopy(model)
         first = Replay()
@@ -250,7 +304,7 @@ class Round:
         self.states = [first]
 
     def dial(self):
-        kind = self.dice.choice(["listen"] * 6 + ["listen-hex", "alone"])
+        kind = self.dice.choice(["listen"] * 6 + ["listen-hex", "alone", "listen-read"])
         try:
             sock = self.gateway.dial(kind)
         except OSError:
@@ -260,6 +314,8 @@ class Round:
             sock = bad_line(sock, self.dice.getrandbits(30))
         visit = Visit(len(self.visits) + 1, kind, sock, self.dice, self.dice.random() < 0.25)
         visit.half = self.dice.random() < 0.5
+        if self.kind == "stall" and self.dice.random() < 0.3:
+            visit.stalls = self.dice.randrange(1, 10)
         self.visits.append(visit)
         return visit
 
@@ -268,13 +324,16 @@ class Round:
         for it in os.listdir(self.gateway.room):
             if it.startswith("log."):
                 os.unlink(f"{self.gateway.room}/{it}")
+        self.gateway.words = [*self.gateway.usual[:-1], *(["--stalled", str(STALLED)] if self.kind == "stall" else []), self.gateway.usual[-1]]
         self.gateway.variables.pop("SYNCS", None)
-        if self.kind == "device":
-            self.gateway.variables["SYNCS"] = self.dice.randrange(4, 60)
+        if self.kind in FAULTS:
+            self.gateway.variables["SYNCS"] = self.seed // len(KILLS) % SYNCS
+            self.gateway.variables["SYNC_ERROR"] = FAULTS[self.kind]
         self.gateway.start()
+        self.watcher = Watcher(self.gateway)
         begun, live, left = time.monotonic(), [], CLIENTS + self.dice.randrange(8)
         strikes = begun + self.dice.uniform(0.02, 0.5)
-        struck = self.kind in ("nothing", "device")
+        struck = self.kind in ("nothing", *FAULTS)
         while True:
             while left and len(live) < CLIENTS:
                 visit = self.dial()
@@ -286,22 +345,28 @@ class Round:
             if not struck and now > strikes:
                 struck = True
                 self.strike()
+            if self.resumes and now > self.resumes[1]:
+                self.resume()
             if not live and (not left or self.gateway.process.poll() is not None):
                 break
-            if now > begun + 120:
+            if now > begun + LONGEST:
                 raise Wrong(f"clients that wait: {[(it.kind, len(it.bodies), len(it.replies)) for it in live]}")
             time.sleep(0.0005)
+        self.resume()
         if self.gateway.process.poll() is None:
             if not struck or self.kind == "nothing":
-                Gateway.wait_for(lambda: self.gateway.counters().get("oaut_gateway_clients") == 0, "clients are left")
+                self.gateway.settles()
+            if self.kind == "stall":  # (its server too has only so many seconds for its end, if none are named anew)
+                subprocess.run([self.gateway.binary, "reload", f"{self.gateway.room}/control"], stdout=subprocess.DEVNULL, stderr=subprocess.DEVNULL)
             self.gateway.process.terminate()
-        status = self.gateway.process.wait(60)
+        status = self.gateway.process.wait(SECONDS)
+        self.watcher.thread.join(SECONDS)
         with open(f"{self.gateway.room}/said") as file:
             said = file.read()
         if "Sanitizer" in said or "runtime error" in said:
             raise Wrong(said[-3000:])
         faulted = any(struct.unpack_from("<I", it, 4)[0] == WRITE_FAULT for visit in self.visits for it in visit.replies)
-        due = {"gateway": (-9,), "both": (-9,), "device": (0, 3)}.get(self.kind, (0,))
+        due = {"gateway": (-9,), "both": (-9,), "device": (0, 3), "full": (0, 3)}.get(self.kind, (0,))
         if struck and status not in due and not (self.kind in ("gateway", "both") and status == 0) or (faulted and status != 3):
             raise Wrong(f"the gateway's status is {status}: {said[-1000:]}")
 
@@ -310,6 +375,9 @@ class Round:
         process, server = self.gateway.process, self.gateway.server()
         if self.kind == "end":
             process.terminate()
+        if self.kind == "stop" and server:
+            os.kill(server, signal.SIGSTOP)
+            self.resumes = server, time.monotonic() + self.dice.uniform(0.05, 1)
         if self.kind in ("server", "both") and server:
             try:
                 with open(f"/proc/{server}/task/{server}/children") as file:
@@ -319,6 +387,13 @@ class Round:
                 pass
         if self.kind in ("gateway", "both"):
             process.kill()
+
+    def resume(self):
+        """A server that was stopped goes on."""
+        if self.resumes:
+            with contextlib.suppress(ProcessLookupError):
+                os.kill(self.resumes[0], signal.SIGCONT)
+        self.resumes = None
 
     # --- what is looked at
 
@@ -338,19 +413,37 @@ class Round:
             found.append((asked.all, told_of(bytes(streams[b"S"]), cut=True)))
         return found
 
+    def wait_for_servers(self):
+        """Waits until no server runs: behind a gateway that was killed one still does what had come whole."""
+        program = self.gateway.words[self.gateway.words.index("--program") + 1].encode()
+
+        def runs():
+            for it in filter(str.isdigit, os.listdir("/proc")):
+                with contextlib.suppress(OSError), open(f"/proc/{it}/cmdline", "rb") as file:
+                    if program in file.read().split(b"\0"):
+                        return True
+            return False
+
+        Gateway.wait_for(lambda: not runs(), "a server does not end")
+
     def judge(self):
+        self.wait_for_servers()
         visits = {it.number: it for it in self.visits}
         position, order, replies = {}, [], {}
-        for asked, told in self.sessions():
+        sessions = self.sessions()
+        self.judge_watcher(expected(sessions))
+        for asked, told in sessions:
             self.states = self.followed(asked, told)
             there = {}
             for client, body in asked:
                 if not isinstance(body, bytes):
                     there.pop(client, None)
                     continue
+                if self.is_begin(body) or client == OWN:
+                    continue
                 tag = struct.unpack_from("<I", body)[0]
                 visit = visits.get(tag >> 12)
-                if visit is None or (tag & 4095) >= len(visit.bodies) or body != visit.bodies[tag & 4095]:
+                if visit is None or (tag & 4095) >= len(visit.bodies) or body != visit.passed(tag & 4095):
                     raise Wrong(f"nobody sent {body.hex()}")
                 if there.setdefault(client, visit) != visit:
                     raise Wrong(f"two clients have the number {client}")
@@ -363,6 +456,22 @@ class Round:
             self.judge_visit(visit, position, replies)
         self.judge_time(visits, order)
         self.judge_alone(visits, order)
+
+    def judge_watcher(self, lines):
+        """A watcher of a gateway that was not killed is told all, of another one some first of it."""
+        got = self.watcher.lines
+        while len(got) > len(lines) and "restart" in got[-1]:
+            got.pop()  # of a server that has ended before it was asked anything
+        if self.kind not in ("gateway", "both") and len(got) != len(lines):
+            raise Wrong(f"who watches is told {len(got)} lines, not {len(lines)}: {got[-3:]}, {lines[len(got) - 3 :][:4]}")
+        for place, line in enumerate(got):
+            if place >= len(lines) or line != lines[place]:
+                raise Wrong(f"who watches is told {line}, not {lines[place : place + 1]}")
+
+    def is_begin(self, body):
+        """Whether a body is what had come of the last line of a client that has gone in the middle of it: at its end a line is whole."""
+        gone = [it for it in self.visits if it.kind == "listen-hex" and it.leaves is not None]
+        return any(len(body) < len(whole) and whole.startswith(body) for it in gone for whole in it.bodies)
 
     def followed(self, asked, told):
         """From each state that the server may have begun with: those that it may have left."""
@@ -378,12 +487,16 @@ class Round:
 
     def judge_visit(self, visit, position, replies):
         last = -1
+        if self.kind == "stall" and visit.replies and visit.replies[-1] == STUB[4:]:  # what was refused is what had come of the next request
+            visit.replies.pop()
         for serial, body in enumerate(visit.bodies):
             tag = visit.number << 12 | serial
             got = visit.replies[serial] if serial < len(visit.replies) else None
             if position.get(tag, len(position)) < last:
                 raise Wrong("a client's requests change their order")
             last = position.get(tag, len(position))
+            if got is not None and visit.kind == "listen-read":
+                got = unpatched(body, got)
             if got is not None and (tag not in position or got != replies.get(tag)):
                 raise Wrong(f"the reply to {body.hex()} is {got.hex()}, not {replies.get(tag, b'').hex()}")
         if self.kind == "nothing" and len(visit.replies) != len(visit.bodies) and visit.half:
@@ -415,7 +528,8 @@ class Round:
         while heard < len(told) and place < len(asked):
             code = struct.unpack_from("<I", told[heard][1], 8)[0] if told[heard][1] else 0
             if code in (WRITE_FAULT, E_FAIL):
-                codes = [struct.unpack_from("<I", it, 8)[0] for _, it in told[heard:] if it]
+                # (what is left of a request that did not come whole is refused as ever)
+                codes = [struct.unpack_from("<I", it, 8)[0] for _, it in told[heard:] if it and it != STUB]
                 faults = codes.count(WRITE_FAULT)
                 if codes != [WRITE_FAULT] * faults + [E_FAIL] * (len(codes) - faults) or not faults:
                     raise Wrong(f"behind a device's fault the codes are {codes}")
@@ -469,7 +583,9 @@ def rounds(first, count, tells=lambda *_: None):
             model = Replay().model
             LIBRARIES[LIBRARY] = model.library
             LIBRARIES[model.library.text()] = model.library
-            with Gateway("--report", "0", starts=False, library=f"{room}/lib.idl", program=f"{room}/recorder") as gateway:
+            sockets = ("listen", "alone", "listen-hex", "listen-read", "control", "metrics", "watch")
+            with Gateway("--report", "0", sockets=sockets, starts=False, library=f"{room}/lib.idl", program=f"{room}/recorder") as gateway:
+                gateway.usual = gateway.words
                 with open(f"{room}/recorder") as file:
                     text = file.read().replace("ROOM", gateway.room)
                 with open(f"{room}/recorder", "w") as file:
@@ -482,12 +598,14 @@ def rounds(first, count, tells=lambda *_: None):
                         model = it.check_store()
                     except (Wrong, AssertionError) as fault:
                         raise Wrong(f"round {seed}, {it.kind}: {fault}") from fault
+                    goes_on()
                     seen["rounds"] += 1
                     seen[it.kind] += 1
                     seen["connections"] += len(it.visits)
                     seen["bad lines"] += it.bad_lines
                     seen["requests"] += sum(len(visit.bodies) for visit in it.visits)
                     seen["replies"] += sum(len(visit.replies) for visit in it.visits)
+                    seen["watched"] += len(it.watcher.lines)
                     seen["unanswered"] += sum(len(visit.bodies) - len(visit.replies) for visit in it.visits)
                     tells(seed, it.kind, seen)
     return seen

@@ -114,6 +114,11 @@ class Agent:
             with oaut.connect(sock, timeout=SECONDS) as server:
                 yield server
 
+    def counters(self):
+        """What `status` prints, by name."""
+        done = subprocess.run([built()[0], "status", f"{self.run}/it.control.sock"], capture_output=True, text=True, timeout=SECONDS)
+        return {name: float(value) for name, value in (line.rsplit(" ", 1) for line in done.stdout.splitlines() if not line.startswith("#"))}
+
     def script(self, name, text):
         path = f"{self.room}/{name}"
         with open(path, "w") as file:
@@ -136,7 +141,7 @@ class AgentCases(Cases):
                 stdout=subprocess.PIPE,
                 stderr=subprocess.STDOUT,
                 text=True,
-                timeout=SECONDS,
+                timeout=4 * SECONDS,
             )
             self.tell("ocf-tester has nothing to say", done.returncode == 0 and "passed all tests" in done.stdout, done.stdout)
 
@@ -175,7 +180,7 @@ class AgentCases(Cases):
             self.does("the gateway has started a killed server again", agent.act("monitor"), OK)
             server = agent.server()
             os.kill(server, signal.SIGSTOP)
-            self.does("a server that does not answer", agent.act("monitor", patience="1"), GENERIC, "no answer within 1 s")
+            self.does("a server that does not answer", agent.act("monitor", patience="1"), GENERIC, "no reply within 1 s")
             self.does("it is stopped all the same", agent.act("stop", timeout=8), OK)
             self.tell("and is not left", has_ended(server))
             agent.act("start")
@@ -185,20 +190,48 @@ class AgentCases(Cases):
             self.does("a gateway that was killed", agent.act("monitor"), GENERIC, "was killed|does not serve")
             self.does("it starts again", agent.act("start"), OK)
             os.kill(agent.number(), signal.SIGTERM)
+            deadline = time.monotonic() + SECONDS
             while agent.act("monitor")[0] in (OK, GENERIC) and time.monotonic() < deadline:
                 time.sleep(0.1)
             self.does("one that has ended in order", agent.act("monitor"), NOT_RUNNING)
+
+    def test_at_the_limit_of_clients(self):
+        """The gateway turns monitor away, and still serves; one whose server does not answer a client is seen all the same."""
+        with Agent(options="--clients 1") as agent:
+            self.does("it starts", agent.act("start"), OK)
+            Gateway.wait_for(lambda: agent.counters().get("oaut_gateway_clients") == 0, "what asked is still connected")
+            with agent.session() as server:
+                item = server.create("Item")
+                self.does("it serves", agent.act("monitor"), OK)
+                os.kill(agent.server(), signal.SIGSTOP)
+                asking = threading.Thread(target=lambda: item.Count)
+                asking.start()
+                Gateway.wait_for(lambda: agent.counters()["oaut_gateway_unanswered_seconds"] > 1.5, "its server answers")
+                self.does("its server does not answer", agent.act("monitor", patience="1"), GENERIC, "has hung up")
+                os.kill(agent.server(), signal.SIGCONT)
+                asking.join()
+                self.does("it does again", agent.act("monitor"), OK)
+
+    def test_a_user_that_may_not_connect(self):
+        """With --allow-user the gateway turns away who starts and monitors it."""
+        with Agent(options="--allow-user 4242") as agent:
+            self.does("it starts", agent.act("start"), OK)
+            self.does("it serves", agent.act("monitor"), OK)
+            self.does("it stops", agent.act("stop"), OK)
 
     def test_a_device_that_fails(self):
         with Agent() as agent:
             failing = agent.script("failing", f'LD_PRELOAD={library("fails", FAILS)[0]} SYNCS=40 exec {PROGRAM} "$@"')
             self.does("it starts", agent.act("start", program=failing), OK)
-            with agent.session() as server, contextlib.suppress(oaut.Fault):
+            with agent.session() as server, contextlib.suppress(oaut.Error):
                 item = server.create("Item")
                 for it in range(100):
                     item.Count = it
-            self.does("it is not for this host", agent.act("monitor"), INSTALLED, "device has failed here")
-            self.does("a probe has it stopped", agent.act("monitor", CRM_meta_interval="0"), GENERIC, "device has failed here")
+            for name, more, status in (("it is not for this host", {}, INSTALLED), ("a probe has it stopped", {"CRM_meta_interval": "0"}, GENERIC)):
+                got = agent.act("monitor", **more)
+                # the gateway ends a second or two after the fault, so on a busy machine it may have ended while it was asked
+                if os.path.exists(f"{agent.run}/it.sock"):
+                    self.does(name, got, status, "device has failed here")
             deadline = time.monotonic() + SECONDS
             while not os.path.exists(f"{agent.run}/it.status") and time.monotonic() < deadline:
                 time.sleep(0.1)
@@ -206,6 +239,24 @@ class AgentCases(Cases):
             self.does("and a probe finds nothing of it", agent.act("monitor", CRM_meta_interval="0"), NOT_RUNNING)
             self.does("it stops", agent.act("stop"), OK)
             self.does("that is all of it", agent.act("monitor"), NOT_RUNNING)
+
+    def test_a_device_that_fails_behind_a_start_that_waited(self):
+        """As one takes over: the store was in use at first. What was said of that is of no gateway that has ended since."""
+        with Agent() as agent, Agent() as other:
+            self.does("another one has the store", other.act("start", store=agent.store), OK)
+            failing = agent.script("failing", f'LD_PRELOAD={library("fails", FAILS)[0]} SYNCS=40 exec {PROGRAM} "$@"')
+            starts = threading.Thread(target=lambda: self.does("it starts in the end", agent.act("start", timeout=60, program=failing), OK))
+            starts.start()
+            log = f"{agent.room}/oaut-it.log"
+            Gateway.wait_for(lambda: os.path.exists(log) and "in use by another process" in open(log).read(), "it does not wait")
+            self.does("the other one stops", other.act("stop"), OK)
+            starts.join()
+            with agent.session() as server, contextlib.suppress(oaut.Error):
+                item = server.create("Item")
+                for it in range(100):
+                    item.Count = it
+            Gateway.wait_for(lambda: os.path.exists(f"{agent.run}/it.status"), "the gateway does not end")
+            self.does("it is not for this host", agent.act("monitor"), INSTALLED, "device has failed here")
 
     def test_what_is_refused(self):
         with Agent() as agent:
@@ -232,6 +283,77 @@ class AgentCases(Cases):
             with open(f"{agent.room}/no.store", "wb"):
                 pass
             self.does("a file that is no store", agent.act("start", store=f"{agent.room}/no.store"), INSTALLED, "not a store|not started again")
+
+    def test_files_of_others(self):
+        """A file that has the name of its socket, and a socket of another process: both stay, whatever the agent does, and no such gateway is said to serve."""
+        with Agent() as agent:
+            precious = f"{agent.room}/items.store"
+            with open(precious, "wb") as file:
+                file.write(b"precious")
+            for action, status in (("stop", OK), ("start", CONFIGURED), ("stop", OK)):
+                self.does(f"{action} over a file", agent.act(action, timeout=7, listen=precious), status)
+                self.tell(f"the file is there behind {action}", os.path.exists(precious) and open(precious, "rb").read() == b"precious")
+            os.makedirs(agent.run, exist_ok=True)
+            with socket.socket(socket.AF_UNIX) as listener:
+                listener.bind(f"{agent.run}/it.sock")
+                listener.listen()
+                self.does("start over a socket of another process", agent.act("start", timeout=7), GENERIC, "another process listens on it")
+                self.does("stop", agent.act("stop"), OK)
+                with socket.socket(socket.AF_UNIX) as sock:
+                    self.tell("the other one is reached as before", sock.connect_ex(f"{agent.run}/it.sock") == 0)
+
+    @unittest.skipIf(os.getuid(), "another user's processes are made by root alone")
+    def test_processes_of_others(self):
+        """The number of a session that has ended may be another one's by now, of another user: nothing of it is ended."""
+        with Agent() as agent:
+            other = subprocess.Popen(["sleep", "1000"], start_new_session=True, user=65_534, group=65_534, extra_groups=[])
+            try:
+                os.makedirs(agent.run, exist_ok=True)
+                with open(f"{agent.run}/it.pid", "w") as file:
+                    file.write(f"{other.pid}\n")
+                self.does("it is not taken for the gateway", agent.act("monitor"), GENERIC, "^the gateway was killed$")
+                self.does("it stops", agent.act("stop", timeout=7), OK)
+                self.tell("the other one goes on", other.poll() is None and not has_ended(other.pid))
+            finally:
+                other.kill()
+                other.wait()
+
+    def test_a_user_that_nobody_knows_for_a_while(self):
+        """Where users are looked up has failed: stop leaves no process that has the store."""
+        with Agent() as agent:
+            self.does("it starts", agent.act("start"), OK)
+            number, server = agent.number(), agent.server()
+            os.mkdir(f"{agent.room}/bin")
+            agent.script("bin/id", "exit 1")
+            before, os.environ["PATH"] = os.environ["PATH"], f"{agent.room}/bin:{os.environ['PATH']}"
+            try:
+                self.does("it stops", agent.act("stop"), OK)
+            finally:
+                os.environ["PATH"] = before
+            self.tell("no process is left", has_ended(number) and has_ended(server))
+
+    @unittest.skipIf(os.getuid(), "root alone runs the gateway as another user")
+    def test_its_user_leads_nobody_astray(self):
+        """The user whose the gateway is has the folder of its sockets: what root does there writes no file elsewhere."""
+        with Agent(user="nobody") as agent:
+            for option, name in (("gateway", "oaut-gateway"), ("program", "oaut")):
+                shutil.copy(agent.given[option], f"{agent.room}/{name}")
+                agent.given[option] = f"{agent.room}/{name}"
+            os.chown(agent.store, pwd.getpwnam("nobody").pw_uid, -1)
+            precious = f"{agent.room}/precious"
+            with open(precious, "w") as file:
+                file.write("precious")
+            os.chmod(precious, 0o600)
+            self.does("it starts", agent.act("start"), OK)
+            with agent.session() as server:
+                self.tell("it serves", server.create("Item").number == 1)
+            gateway = agent.number()
+            self.tell("it is the user's", os.stat(f"/proc/{gateway}").st_uid == pwd.getpwnam("nobody").pw_uid)
+            os.symlink(precious, f"{agent.run}/it.status")
+            os.kill(gateway, signal.SIGTERM)
+            Gateway.wait_for(lambda: has_ended(gateway), "the gateway does not end")
+            agent.act("stop")
+            self.tell("nothing was written", open(precious).read() == "precious", open(precious).read())
 
     def test_probe(self):
         """What is answered decides: a server of this test answers in the gateway's place."""
@@ -262,9 +384,8 @@ class AgentCases(Cases):
 
                 thread = threading.Thread(target=serve)
                 thread.start()
-                status = subprocess.run(
-                    [built()[0], "probe", f"{room}/it.sock", "0.5"], stdout=subprocess.PIPE, stderr=subprocess.PIPE, timeout=SECONDS
-                ).returncode
+                words = [built()[0], "probe", f"{room}/it.sock", str(SECONDS) if answer is not None else "0.5"]
+                status = subprocess.run(words, stdout=subprocess.PIPE, stderr=subprocess.PIPE, timeout=SECONDS).returncode
                 thread.join()
                 self.tell(name, status == wanted, status)
                 self.tell(f"{name}: a TYPEINFO of no interface was asked", held[0][1] == struct.pack("<IIHHII", 16, 1, 10, 0, 0xFFFF_FFFF, 0), held[0][1])

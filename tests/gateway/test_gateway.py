@@ -1,4 +1,4 @@
-"""The gateway, clients/gateway: many clients of one store. What it promises them is in docs/gateway.md."""
+"""The gateway, clients/gateway: many clients of one store. What it promises them is in docs/operations/gateway.md."""
 import contextlib
 import fcntl
 import glob
@@ -6,6 +6,7 @@ import json
 import os
 import random
 import re
+import shutil
 import signal
 import socket
 import struct
@@ -18,12 +19,14 @@ import unittest
 
 import wire
 from codes import ARRAY_IS_LOCKED, BAD_STUB, E_UNEXPECTED
-from gateways import FAILS, GATEWAY, SECONDS, Gateway, bodies_of, built, compiled, hear, left_out, library, record, records, rest
+from gateways import FAILS, GATEWAY, LIBRARY, SECONDS, Gateway, bodies_of, built, compiled, hear, left_out, library, record, records, rest
+from ports import free_port, has_ipv6
 from preloaded import COMPILER
 from running import FULL as FULL_LIBRARY
 from running import CREATED, PROGRAM, ROOT, Cases, run_in
 from test_hostile_system import CUT
 from test_sessions import ANSWERED
+from tries import in_time, least
 from wire import oaut
 
 needs_cc = unittest.skipUnless(COMPILER, "cc is not there")
@@ -87,9 +90,23 @@ class Building(Cases):
         names = {line.split()[0] for line in needed.splitlines()}
         self.tell("it needs the C library alone", all(it.startswith(("linux-vdso", "libc.so", "/lib")) for it in names), names)
 
+    def test_the_library_is_missing(self):
+        with tempfile.TemporaryDirectory() as room:
+            shutil.copytree(GATEWAY, f"{room}/clients/gateway")
+            done = compiled([f"{room}/clients/gateway/build.sh", room], "-O1")
+            self.tell(
+                "it says where the library is",
+                done[0] == 1 and "no liboa_gateway_c.a: copy it beside " in done[1] and "tools/gateway_library.py" in done[1],
+                done,
+            )
+            self.tell("there is no program", not os.path.exists(f"{room}/oaut-gateway"))
+            shutil.copyfile(LIBRARY, f"{room}/clients/gateway/{os.path.basename(LIBRARY)}")
+            done = compiled([f"{room}/clients/gateway/build.sh", room], "-O1")
+            self.tell("with the library beside it, it builds", done == (0, "") and os.path.exists(f"{room}/oaut-gateway"), done)
+
     def test_the_page_counts_lines(self):
         lines = {os.path.basename(it): sum(1 for _ in open(it)) for it in glob.glob(f"{GATEWAY}/*.[ch]")}
-        with open(f"{ROOT}/docs/gateway.md") as file:
+        with open(f"{ROOT}/docs/operations/gateway.md") as file:
             text = file.read()
         counted = 0
         for names, count in re.findall(r"(?m)^\| ((?:`\w+\.[ch]`(?:, )?)+) \|.*\| ([\d,]+) \|$", text):
@@ -105,7 +122,7 @@ class Building(Cases):
             sources = [it for it in glob.glob(f"{GATEWAY}/*.c") if not it.endswith("/main.c")]
             done = compiled(["cc", *flags, "-Dmain=gateway_main", "-c", f"{GATEWAY}/main.c", "-o", f"{room}/main.o"], "")
             self.tell("the gateway is compiled", done == (0, ""), done)
-            done = compiled(["cc", *flags, f"{GATEWAY}/tests/fuzz.c", *sources, f"{room}/main.o", "-o", f"{room}/fuzz"], "")
+            done = compiled(["cc", *flags, f"{GATEWAY}/tests/fuzz.c", *sources, f"{room}/main.o", LIBRARY, "-o", f"{room}/fuzz"], "")
             self.tell("the driver is compiled", done == (0, ""), done)
             done = subprocess.run([f"{room}/fuzz", "2000", os.environ.get("OAUT_SEED") or "1"], capture_output=True, text=True)
             self.tell("two thousand inputs", done.returncode == 0 and " locks given back" in done.stdout, done.stderr[-2000:])
@@ -305,7 +322,7 @@ class Sharing(GatewayCases):
             item = server.create("Item")
             item.Count = 0
             number = item.number
-        others, stop = [], threading.Event()
+        others, added, stop = [], [], threading.Event()
 
         def shares():
             with self.gateway.session() as server:
@@ -315,11 +332,14 @@ class Sharing(GatewayCases):
                     others.append(time.monotonic())
 
         def adds():
-            for _ in range(5):
+            turns = 0
+            while turns < 5 or (len(others) <= 5 and turns < 2_000):  # (a machine may be busy: the other one has to ask for its turns)
+                turns += 1
                 with self.gateway.session("alone") as server:
                     mine = server.object(number, "Item")
                     for _ in range(5):
                         mine.Count = mine.Count + 1
+                        added.append(1)
 
         sharing = threading.Thread(target=shares)
         sharing.start()
@@ -330,7 +350,7 @@ class Sharing(GatewayCases):
             sharing.join()
         with self.gateway.session() as server:
             found = server.object(number, "Item").Count
-        self.tell("four that add 25 times each, alone", found == 100, found)
+        self.tell("four that add 25 times each, alone", found == len(added) >= 100, (found, len(added)))
         self.tell("and others get their turn", len(others) > 5, len(others))
         with self.gateway.session("alone") as one:
             mine = one.object(number, "Item")
@@ -379,32 +399,46 @@ class Bounds(GatewayCases):
         return [stack.enter_context(self.gateway.dial(it)) for it in names]
 
     def setUp(self):
-        Gateway.wait_for(lambda: self.gateway.counters()["oaut_gateway_clients"] == 0, "clients are left")
+        self.gateway.settles()
 
     def test_how_many(self):
-        eight = self.dialled(*["listen"] * 8)
-        for it in eight:
-            it.sendall(record(NONE))
-            self.tell("one of eight is served", hear(it, 20) == record(NO_REQUEST))
-        [ninth] = self.dialled("listen")
-        self.tell("the ninth is turned away", rest(ninth) == b"")
-        self.tell("and counted", self.gateway.counters()["oaut_gateway_turned_away_total"] >= 1)
+        with Gateway("--clients", "8") as gateway, contextlib.ExitStack() as stack:  # (no client of this one is let go for silence)
+            gateway.settles()
+            eight = [stack.enter_context(gateway.dial()) for _ in range(8)]
+            for it in eight:
+                it.sendall(record(NONE))
+                self.tell("one of eight is served", hear(it, 20) == record(NO_REQUEST))
+            ninth = stack.enter_context(gateway.dial())
+            self.tell("the ninth is turned away", rest(ninth) == b"")
+            self.tell("and counted", gateway.counters()["oaut_gateway_turned_away_total"] == 1)
 
     def test_silence(self):
-        shared, alone, busy = self.dialled("listen", "alone", "listen")
-        begun = time.monotonic()
-        for it in (shared, alone):
-            it.sendall(record(NONE))
-            hear(it, 20)
-        self.tell("who has the server alone and is silent is let go first", rest(alone) == b"" and time.monotonic() - begun < 4.5)
-        while time.monotonic() - begun < 8:
-            busy.sendall(record(NONE))
-            if hear(busy, 20) != record(NO_REQUEST):
-                break
-            time.sleep(0.2)
-        self.tell("who is not silent stays", time.monotonic() - begun >= 8)
-        shared.settimeout(0)
-        self.tell("who shares and is silent is let go", rest(shared) == b"")
+        def seconds(name):
+            """How long one that is silent stays, from before its only request on: what is busy makes that longer, and never shorter."""
+            with self.gateway.dial(name) as sock:
+                begun = time.monotonic()
+                sock.sendall(record(NONE))
+                hear(sock, 20)
+                self.tell(f"who is silent is let go, {name}", rest(sock) == b"")
+                return time.monotonic() - begun
+
+        def stays():
+            """Whether one that asks something each 0.2 s stays for longer than --idle and a second."""
+            with self.gateway.dial() as sock, contextlib.suppress(OSError):
+                begun = time.monotonic()
+                while time.monotonic() - begun < 8:
+                    sock.sendall(record(NONE))
+                    if hear(sock, 20) != record(NO_REQUEST):
+                        return False
+                    time.sleep(0.2)
+                return True
+            return False
+
+        found = least(4.5, lambda: seconds("alone"))
+        self.tell("who has the server alone is let go first", found < 4.5, found)
+        found = seconds("listen")
+        self.tell("who shares may be silent for longer", found > 4.5, found)
+        self.tell("who is not silent stays", in_time(stays))
         self.tell("both are counted", self.gateway.counters()["oaut_gateway_silent_total"] >= 2)
 
     def test_a_request_in_parts(self):
@@ -417,38 +451,43 @@ class Bounds(GatewayCases):
             item = server.create("Item")
             item.Name, item.Count = "x" * 500_000, 1
             get = record(struct.pack("<I", 1) + oaut.ask_invoke(item.number, 2, oaut.PROPERTYGET, [], []))
-            with gateway.dial() as slow:
-                slow.setblocking(False)
-                with contextlib.suppress(BlockingIOError):
-                    for _ in range(100):
-                        slow.send(get * 100)
-                begun, longest = time.monotonic(), 0
-                while time.monotonic() - begun < 3:
-                    since = time.monotonic()
-                    item.Count = 2
-                    longest = max(longest, time.monotonic() - since)
-                found = gateway.counters()
-                self.tell("who takes no replies keeps nobody waiting", longest < 3, longest)
-                self.tell(
-                    "it gets no turn, and so no more replies",
-                    found["oaut_gateway_buffer_bytes"] < 12_000_000 and not found["oaut_gateway_stalled_total"],
-                    found["oaut_gateway_buffer_bytes"],
-                )
-                Gateway.wait_for(lambda: gateway.counters()["oaut_gateway_stalled_total"] == 1, "it is not let go")
+
+            def keeps_nobody_waiting():
+                """Whether another one's puts go on for 3 s, while it is there."""
+                before = gateway.counters()["oaut_gateway_stalled_total"]
+                with gateway.dial() as slow:
+                    slow.setblocking(False)
+                    with contextlib.suppress(BlockingIOError):
+                        for _ in range(100):
+                            slow.send(get * 100)
+                    begun, longest = time.monotonic(), 0
+                    while time.monotonic() - begun < 3:
+                        since = time.monotonic()
+                        item.Count = 2
+                        longest = max(longest, time.monotonic() - since)
+                    found = gateway.counters()
+                    self.tell("it gets no turn, and so no more replies", found["oaut_gateway_buffer_bytes"] < 12_000_000, found["oaut_gateway_buffer_bytes"])
+                    Gateway.wait_for(lambda: gateway.counters()["oaut_gateway_stalled_total"] == before + 1, "it is not let go")
+                return longest < 3 and found["oaut_gateway_stalled_total"] == before
+
+            self.tell("who takes no replies keeps nobody waiting", in_time(keeps_nobody_waiting))
             self.tell("its end", gateway.end()[0] == 0)
 
     def test_memory(self):
-        """Seven clients each leave a long request in parts, and ask for long texts that they do not take."""
+        """Six clients each leave a long request in parts, then ask for long texts that they do not take, first as new clients and then with a reply before it."""
         with self.gateway.session() as server:
             item = server.create("Item")
             item.Name = "x" * 500_000
             get = record(struct.pack("<I", 1) + oaut.ask_invoke(item.number, 2, oaut.PROPERTYGET, [], []))
             status = f"/proc/{self.gateway.process.pid}/statm"
             resident = lambda: int(open(status).read().split()[1]) * 4096
-            before, most, most_buffers = resident(), 0, 0
-            for turn in range(2):
+            before, most, most_buffers = resident(), 0, [0, 0, 0]
+            for turn in range(3):
                 socks = self.dialled(*["listen"] * 6)
                 for it in socks:
+                    if turn == 2:
+                        it.sendall(get)
+                        hear(it, struct.unpack("<I", hear(it, 4))[0])
                     it.setblocking(False)
                     with contextlib.suppress(BlockingIOError, ConnectionError):
                         it.send(get * 200 if turn else struct.pack("<I", BODY_LIMIT))
@@ -458,15 +497,18 @@ class Bounds(GatewayCases):
                 begun = time.monotonic()
                 while time.monotonic() - begun < 3:
                     most = max(most, resident() - before)
-                    most_buffers = max(most_buffers, self.gateway.counters()["oaut_gateway_buffer_bytes"])
+                    most_buffers[turn] = max(most_buffers[turn], self.gateway.counters()["oaut_gateway_buffer_bytes"])
                     time.sleep(0.05)
                 with self.gateway.dial() as other:
                     other.sendall(record(NONE))
                     self.tell("another one is served", hear(other, 20) == record(NO_REQUEST))
                 for it in socks:
                     it.close()
-            # half of 16 MiB each way, what was read at once, and what each client has without asking
-            self.tell("the clients' buffers keep their bound", 0 < most_buffers <= 14_000_000, most_buffers)
+                Gateway.wait_for(lambda: self.gateway.counters()["oaut_gateway_clients"] <= 1, "they have not gone")
+            # half of 16 MiB each way, what was read at once, and what each client has without asking; nobody knows how long the first replies of a client are, so
+            # these may have all of the memory
+            for turn, bound in enumerate((14_000_000, 17 << 20, 14_000_000)):
+                self.tell(f"the clients' buffers keep their bound, {turn}", 0 < most_buffers[turn] <= bound, most_buffers)
             self.tell("and so does the process, whose sanitizers keep what was freed for a while", most < 400 << 20, most)
         with self.gateway.session() as server:
             server.object(item.number, "Item").Name = ""
@@ -509,7 +551,7 @@ while some := os.read(0, 65536):
 
 @needs_cc
 class Waiting(Cases):
-    """A batch waits for those that were just answered, 2 ms at most, and for nobody else. (Times are the least of many: a machine may be busy.)"""
+    """A batch waits for those that were just answered, 2 ms at most, and for nobody else."""
 
     def waits(self, clients, asks):
         """How long a batch waited behind an answer, at least, where so many ask together, and so many of them again."""
@@ -532,12 +574,12 @@ class Waiting(Cases):
         return found
 
     def test_a_client_alone_waits_for_nobody(self):
-        found = self.waits(1, 1)
-        self.tell("one that is alone is asked for at once", min(found) < 1.5, found)
+        found = least(1.5, lambda: min(self.waits(1, 1)))
+        self.tell("one that is alone is asked for at once", found < 1.5, found)
 
     def test_all_that_were_answered_are_waited_for(self):
-        found = self.waits(2, 2)
-        self.tell("two that ask again wait for each other alone", min(found) < 1.5, found)
+        found = least(1.5, lambda: min(self.waits(2, 2)))
+        self.tell("two that ask again wait for each other alone", found < 1.5, found)
         found = self.waits(2, 1)
         self.tell("one that does not ask again is waited for", sorted(found)[len(found) * 3 // 4] > 1.5, found)
 
@@ -557,7 +599,8 @@ class Stops(Cases):
             socks = [stack.enter_context(gateway.dial(name)) for name in ["listen"] * 10 + ["alone"] * 3]
             for it in socks:
                 it.sendall(record(NONE) * 300 + record(NONE)[:5])
-            time.sleep(0.3)
+            # (what comes with the signal is tried in test_gateway_behaviour)
+            Gateway.wait_for(lambda: gateway.counters()["oaut_gateway_received_bytes_total"] >= 13 * 3605, "the requests do not come")
             gateway.process.send_signal(signal.SIGTERM)
             for it in socks:
                 got = rest(it)
@@ -570,6 +613,7 @@ class Stops(Cases):
         with Gateway() as gateway:
             with gateway.session() as server:
                 number = server.create("Item").number
+            begun = time.monotonic()
             for turn in range(6):
                 with gateway.session() as server:
                     item = server.object(number, "Item")
@@ -578,7 +622,7 @@ class Stops(Cases):
                     item.Grid.lock()
                     pid = Gateway.wait_for(gateway.server, "there is no server")
                     os.kill(pid, signal.SIGKILL)
-                    with self.subTest(f"who was connected is told, {turn}"), self.assertRaises((oaut.Stopped, OSError)):
+                    with self.subTest(f"who was connected is told, {turn}"), self.assertRaises((oaut.SessionEnded, OSError)):
                         for _ in range(3):
                             item.Count
                 if turn < 5:
@@ -586,6 +630,10 @@ class Stops(Cases):
                         item = server.object(number, "Item")
                         self.tell(f"it is started again, {turn}", item.Count == turn)
                         item.Grid = [2]
+            while time.monotonic() > begun + 45 and gateway.process.poll() is None:  # (these took longer than a minute, on a machine that is busy)
+                if pid := gateway.server():
+                    os.kill(pid, signal.SIGKILL)
+                time.sleep(0.05)
             self.ended("six times within a minute are too many", gateway, 3, "signal 9[^$]*5 times within a minute", with_=None)
 
     def test_the_device_fails(self):
@@ -594,17 +642,23 @@ class Stops(Cases):
             with open(program, "w") as file:
                 file.write(f'#!/bin/sh\n[ "$1" != serve ] || export LD_PRELOAD="{library("fails", FAILS)[0]}"\nexec "{PROGRAM}" "$@"\n')
             os.chmod(program, 0o755)
-            self.device_fails(program)
+            self.tell("all are told", in_time(lambda: self.device_fails(program)))
 
     def device_fails(self, program):
+        """Whether another client is told. The gateway ends a second or two after the fault, before which that one has to ask."""
         with Gateway(program=program, SYNCS=80) as gateway, gateway.session() as server, gateway.session() as other:
             item, last = server.create("Item"), None
             with self.subTest("what cannot be kept is told"), self.assertRaises(oaut.WriteFault):
                 for it in range(200):
                     item.Count = it
                     last = it
-            with self.subTest("all are told"), self.assertRaises(oaut.Failed):
+            all_are_told = False
+            try:
                 other.objects()
+            except oaut.StoreFailed:
+                all_are_told = True
+            except (oaut.SessionEnded, OSError):
+                pass
             self.ended("it is not started again", gateway, 3, "STG_E_WRITEFAULT", with_=None)
             gateway.variables["SYNCS"] = 1_000_000
             gateway.start()
@@ -612,6 +666,7 @@ class Stops(Cases):
                 found = server.object(item.number, "Item").Count
             self.tell("nothing acknowledged was lost", found in (last, last + 1), (found, last))
             self.ended("its end", gateway, 0)
+        return all_are_told
 
     def test_the_server_ends_by_a_status(self):
         with Gateway() as gateway, gateway.session() as server:
@@ -624,7 +679,7 @@ class Stops(Cases):
                     "a server that ends with status 5 is not started again",
                     other,
                     3,
-                    r"\Aoaut-gateway: the server has ended, by status 5\n.*not started again: look at .*\n\Z",
+                    r"\Aoaut-gateway: the server has ended, by status 5\n.*not started again: read its messages, and check .*\n\Z",
                     with_=None,
                 )
         with Gateway(starts=False) as gateway:
@@ -707,7 +762,10 @@ class Watching(Cases):
                         [built()[0], "backup", f"{gateway.room}/control", f"{gateway.room}/copy"], capture_output=True, text=True, timeout=SECONDS
                     )
                     after = dict(sent)
-                    self.tell(f"a backup under load, {turn}", done.returncode == 0 and "held for 0." in done.stdout, done)
+                    told = re.fullmatch(r".*: held for \d+\.\d{3} s, (\d+) KiB had changed\n", done.stdout)
+                    # how long the clients waited is the machine's; that it was for a part of the store alone is not
+                    few = told and int(told[1]) < os.path.getsize(gateway.store) >> 11
+                    self.tell(f"a backup under load, {turn}", done.returncode == 0 and few, done)
                     status, out, err = run_in(gateway.room, ["dump", "copy"])
                     found = {
                         number: int.from_bytes(bytes.fromhex(it.decode())[2:], "little") for number, it in zip(numbers, re.findall(rb" 1 - (0300\w{8})\n", out))
@@ -732,7 +790,7 @@ class Watching(Cases):
                     waits.settimeout(SECONDS)
                     self.tell("it has hung up", hear(waits, 20) == record(NO_REQUEST))
             done = subprocess.run([built()[0], "backup", f"{gateway.room}/control", "/nowhere/copy"], capture_output=True, text=True)
-            self.tell("a backup that cannot be written", (done.returncode, "cannot write /nowhere/copy.part" in done.stderr) == (1, True), done)
+            self.tell("a backup that cannot be written", (done.returncode, "cannot write /nowhere/copy: " in done.stderr) == (1, True), done)
             done = subprocess.run([built()[0], "backup", f"{gateway.room}/none", "copy"], capture_output=True, text=True)
             self.tell("a gateway that is not there", (done.returncode, "cannot connect" in done.stderr) == (1, True), done)
 
@@ -747,7 +805,7 @@ class Watching(Cases):
             head, _, text = got.partition("\r\n\r\n")
             self.tell("the head", head.startswith("HTTP/1.0 200 OK\r\nContent-Type: text/plain; version=0.0.4"), head)
             for line in text.splitlines():
-                well = re.fullmatch(r'# (HELP|TYPE) oaut_gateway_\w+ .+|oaut_gateway_\w+(\{\w+="[^"]+"\})? [-+.0-9e]+', line)
+                well = re.fullmatch(r'# (HELP|TYPE) oaut_(gateway|store)_\w+ .+|oaut_(gateway|store)_\w+(\{\w+="[^"]+"\})? [-+.0-9e]+', line)
                 if not well:
                     self.tell("each line is one of the format", False, line)
             found = {name: float(value) for name, value in (line.rsplit(" ", 1) for line in text.splitlines() if not line.startswith("#"))}
@@ -761,8 +819,10 @@ class Watching(Cases):
             self.tell("the buckets rise to the count", buckets == sorted(buckets) and buckets[-1] == found["oaut_gateway_commit_seconds_count"] > 0, buckets)
             self.tell("another path", gateway.ask(b"GET / HTTP/1.1\r\n\r\n", "metrics", ends=False).startswith(b"HTTP/1.0 404"))
             dashboard = json.load(open(f"{ROOT}/dist/grafana.json"))
-            asked = {it for panel in dashboard["panels"] for target in panel.get("targets", []) for it in re.findall(r"oaut_gateway_\w+", target["expr"])}
-            there = set(found) | {it.split("{")[0] for it in found}
+            asked = {
+                it for panel in dashboard["panels"] for target in panel.get("targets", []) for it in re.findall(r"oaut_(?:gateway|store)_\w+", target["expr"])
+            }
+            there = {it.split("{")[0] for it in (*found, *gateway.counters())}
             self.tell("the dashboard asks for what is told", asked and asked <= there, asked - there)
             self.tell("status tells the same", set(gateway.counters()) >= set(found), "")
 
@@ -777,16 +837,13 @@ class Watching(Cases):
                 it.bind(f"{room}/{name}")
                 it.listen()
             with Gateway(sockets=(), starts=False, NOTIFY_SOCKET=f"{room}/notify", LISTEN_FDNAMES=":".join(names)) as gateway:
-                redirect = " ".join(f"{3 + at}<&{it.fileno()}" for at, it in enumerate(socks))
-                high = {it.fileno(): 100 + at for at, it in enumerate(socks)}
-                for old, new in high.items():
-                    os.dup2(old, new, inheritable=True)
-                redirect = " ".join(f"{3 + at}<&{100 + at} {100 + at}<&-" for at in range(len(socks)))
+                high = [fcntl.fcntl(it, fcntl.F_DUPFD, 100) for it in socks]
+                redirect = " ".join(f"{3 + at}<&{it} {it}<&-" for at, it in enumerate(high))
                 gateway.process = subprocess.Popen(
                     ["bash", "-c", f'export LISTEN_PID=$$ LISTEN_FDS={len(socks)}; exec "$@" {redirect}', "bash", *gateway.words],
-                    env={**os.environ, **gateway.variables}, stderr=open(f"{gateway.room}/said", "wb"), pass_fds=list(high.values()),
+                    env={**os.environ, **gateway.variables}, stderr=open(f"{gateway.room}/said", "wb"), pass_fds=high,
                 )  # fmt: skip
-                for it in high.values():
+                for it in high:
                     os.close(it)
                 Gateway.wait_for(lambda: notified.recv(500).startswith(b"READY=1\nSTATUS=serving "), "it does not say that it is ready")
                 self.tell("it says that it is ready", True)
@@ -812,7 +869,9 @@ class Watching(Cases):
 @needs_cc
 class Noise(Cases):
     def test_random_bytes(self):
-        """Spoiled requests at every socket, in pieces, by who hangs up in some way; beside them a client that is served. OAUT_NOISE says for how many seconds."""
+        """Spoiled requests at every socket, in pieces, by who hangs up in some way; beside them a client that is served. OAUT_NOISE says for how many seconds,
+        OAUT_SOCKETS at which sockets."""
+        names = (os.environ.get("OAUT_SOCKETS") or "listen listen listen-hex alone control metrics").split()
         seconds, dice = float(os.environ.get("OAUT_NOISE") or 4), random.Random(os.environ.get("OAUT_SEED") or 1)
         with Gateway("--stalled", "2", "--hold", "1", "--memory", "16", "--clients", "40") as gateway:
             with gateway.session() as server:
@@ -821,8 +880,8 @@ class Noise(Cases):
             bodies = [NONE, ALONE, b"1", locking(1, oaut.LOCK, number), locking(2, oaut.UNLOCK, number), struct.pack("<IHH", 3, 11, 0)]
             texts = [b"status\n", b"hold\n", b"free\n", b"store\n", b"GET /metrics HTTP/1.1\r\n\r\n", b"GET / HTTP/1.1\r\n\r\n", b"\n", b"\r\n\r\n"]
             begun, sent, socks = time.monotonic(), 0, []
-            while time.monotonic() < begun + seconds:
-                name = dice.choice(["listen", "listen", "listen-hex", "alone", "control", "metrics"])
+            while time.monotonic() < begun + seconds or sent <= 10:
+                name = dice.choice(names)
                 some = dice.choices(bodies, k=dice.randrange(1, 9))
                 data = (
                     b"".join(dice.choices(texts, k=2))
@@ -854,7 +913,7 @@ class Noise(Cases):
                 it.close()
             served, until = False, time.monotonic() + SECONDS
             while not served and time.monotonic() < until:  # until who has gone has left its place, and its locks are given back
-                with contextlib.suppress(oaut.Stopped, oaut.ArrayIsLocked), gateway.session() as server:
+                with contextlib.suppress(oaut.SessionEnded, oaut.ArrayIsLocked), gateway.session() as server:
                     item = server.object(number, "Item")
                     item.Grid = [3]
                     served = list(item.Grid) == [3]
@@ -886,19 +945,26 @@ class CommandLine(Cases):
             ("all hosts", ["--listen", "0.0.0.0:8765", "a.store"], "not of the loopback"),
             ("all hosts, IPv6", ["--alone", "[::]:8765", "a.store"], "not of the loopback"),
             ("metrics for all", ["--listen", "./s", "--metrics", "0.0.0.0:9718", "a.store"], "not of the loopback"),
-            ("a control socket of TCP", ["--listen", "./s", "--control", "127.0.0.1:9719", "a.store"], "--control wants a path"),
-            ("users of TCP", ["--allow-user", "root", "--listen", "127.0.0.1:8765", "a.store"], "who comes by TCP has no name"),
+            ("a control socket of TCP", ["--listen", "./s", "--control", "127.0.0.1:9719", "a.store"], "--control needs a path"),
+            ("users of TCP", ["--allow-user", "root", "--listen", "127.0.0.1:8765", "a.store"], "TCP clients have no user"),
             ("no such user", ["--allow-user", "nobody-of-this-name", "--listen", "./s", "a.store"], "no such value"),
             ("a mode that is none", ["--mode", "9", "--listen", "./s", "a.store"], "no such value"),
             ("no clients", ["--clients", "0", "--listen", "./s", "a.store"], "no such value"),
             ("too little memory", ["--memory=1", "--listen", "./s", "a.store"], "no such value"),
             ("a long path", ["--listen", "./" + "x" * 200, "a.store"], "the path is too long"),
+            ("no seconds", ["--idle=", "--listen", "./s", "a.store"], "no such value"),
+            ("no group", ["--allow-group", "", "--listen", "./s", "a.store"], "no such value"),
+            ("no number of seconds", ["probe", "./s", "x"], "no number of seconds"),
+            ("no time", ["probe", "./s", "0"], "no number of seconds"),
+            ("too much time", ["probe", "./s", "1000001"], "no number of seconds"),
+            ("a page without its socket", ["--view", "127.0.0.1:0", "--alone", "./s", "--listen-hex", "./h", "a.store"], "--view needs a --listen"),
+            ("no rights", ["--mode=", "--listen", "./s", "a.store"], "no such value"),
         ]
         for what, words, says in rows:
             status, out, err = told_of(*words)
             self.tell(what, (status, out) == (2, "") and err.startswith("oaut-gateway: ") and says in err and err.count("\n") == 1, (status, out, err))
         status, out, err = told_of("--help")
-        with open(f"{ROOT}/docs/gateway.md") as file:
+        with open(f"{ROOT}/docs/operations/gateway.md") as file:
             page = file.read()
         options = re.findall(r"--[a-z-]+", out)
         self.tell(
@@ -908,11 +974,9 @@ class CommandLine(Cases):
         self.tell("no such store", told_of("--listen", "./s", "/nowhere/a.store")[:2] == (1, ""))
 
     def test_addresses(self):
-        with socket.socket() as free:
-            free.bind(("127.0.0.1", 0))
-            port = free.getsockname()[1]
+        port = free_port()
         for address, family in ((f"127.0.0.1:{port}", socket.AF_INET), (f"[::1]:{port}", socket.AF_INET6), (f"localhost:{port}", socket.AF_INET)):
-            if family == socket.AF_INET6 and not os.path.exists("/proc/net/if_inet6"):
+            if family == socket.AF_INET6 and not has_ipv6():
                 continue
             with Gateway(f"--listen={address}") as gateway, socket.socket(family) as sock:
                 sock.settimeout(SECONDS)
@@ -956,7 +1020,7 @@ class CommandLine(Cases):
 
 @needs_cc
 class Behind(Cases):
-    """What stands before the gateway, as docs/gateway.md has it."""
+    """What stands before the gateway, as docs/operations/gateway.md has it."""
 
     @left_out("stunnel", "openssl")
     def test_tls_with_certificates(self):
@@ -968,10 +1032,8 @@ class Behind(Cases):
                     + ["-keyout", f"{room}/{name}.key", "-out", f"{room}/{name}.pem"],
                     check=True, capture_output=True,
                 )  # fmt: skip
-            with socket.socket() as free:
-                free.bind(("127.0.0.1", 0))
-                port = free.getsockname()[1]
-            with open(f"{ROOT}/docs/gateway.md") as file:
+            port = free_port()
+            with open(f"{ROOT}/docs/operations/gateway.md") as file:
                 told = re.search(r"```ini\n(.*?)```", file.read(), re.S)[1]
             for old, new in (
                 ("/etc/oaut/", f"{room}/"),
@@ -1003,7 +1065,7 @@ class Behind(Cases):
                             return b""
 
                 def reached():
-                    with contextlib.suppress(OSError), socket.create_connection(("127.0.0.1", port), 1):
+                    with contextlib.suppress(OSError), socket.create_connection(("127.0.0.1", port), SECONDS):
                         return True
                     return False
 

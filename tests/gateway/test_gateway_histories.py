@@ -13,7 +13,7 @@ from preloaded import COMPILER
 from running import Cases
 from sharing import STUB, oaut
 
-ROUNDS = 20
+ROUNDS = 2 * len(KILLS)
 
 
 @unittest.skipUnless(COMPILER, "cc is not there")

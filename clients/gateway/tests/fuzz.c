@@ -2,9 +2,9 @@
  *
  *     fuzz [COUNT SEED]
  *
- * Without words it reads one input (AFL++ gives many), else it makes so many. An input says, byte by byte, which client sends what, in which
- * pieces it comes, when a batch begins and how much of the server's replies has come. The server keeps locks by their clients: none is left once
- * all have gone.
+ * Without words it reads one input (AFL++ gives many), else it makes so many. Compiled with -DFUZZED and -fsanitize=fuzzer it is a target of
+ * libFuzzer. An input says, byte by byte, which client sends what, in which pieces it comes, when a batch begins and how much of the server's replies
+ * has come. The server keeps locks by their clients: none is left once all have gone.
  */
 #include "../gateway.h"
 
@@ -187,12 +187,9 @@ static void leaves(Man *m) {
     uint32_t visit = c->visit + 1;
     Kind kind = c->kind;
     client_gone(c);
-    if (c->in.at) in_bytes -= c->in.room;
-    if (c->out.at) out_bytes -= c->out.room;
-    if (m->seen.at) seen_bytes -= m->seen.room;
-    free(c->in.at);
-    free(c->out.at);
-    free(m->seen.at);
+    give_room_back(&c->in, &in_bytes, true);
+    give_room_back(&c->out, &out_bytes, true);
+    give_room_back(&m->seen, &seen_bytes, true);
     m->filled = m->due_first = m->due_last = 0;
     m->eof = m->ends = m->cut = false;
     m->seen = (Buffer){0};
@@ -350,33 +347,45 @@ static void run(const uint8_t *data, size_t size) {
                 comes(m, PIPE);
                 if (m->c->stage == ANSWERED && m->c->kind == ALONE) leaves(m);
             }
-            if (!in_flight && !has_to_ask()) break;
+            if (!in_flight && !waiting() && !ends_wait) break;
         }
     }
-    assert(!in_flight && !has_to_ask());
+    assert(!in_flight && !waiting() && !ends_wait);
     for (Man *m = men; m < men + MEN; m++) leaves(m);
     for (int i = 0; i < 100; i++) {
         begins();
         hears(SIZE_MAX);
     }
-    assert(!in_flight && !has_to_ask() && !out_bytes && !in_bytes);
+    assert(!in_flight && !waiting() && !ends_wait && !out_bytes && !in_bytes);
     for (int i = 0; i < CELLS; i++) assert(!locks[i]);
     for (Man *m = men; m < men + MEN; m++) m->serial = 0;
     alone_visit = 0;
     alone = NULL;
 }
 
-#ifdef __AFL_FUZZ_TESTCASE_LEN
-__AFL_FUZZ_INIT();
-#endif
-int main(int argc, char **argv) {
+static void prepare(void) {
     memory = 1 << 24;
     clients = places;
     end_of_clients = places + MEN;
+    most_places = MEN;
     for (int i = 0; i < MEN; i++) men[i].c = &places[i];
     server_came();
     serve();
     hears(SIZE_MAX);
+}
+#ifdef FUZZED
+int LLVMFuzzerTestOneInput(const uint8_t *data, size_t size);
+int LLVMFuzzerTestOneInput(const uint8_t *data, size_t size) {
+    if (!clients) prepare();
+    run(data, size);
+    return 0;
+}
+#else
+#ifdef __AFL_FUZZ_TESTCASE_LEN
+__AFL_FUZZ_INIT();
+#endif
+int main(int argc, char **argv) {
+    prepare();
 #ifdef __AFL_FUZZ_TESTCASE_LEN
     (void)argc, (void)argv;
     unsigned char *data = __AFL_FUZZ_TESTCASE_BUF;
@@ -397,3 +406,4 @@ int main(int argc, char **argv) {
 #endif
     return 0;
 }
+#endif

@@ -44,7 +44,7 @@ UINT32 parameter_of(const Call *call, UINT32 place)
     const DISPPARAMS *given = call->given;
 
     if (place >= given->cNamedArgs)
-        return given->cArgs - 1 - place; /* by place: the last one stands first */
+        return given->cArgs - 1 - place; /* by place: the last one comes first */
     return given->rgdispidNamedArgs[place] == DISPID_PROPERTYPUT ? NO_ARGUMENT
                                                                  : (UINT32)given->rgdispidNamedArgs[place];
 }
@@ -58,7 +58,7 @@ VARTYPE type_of_parameter(const Call *call, UINT32 parameter)
     return found.type;
 }
 
-/* The type that is declared for what stands at a place of rgvarg. */
+/* The declared type of the argument at a place of rgvarg. */
 static VARTYPE declared_at(const Call *call, UINT32 place)
 {
     UINT32 parameter = parameter_of(call, place);
@@ -75,7 +75,7 @@ HRESULT write_argument(Call *call, Writer *to, UINT32 place, VARTYPE declared)
     HRESULT result = S_FALSE;
 
     if (call->target->for_scripts && declared != VT_EMPTY) {
-        result = write_variant_as(to, value, declared);
+        result = write_variant_as(to, value, declared, call->target->for_scripts);
         is_misfit = result == DISP_E_BADVARTYPE || result == DISP_E_TYPEMISMATCH || result == DISP_E_OVERFLOW;
     }
     if (is_misfit && call->misfit == S_OK) {
@@ -83,7 +83,7 @@ HRESULT write_argument(Call *call, Writer *to, UINT32 place, VARTYPE declared)
         call->misfit_at = place;
     }
     if (is_misfit || result == S_FALSE)
-        result = write_variant(to, value); /* as it is, so that what else is wrong is told first */
+        result = write_variant(to, value); /* unchanged, so that another error is reported first */
     if (FAILED(result) && result != E_OUTOFMEMORY)
         call->argument = place;
     return result;
@@ -92,7 +92,7 @@ HRESULT write_argument(Call *call, Writer *to, UINT32 place, VARTYPE declared)
 Writer *begin_call(const Call *call, enum opcode opcode, UINT32 count, UINT32 named)
 {
     const Target *target = call->target;
-    Writer *to = begin_request(target->connection, opcode);
+    Writer *to = begin_request_of(target->connection, opcode, target->generation);
 
     write_32(to, target->number);
     write_32(to, (UINT32)call->id);
@@ -106,7 +106,7 @@ Writer *begin_call(const Call *call, enum opcode opcode, UINT32 count, UINT32 na
     return to;
 }
 
-/* Sends what was begun, and answers the caller: a get's value is read to where the caller wants it. */
+/* Sends the request, and returns to the caller: a get's value is read into the caller's variable. */
 static HRESULT finish_call(Call *call)
 {
     Connection *connection = call->target->connection;
@@ -168,8 +168,8 @@ static HRESULT index_of(const VARIANT *value, BOOL for_scripts, INT32 *index)
     return DISP_E_BADVARTYPE;
 }
 
-/* An element of the array that a property holds: what is given by place behind the property's parameters are indices.
-   rgvarg has the last of them first, as rgsabound and the wire have their bounds. */
+/* An element of a property's array: positional arguments after the property's parameters are indices. rgvarg has the last of them first, as
+ * rgsabound and the wire have their bounds. */
 static HRESULT invoke_element(Call *call)
 {
     const DISPPARAMS *given = call->given;
@@ -199,12 +199,12 @@ static HRESULT invoke_element(Call *call)
     if (call->argument < parameters)
         call->argument += first + indices; /* the server has seen the parameters' arguments alone */
     else if (is_put(call) && (result == DISP_E_BADVARTYPE || result == DISP_E_OVERFLOW))
-        call->argument = 0; /* it tells no index of a cell's new value */
+        call->argument = 0; /* a cell's new value has no index in its reply */
     return result;
 }
 
 /* Whether something is given that scripts and servers have different types for. */
-static BOOL has_misfits(const DISPPARAMS *given)
+static BOOL has_misfits(const DISPPARAMS *given, int how)
 {
     UINT32 i;
 
@@ -213,7 +213,8 @@ static BOOL has_misfits(const DISPPARAMS *given)
         const VARIANT *value = value_behind(&given->rgvarg[i], &room);
 
         if (value && (is_floating(value) || V_VT(value) == (VT_ARRAY | VT_VARIANT) ||
-                      V_VT(value) == (VT_ARRAY | VT_R8) || V_VT(value) == (VT_ARRAY | VT_R4)))
+                      V_VT(value) == (VT_ARRAY | VT_R8) || V_VT(value) == (VT_ARRAY | VT_R4) ||
+                      ((how & WITH_TEXTS) && V_VT(value) == VT_BSTR) || (how & FOR_JSCRIPT)))
             return TRUE;
     }
     return FALSE;
@@ -235,10 +236,10 @@ static HRESULT find_called(Call *call)
 
 HRESULT find_types(Call *call)
 {
-    return call->target->for_scripts && has_misfits(call->given) ? find_called(call) : S_OK;
+    return call->target->for_scripts && has_misfits(call->given, call->target->for_scripts) ? find_called(call) : S_OK;
 }
 
-/* The library's types are asked for where they make a difference. */
+/* The library's types are read only if they make a difference. */
 HRESULT perform_call(Call *call)
 {
     UINT32 arguments;

@@ -1,4 +1,4 @@
-/* Calls of an object's members: the requests that they stand for.
+/* Calls of an object's members, as requests.
 
    All here want the connection's lock held. */
 #ifndef OAUT_CALLS_H
@@ -14,7 +14,8 @@ typedef struct Target {
     GUID class;
     GUID iid; /* zeros for the default interface */
     UINT32 number;
-    BOOL for_scripts; /* values as VBScript and JScript have them */
+    int for_scripts;   /* how its hosts have values (values.h) */
+    UINT32 generation; /* of the connection, as the object was made (connection.h) */
 } Target;
 
 /* What a caller of Invoke gives. */
@@ -27,7 +28,7 @@ typedef struct Call {
     const DISPPARAMS *given;
     VARIANT *result; /* or NULL */
     UINT32 argument; /* the argument at fault, or NO_ARGUMENT */
-    /* the member, where it was looked for and is there */
+    /* the member, if it was looked up and exists */
     BOOL has_member;
     Member member;
     /* an argument that could not be written as what is declared, so that it went as it is, and why; S_OK for none */
@@ -37,21 +38,20 @@ typedef struct Call {
 
 Call call_of(const Target *target, DISPID id, const DISPPARAMS *given);
 
-/* Whether the arguments are ones: pointers where there are counts, and no more than a request has. */
+/* Whether the arguments are valid: pointers if there are counts, and at most as many as a request has. */
 HRESULT check_arguments(const DISPPARAMS *given);
 
-/* A call, by the request that it stands for. */
+/* Performs a call by its request. */
 HRESULT perform_call(Call *call);
 
 /* Begins a request about a property, up to its arguments' number. */
 Writer *begin_call(const Call *call, enum opcode opcode, UINT32 count, UINT32 named);
-/* Writes what stands at a place of rgvarg; VT_EMPTY where no declared type is known. */
+/* Writes the argument at a place of rgvarg; VT_EMPTY if no declared type is known. */
 HRESULT write_argument(Call *call, Writer *to, UINT32 place, VARTYPE declared);
-/* Looks the member up where its types matter for what is given; the type that is declared for a parameter, VT_EMPTY
-   where it is not known. */
+/* Looks the member up if its types matter for the arguments. Returns the declared type of a parameter, VT_EMPTY if it is not known. */
 HRESULT find_types(Call *call);
 VARTYPE type_of_parameter(const Call *call, UINT32 parameter);
-/* The place of a parameter for what stands at a place of rgvarg, or NO_ARGUMENT for a put's new value. */
+/* The place of the parameter of an argument in rgvarg, or NO_ARGUMENT for a put's new value. */
 UINT32 parameter_of(const Call *call, UINT32 place);
 
 #endif

@@ -62,13 +62,17 @@ static HRESULT create_number(Target *target)
         return result;
     from = reply_fields(target->connection);
     target->number = read_32(&from);
-    return from.bad ? OAUT_E_NO_REPLY : S_OK;
+    target->generation = target->connection->generation;
+    if (from.bad)
+        return OAUT_E_NO_REPLY;
+    note_made(target->connection, target->number, &target->class);
+    return S_OK;
 }
 
 /* An object of a coclass, with an interface that it has: none is made for nobody. */
 static HRESULT create_object(const Class *class, Connection *connection, REFIID iid, void **made)
 {
-    Target target = {connection, class->guid, GUID_NULL, 0, class->for_scripts};
+    Target target = {connection, class->guid, GUID_NULL, 0, class->for_scripts, 0};
     HRESULT result;
 
     connection_enter(connection);
@@ -122,7 +126,7 @@ static ULONG STDMETHODCALLTYPE parser_release(IParseDisplayName *self)
     return class_release((IClassFactory *)of_parser(self));
 }
 
-/* The number behind the last colon of a display name. */
+/* The number after the last colon of a display name. */
 static BOOL number_in(const WCHAR *name, UINT32 *number)
 {
     const WCHAR *at = wcsrchr(name, L':');

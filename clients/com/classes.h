@@ -8,8 +8,8 @@
 typedef struct Class {
     GUID guid;
     Settings settings;
-    BOOL is_hub;      /* the server, no coclass */
-    BOOL for_scripts; /* values as VBScript and JScript have them */
+    BOOL is_hub;     /* the server, no coclass */
+    int for_scripts; /* how its hosts have values (values.h) */
 } Class;
 
 /* A class object: IClassFactory, and of a hub IParseDisplayName. */

@@ -1,6 +1,8 @@
 #include "hub.h"
+#include "information.h"
 #include "objects.h"
 #include "refusals.h"
+#include "watch.h"
 
 #include <olectl.h>
 #include <stdint.h>
@@ -14,18 +16,13 @@ typedef struct Hub {
     Connection *connection;
     GUID class;   /* the hub's own, as it is registered */
     GUID coclass; /* of a collection's objects; zeros of the hub, which has all */
-    BOOL for_scripts;
+    int for_scripts;
+    Watch *watch; /* from the first wait for a change on */
 } Hub;
-
-/* A live object. */
-typedef struct Live {
-    UINT32 number;
-    GUID class;
-} Live;
 
 static const IDispatchVtbl HUB_CALLS;
 
-static HRESULT new_collection(Connection *connection, REFGUID class, REFGUID coclass, BOOL for_scripts, REFIID iid,
+static HRESULT new_collection(Connection *connection, REFGUID class, REFGUID coclass, int for_scripts, REFIID iid,
                               void **made)
 {
     Hub *hub = calloc(1, sizeof *hub);
@@ -47,7 +44,7 @@ static HRESULT new_collection(Connection *connection, REFGUID class, REFGUID coc
     return result;
 }
 
-HRESULT new_hub(Connection *connection, REFGUID class, BOOL for_scripts, REFIID iid, void **made)
+HRESULT new_hub(Connection *connection, REFGUID class, int for_scripts, REFIID iid, void **made)
 {
     return new_collection(connection, class, &GUID_NULL, for_scripts, iid, made);
 }
@@ -57,12 +54,33 @@ static BOOL is_collection(const Hub *hub)
     return !IsEqualGUID(&hub->coclass, &GUID_NULL);
 }
 
+GUID hub_of_library(REFGUID first)
+{
+    GUID hub = *first;
+
+    hub.Data1 ^= 0x6f617574;
+    hub.Data2 ^= 0x6875;
+    hub.Data3 ^= 0x6221;
+    return hub;
+}
+
+GUID part_of_hub(REFGUID hub, enum hub_part part)
+{
+    GUID made = *hub;
+
+    made.Data1 ^= (UINT32)part;
+    return made;
+}
+
 static HRESULT STDMETHODCALLTYPE hub_query(IDispatch *self, REFIID iid, void **found)
 {
+    Hub *hub = (Hub *)self;
+    GUID own = part_of_hub(&hub->class, is_collection(hub) ? PART_COLLECTION : PART_HUB);
+
     *found = NULL;
-    if (!IsEqualGUID(iid, &IID_IUnknown) && !IsEqualGUID(iid, &IID_IDispatch))
+    if (!IsEqualGUID(iid, &IID_IUnknown) && !IsEqualGUID(iid, &IID_IDispatch) && !IsEqualGUID(iid, &own))
         return E_NOINTERFACE;
-    InterlockedIncrement(&((Hub *)self)->references);
+    InterlockedIncrement(&hub->references);
     *found = self;
     return S_OK;
 }
@@ -78,6 +96,7 @@ static ULONG STDMETHODCALLTYPE hub_release(IDispatch *self)
     ULONG left = (ULONG)InterlockedDecrement(&hub->references);
 
     if (!left) {
+        free_watch(hub->watch);
         connection_release(hub->connection);
         free(hub);
         InterlockedDecrement(&dll_references);
@@ -88,16 +107,17 @@ static ULONG STDMETHODCALLTYPE hub_release(IDispatch *self)
 static HRESULT STDMETHODCALLTYPE hub_type_count(IDispatch *self, UINT *count)
 {
     (void)self;
-    *count = 0;
+    *count = 1;
     return S_OK;
 }
 
 static HRESULT STDMETHODCALLTYPE hub_type(IDispatch *self, UINT index, LCID locale, ITypeInfo **found)
 {
-    (void)self;
+    const Hub *hub = (Hub *)self;
+
     (void)locale;
     *found = NULL;
-    return index ? DISP_E_BADINDEX : E_NOTIMPL;
+    return index ? DISP_E_BADINDEX : hub_information(&hub->class, is_collection(hub), found);
 }
 
 /* ---- members */
@@ -115,34 +135,58 @@ enum hub_member {
     HUB_UNLOCK,
     HUB_CLASS_OF,
     HUB_OBJECTS,
-    HUB_INTERFACE_OF
+    HUB_INTERFACE_OF,
+    HUB_REMOVE,
+    HUB_WAIT_FOR_CHANGE
 };
 
-#define WORDS 4 /* at most, for arguments that stand at places of their own */
-
-static const struct {
-    DISPID id;
-    const WCHAR *name;
-    UINT32 least, most; /* arguments */
-    BOOL of_collections;
-    const WCHAR *arguments[WORDS];
-} MEMBERS[] = {
-    [HUB_ITEM] = {DISPID_VALUE, L"Item", 1, 1, TRUE, {L"place"}},
-    [HUB_NEW_ENUM] = {DISPID_NEWENUM, L"_NewEnum", 0, 0, TRUE, {NULL}},
-    [HUB_OBJECT] = {1, L"Object", 1, 1, FALSE, {L"number"}},
-    [HUB_COUNT] = {2, L"Count", 0, 0, TRUE, {NULL}},
-    [HUB_NUMBERS] = {3, L"Numbers", 0, 0, TRUE, {NULL}},
-    [HUB_NUMBER_OF] = {4, L"NumberOf", 1, 1, FALSE, {L"object"}},
-    [HUB_RELEASE] = {5, L"Release", 1, 1, FALSE, {L"object"}},
-    [HUB_REDIM] = {6, L"Redim", 3, MAX_ARGUMENTS, FALSE, {L"object", L"name", L"count", L"lowest"}},
-    [HUB_LOCK] = {7, L"Lock", 2, MAX_ARGUMENTS, FALSE, {L"object", L"name"}},
-    [HUB_UNLOCK] = {8, L"Unlock", 2, MAX_ARGUMENTS, FALSE, {L"object", L"name"}},
-    [HUB_CLASS_OF] = {9, L"ClassOf", 1, 1, FALSE, {L"object"}},
-    [HUB_OBJECTS] = {10, L"Objects", 1, 1, FALSE, {L"coclass"}},
-    [HUB_INTERFACE_OF] = {11, L"InterfaceOf", 2, 2, FALSE, {L"object", L"interface"}},
+static const HubMember MEMBERS[] = {
+    [HUB_ITEM] = {DISPID_VALUE, L"Item", 1, 1, TRUE, INVOKE_PROPERTYGET, VT_DISPATCH, {{L"place", VT_VARIANT}}},
+    [HUB_NEW_ENUM] = {DISPID_NEWENUM, L"_NewEnum", 0, 0, TRUE, INVOKE_PROPERTYGET, VT_UNKNOWN, {{NULL, VT_EMPTY}}},
+    [HUB_OBJECT] = {1, L"Object", 1, 1, FALSE, INVOKE_FUNC, VT_DISPATCH, {{L"number", VT_VARIANT}}},
+    [HUB_COUNT] = {2, L"Count", 0, 0, TRUE, INVOKE_PROPERTYGET, VT_VARIANT, {{NULL, VT_EMPTY}}},
+    [HUB_NUMBERS] = {3, L"Numbers", 0, 0, TRUE, INVOKE_PROPERTYGET, VT_VARIANT, {{NULL, VT_EMPTY}}},
+    [HUB_NUMBER_OF] = {4, L"NumberOf", 1, 1, FALSE, INVOKE_FUNC, VT_VARIANT, {{L"object", VT_DISPATCH}}},
+    [HUB_RELEASE] = {5, L"Release", 1, 1, FALSE, INVOKE_FUNC, VT_VOID, {{L"object", VT_DISPATCH}}},
+    [HUB_REDIM] = {6,
+                   L"Redim",
+                   3,
+                   MAX_ARGUMENTS,
+                   FALSE,
+                   INVOKE_FUNC,
+                   VT_VOID,
+                   {{L"object", VT_DISPATCH}, {L"name", VT_BSTR}, {L"count", VT_VARIANT}, {L"lowest", VT_VARIANT}}},
+    [HUB_LOCK] =
+        {7, L"Lock", 2, MAX_ARGUMENTS, FALSE, INVOKE_FUNC, VT_VARIANT, {{L"object", VT_DISPATCH}, {L"name", VT_BSTR}}},
+    [HUB_UNLOCK] = {8,
+                    L"Unlock",
+                    2,
+                    MAX_ARGUMENTS,
+                    FALSE,
+                    INVOKE_FUNC,
+                    VT_VARIANT,
+                    {{L"object", VT_DISPATCH}, {L"name", VT_BSTR}}},
+    [HUB_CLASS_OF] = {9, L"ClassOf", 1, 1, FALSE, INVOKE_FUNC, VT_BSTR, {{L"object", VT_DISPATCH}}},
+    [HUB_OBJECTS] = {10, L"Objects", 1, 1, FALSE, INVOKE_FUNC, VT_USERDEFINED, {{L"coclass", VT_BSTR}}},
+    [HUB_INTERFACE_OF] = {11,
+                          L"InterfaceOf",
+                          2,
+                          2,
+                          FALSE,
+                          INVOKE_FUNC,
+                          VT_DISPATCH,
+                          {{L"object", VT_DISPATCH}, {L"interface", VT_BSTR}}},
+    [HUB_REMOVE] = {12, L"Remove", 1, 1, FALSE, INVOKE_FUNC, VT_VOID, {{L"object", VT_DISPATCH}}},
+    [HUB_WAIT_FOR_CHANGE] =
+        {13, L"WaitForChange", 1, 1, TRUE, INVOKE_FUNC, VT_VARIANT, {{L"milliseconds", VT_VARIANT}}},
 };
 
 #define MEMBER_COUNT ((int)ARRAYSIZE(MEMBERS))
+
+const HubMember *hub_member(UINT32 place)
+{
+    return place < ARRAYSIZE(MEMBERS) ? &MEMBERS[place] : NULL;
+}
 
 /* A call of the hub's. */
 typedef struct HubCall {
@@ -150,7 +194,9 @@ typedef struct HubCall {
     enum hub_member member;
     const DISPPARAMS *given;
     VARIANT told;
-    UINT32 argument; /* the one at fault, as it stands in rgvarg, or NO_ARGUMENT */
+    UINT32 argument;    /* the place of the wrong one in rgvarg, or NO_ARGUMENT */
+    const WCHAR *watch; /* of a wait for a change: its port, and why that was not reached */
+    int cause;
 } HubCall;
 
 /* Which member a name or a DISPID is, or MEMBER_COUNT. */
@@ -186,74 +232,181 @@ static HRESULT STDMETHODCALLTYPE hub_names(IDispatch *self, REFIID riid, LPOLEST
 
 /* ---- the live objects */
 
-/* Their number, and a Reader of the entries, each a number, 4 bytes and the coclass. */
-static HRESULT list_objects(Connection *connection, UINT32 *count, Reader *entries)
-{
-    HRESULT result;
+#define SHARE 10       /* a listing is used for as many times as long as it took .. */
+#define MOST_AGE 1000u /* .. but no longer than this, in milliseconds */
 
+/* Lists the objects: a number, 4 bytes and the coclass each. */
+static HRESULT list_objects(Connection *connection)
+{
+    Listing *listing = &connection->listing;
+    ULONGLONG begun = GetTickCount64(), age;
+    Reader entries;
+    HRESULT result;
+    UINT32 count, i;
+    Live *live;
+
+    listing->is_there = FALSE;
     begin_request(connection, OP_LIST);
     if ((result = exchange(connection, AGAIN)) != S_OK)
         return result;
-    *entries = reply_fields(connection);
-    *count = read_32(entries);
-    read_past(entries, 4);
-    return bytes_left(entries) / 24 < *count ? OAUT_E_NO_REPLY : S_OK;
+    entries = reply_fields(connection);
+    count = read_32(&entries);
+    read_past(&entries, 4);
+    if (bytes_left(&entries) / 24 < count)
+        return OAUT_E_NO_REPLY;
+    if (count >= listing->room) {
+        if (!(live = realloc(listing->live, ((size_t)count + 64) * sizeof *live)))
+            return E_OUTOFMEMORY;
+        listing->live = live;
+        listing->room = count + 64;
+    }
+    for (i = 0; i < count; i++) {
+        listing->live[i].number = read_32(&entries);
+        read_past(&entries, 4);
+        read_bytes(&entries, &listing->live[i].class, sizeof(GUID));
+        if (i && listing->live[i].number <= listing->live[i - 1].number)
+            return OAUT_E_NO_REPLY; /* they come in the order of their numbers */
+    }
+    listing->count = count;
+    listing->is_there = is_connected(connection);
+    age = SHARE * (GetTickCount64() - begun);
+    listing->until = GetTickCount64() + (age < MOST_AGE ? age : MOST_AGE);
+    return S_OK;
 }
 
-static Live next_object(Reader *entries)
+/* The same, unless it was done just before: else a loop over many objects would list all of them for each. */
+static HRESULT have_objects(Connection *connection)
 {
-    Live one;
+    const Listing *listing = &connection->listing;
 
-    one.number = read_32(entries);
-    read_past(entries, 4);
-    read_bytes(entries, &one.class, sizeof one.class);
-    return one;
+    if (listing->is_there && GetTickCount64() < listing->until && is_connected(connection) && !has_gone(connection))
+        return S_OK;
+    return list_objects(connection);
 }
 
-static HRESULT make_object(Connection *connection, const Live *live, BOOL for_scripts, REFIID iid, void **made)
+/* Where a number is, or would be. */
+static UINT32 place_of(const Listing *listing, UINT32 number)
 {
-    Target target = {connection, live->class, GUID_NULL, live->number, for_scripts};
+    UINT32 low = 0, high = listing->count;
+
+    while (low < high) {
+        UINT32 middle = low + (high - low) / 2;
+
+        if (listing->live[middle].number < number)
+            low = middle + 1;
+        else
+            high = middle;
+    }
+    return low;
+}
+
+static const Live *listed(const Listing *listing, UINT32 number)
+{
+    UINT32 place = place_of(listing, number);
+
+    return place < listing->count && listing->live[place].number == number ? &listing->live[place] : NULL;
+}
+
+void note_made(Connection *connection, UINT32 number, REFGUID class)
+{
+    Listing *listing = &connection->listing;
+
+    if (!listing->is_there)
+        return;
+    if (listing->count == listing->room || (listing->count && listing->live[listing->count - 1].number >= number)) {
+        listing->is_there = FALSE; /* it is listed anew when somebody asks */
+        return;
+    }
+    listing->live[listing->count].number = number;
+    listing->live[listing->count++].class = *class;
+}
+
+/* An object was released. */
+static void note_gone(Connection *connection, UINT32 number)
+{
+    Listing *listing = &connection->listing;
+    UINT32 place = place_of(listing, number);
+
+    if (place < listing->count && listing->live[place].number == number) {
+        listing->count--;
+        memmove(&listing->live[place], &listing->live[place + 1], (listing->count - place) * sizeof(Live));
+    }
+}
+
+/* `generation` is the connection's as the object was listed. */
+static HRESULT make_object(Connection *connection, UINT32 generation, const Live *live, int for_scripts, REFIID iid,
+                           void **made)
+{
+    Target target = {connection, live->class, GUID_NULL, live->number, for_scripts, generation};
 
     return new_object(&target, iid, made);
 }
 
-HRESULT find_object(Connection *connection, UINT32 number, BOOL for_scripts, REFIID iid, void **found)
+/* Whether an object is there: by a name that no library has, the server looks at the object first. */
+static HRESULT check_live(Connection *connection, UINT32 number)
 {
-    Reader entries;
-    HRESULT result;
-    UINT32 count;
+    const WCHAR *name = L"0";
+    DISPID id;
+    HRESULT result = names_to_ids(connection, 0, number, &GUID_NULL, &GUID_NULL, &IID_NULL, LOCALE_NEUTRAL, &name, 1,
+                                  &id);
 
-    *found = NULL;
-    if (FAILED(result = list_objects(connection, &count, &entries)))
-        return result;
-    for (; count > 0; count--) {
-        Live one = next_object(&entries);
-
-        if (one.number == number)
-            return make_object(connection, &one, for_scripts, iid, found);
-    }
-    return RPC_E_DISCONNECTED;
+    return result == DISP_E_UNKNOWNNAME ? S_OK : result;
 }
 
-/* Those of a hub or a collection, in the order of their numbers; the caller frees them. */
+HRESULT find_object(Connection *connection, UINT32 number, int for_scripts, REFIID iid, void **found)
+{
+    const Listing *listing = &connection->listing;
+    const Live *live;
+    HRESULT result;
+
+    *found = NULL;
+    /* a number is never given twice, so its class stays; whether it is there is asked each time */
+    if (listing->is_there && listed(listing, number)) {
+        if (FAILED(result = check_live(connection, number)))
+            return result;
+        if (listing->is_there && (live = listed(listing, number)))
+            return make_object(connection, connection->generation, live, for_scripts, iid, found);
+    }
+    if (FAILED(result = list_objects(connection)))
+        return result;
+    live = listed(listing, number);
+    return live ? make_object(connection, connection->generation, live, for_scripts, iid, found) : RPC_E_DISCONNECTED;
+}
+
+/* Whether an object is one of a hub's or a collection's. */
+static BOOL is_of(const Hub *hub, const Live *live)
+{
+    return !is_collection(hub) || IsEqualGUID(&live->class, &hub->coclass);
+}
+
+/* How many of those that are listed are a hub's or a collection's. */
+static UINT32 count_objects(const Hub *hub)
+{
+    const Listing *listing = &hub->connection->listing;
+    UINT32 count = 0, i;
+
+    for (i = 0; is_collection(hub) && i < listing->count; i++)
+        if (is_of(hub, &listing->live[i]))
+            count++;
+    return is_collection(hub) ? count : listing->count;
+}
+
+/* Those of a hub or a collection as they are now, in the order of their numbers; the caller frees them. */
 static HRESULT live_objects(const Hub *hub, Live **found, UINT32 *count)
 {
-    Reader entries;
+    const Listing *listing = &hub->connection->listing;
     HRESULT result;
-    UINT32 all, i;
+    UINT32 i;
 
     *found = NULL;
     *count = 0;
-    if (FAILED(result = list_objects(hub->connection, &all, &entries)))
+    if (FAILED(result = list_objects(hub->connection)))
         return result;
-    if (!(*found = calloc((size_t)all + 1, sizeof **found)))
+    if (!(*found = calloc((size_t)listing->count + 1, sizeof **found)))
         return E_OUTOFMEMORY;
-    for (i = 0; i < all; i++) {
-        Live one = next_object(&entries);
-
-        if (!is_collection(hub) || IsEqualGUID(&one.class, &hub->coclass))
-            (*found)[(*count)++] = one;
-    }
+    for (i = 0; i < listing->count; i++)
+        if (is_of(hub, &listing->live[i]))
+            (*found)[(*count)++] = listing->live[i];
     return S_OK;
 }
 
@@ -263,15 +416,16 @@ typedef struct Enumerator {
     const IEnumVARIANTVtbl *calls;
     LONG references;
     Connection *connection;
-    BOOL for_scripts;
-    UINT32 place, count;
+    int for_scripts;
+    UINT32 generation, place, count;
     Live *live;
 } Enumerator;
 
 static const IEnumVARIANTVtbl ENUMERATOR_CALLS;
 
 /* Takes the objects over, also where it fails. */
-static HRESULT new_enumerator(Connection *connection, BOOL for_scripts, Live *live, UINT32 count, IEnumVARIANT **made)
+static HRESULT new_enumerator(Connection *connection, UINT32 generation, int for_scripts, Live *live, UINT32 count,
+                              IEnumVARIANT **made)
 {
     Enumerator *enumerator = calloc(1, sizeof *enumerator);
 
@@ -283,6 +437,7 @@ static HRESULT new_enumerator(Connection *connection, BOOL for_scripts, Live *li
     enumerator->calls = &ENUMERATOR_CALLS;
     enumerator->references = 1;
     enumerator->connection = connection;
+    enumerator->generation = generation;
     enumerator->for_scripts = for_scripts;
     enumerator->live = live;
     enumerator->count = count;
@@ -335,8 +490,8 @@ static HRESULT STDMETHODCALLTYPE enumerator_next(IEnumVARIANT *self, ULONG wante
         VARIANT *value = &values[count];
 
         VariantInit(value);
-        result = make_object(enumerator->connection, &enumerator->live[enumerator->place], enumerator->for_scripts,
-                             &IID_IDispatch, (void **)&V_DISPATCH(value));
+        result = make_object(enumerator->connection, enumerator->generation, &enumerator->live[enumerator->place],
+                             enumerator->for_scripts, &IID_IDispatch, (void **)&V_DISPATCH(value));
         if (FAILED(result))
             break;
         V_VT(value) = VT_DISPATCH;
@@ -376,7 +531,8 @@ static HRESULT STDMETHODCALLTYPE enumerator_clone(IEnumVARIANT *self, IEnumVARIA
     if (!live)
         return E_OUTOFMEMORY;
     memcpy(live, enumerator->live, enumerator->count * sizeof *live);
-    result = new_enumerator(enumerator->connection, enumerator->for_scripts, live, enumerator->count, made);
+    result = new_enumerator(enumerator->connection, enumerator->generation, enumerator->for_scripts, live,
+                            enumerator->count, made);
     if (SUCCEEDED(result))
         ((Enumerator *)*made)->place = enumerator->place;
     return result;
@@ -417,7 +573,7 @@ static const VARIANT *argument_at(HubCall *call, UINT32 place, VARIANT *room)
     return value_behind(&call->given->rgvarg[call->argument], room);
 }
 
-/* A whole number that is an argument, within bounds; a CURRENCY too, as such numbers may be told. */
+/* An argument that is a whole number within bounds; also a CURRENCY, since numbers may be returned as such. */
 static HRESULT number_at(HubCall *call, UINT32 place, INT64 least, INT64 most, INT64 *number)
 {
     const VARIANT *value;
@@ -496,24 +652,29 @@ static HRESULT list_numbers(const Hub *hub, VARIANT *numbers)
 static HRESULT object_in_order(HubCall *call)
 {
     const Hub *hub = call->hub;
-    Live *live = NULL;
+    const Listing *listing = &hub->connection->listing;
     HRESULT result;
     INT64 place;
-    UINT32 count;
+    UINT32 i = 0;
 
-    if (FAILED(result = number_at(call, 0, INT32_MIN, MAXDWORD, &place)))
+    if (FAILED(result = number_at(call, 0, INT32_MIN, MAXDWORD, &place)) ||
+        FAILED(result = have_objects(hub->connection)))
         return result;
-    result = live_objects(hub, &live, &count);
-    if (SUCCEEDED(result) && (place < 1 || place > count)) {
+    if (place < 1)
+        i = listing->count;
+    else if (!is_collection(hub))
+        i = place <= listing->count ? (UINT32)place - 1 : listing->count;
+    for (; is_collection(hub) && i < listing->count; i++)
+        if (is_of(hub, &listing->live[i]) && !--place)
+            break;
+    if (i >= listing->count) {
         call->argument = 0;
-        result = DISP_E_BADINDEX;
+        return DISP_E_BADINDEX;
     }
-    if (SUCCEEDED(result))
-        result = make_object(hub->connection, &live[place - 1], hub->for_scripts, &IID_IDispatch,
-                             (void **)&V_DISPATCH(&call->told));
+    result = make_object(hub->connection, hub->connection->generation, &listing->live[i], hub->for_scripts,
+                         &IID_IDispatch, (void **)&V_DISPATCH(&call->told));
     if (SUCCEEDED(result))
         V_VT(&call->told) = VT_DISPATCH;
-    free(live);
     return result;
 }
 
@@ -529,7 +690,8 @@ static HRESULT enumerate(HubCall *call)
         free(live);
         return result;
     }
-    if (FAILED(result = new_enumerator(hub->connection, hub->for_scripts, live, count, &made)))
+    if (FAILED(result = new_enumerator(hub->connection, hub->connection->generation, hub->for_scripts, live, count,
+                                       &made)))
         return result;
     V_UNKNOWN(&call->told) = (IUnknown *)made;
     V_VT(&call->told) = VT_UNKNOWN;
@@ -606,11 +768,15 @@ static HRESULT object_as(HubCall *call, const Target *target)
 
 static HRESULT release_number(const Target *target)
 {
-    Writer *to = begin_request(target->connection, OP_RELEASE);
+    Writer *to = begin_request_of(target->connection, OP_RELEASE, target->generation);
+    HRESULT result;
 
     write_32(to, target->number);
     write_32(to, 0);
-    return exchange(target->connection, ONCE);
+    result = exchange(target->connection, ONCE);
+    if (result == S_OK)
+        note_gone(target->connection, target->number);
+    return result;
 }
 
 /* Redim, Lock, Unlock: the property by its name, then Redim's count and lowest index, then the property's arguments. */
@@ -632,8 +798,8 @@ static HRESULT change_array(HubCall *hub_call, const Target *target)
         (is_redim && FAILED(result = number_at(hub_call, 2, 0, MAXDWORD, &count))) ||
         (is_redim && given->cArgs > 3 && FAILED(result = number_at(hub_call, 3, INT32_MIN, INT32_MAX, &lowest))))
         return result;
-    result = names_to_ids(connection, target->number, &target->class, &target->iid, &IID_NULL, LOCALE_NEUTRAL, &text, 1,
-                          &call.id);
+    result = names_to_ids(connection, target->generation, target->number, &target->class, &target->iid, &IID_NULL,
+                          LOCALE_NEUTRAL, &text, 1, &call.id);
     if (result != S_OK) {
         hub_call->argument = result == DISP_E_UNKNOWNNAME ? given->cArgs - 2 : NO_ARGUMENT;
         return result;
@@ -663,12 +829,37 @@ static HRESULT change_array(HubCall *hub_call, const Target *target)
     return from.bad ? OAUT_E_NO_REPLY : S_OK;
 }
 
+/* Returns the number of an object that has changed, -1 if any may have, 0 if none has in time. Does not hold the lock. */
+static HRESULT wait_for_any_change(HubCall *call)
+{
+    Hub *hub = call->hub;
+    const Settings *settings = &hub->connection->settings;
+    INT64 milliseconds, object;
+    HRESULT result = number_at(call, 0, 0, MAXLONG, &milliseconds);
+
+    if (FAILED(result))
+        return result;
+    call->watch = settings->watch;
+    if (!*settings->watch)
+        return OAUT_E_NOT_REACHED;
+    if (!hub->watch && !(hub->watch = new_watch()))
+        return E_OUTOFMEMORY;
+    connection_leave(hub->connection, S_OK);
+    result = wait_for_change(hub->watch, settings, &hub->coclass, (DWORD)milliseconds, &object, &call->cause);
+    connection_enter(hub->connection);
+    if (result == S_OK && object == ANY_CHANGED) {
+        V_I4(&call->told) = ANY_CHANGED;
+        V_VT(&call->told) = VT_I4;
+    } else if (SUCCEEDED(result)) {
+        tell_number(&call->told, result == S_OK ? (UINT32)object : 0);
+    }
+    return FAILED(result) ? result : S_OK;
+}
+
 static HRESULT perform(HubCall *call)
 {
     const Target *target = NULL;
     HRESULT result;
-    UINT32 count;
-    Live *live;
 
     switch (call->member) {
     case HUB_ITEM: return object_in_order(call);
@@ -676,10 +867,10 @@ static HRESULT perform(HubCall *call)
     case HUB_OBJECT: return object_with_number(call);
     case HUB_OBJECTS: return objects_of_class(call);
     case HUB_NUMBERS: return list_numbers(call->hub, &call->told);
+    case HUB_WAIT_FOR_CHANGE: return wait_for_any_change(call);
     case HUB_COUNT:
-        result = live_objects(call->hub, &live, &count);
-        free(live);
-        tell_number(&call->told, count);
+        if (SUCCEEDED(result = have_objects(call->hub->connection)))
+            tell_number(&call->told, count_objects(call->hub));
         return result;
     default: break;
     }
@@ -689,15 +880,18 @@ static HRESULT perform(HubCall *call)
     case HUB_NUMBER_OF: tell_number(&call->told, target->number); return S_OK;
     case HUB_CLASS_OF: return name_of_class(call, target);
     case HUB_INTERFACE_OF: return object_as(call, target);
-    case HUB_RELEASE: return release_number(target);
+    case HUB_RELEASE:
+    case HUB_REMOVE: return release_number(target);
     default: return change_array(call, target);
     }
 }
 
-/* Tells in words what is wrong with a call, where the host has given room for them. */
+/* Describes the error of a call in words, if the host has passed a structure for them. */
 static HRESULT refuse(const HubCall *call, int member, HRESULT code, EXCEPINFO *told)
 {
-    Refusal refusal = {code, NULL, NULL, NULL, NULL, VT_EMPTY, NULL, call->hub->connection};
+    Refusal refusal = {
+        code,        NULL,       NULL, NULL, NULL, VT_EMPTY, NULL, call->hub->for_scripts, call->hub->connection,
+        call->watch, call->cause};
     WCHAR source[80];
 
     if (!told)
@@ -709,7 +903,7 @@ static HRESULT refuse(const HubCall *call, int member, HRESULT code, EXCEPINFO *
     if (member < MEMBER_COUNT && call->given && call->argument < call->given->cArgs) {
         UINT32 place = call->given->cArgs - 1 - call->argument;
 
-        refusal.argument = place < WORDS ? MEMBERS[member].arguments[place] : NULL;
+        refusal.argument = place < HUB_WORDS ? MEMBERS[member].arguments[place].name : NULL;
         if (!refusal.argument)
             refusal.argument = L"an argument of the property";
         refusal.given = &call->given->rgvarg[call->argument];
@@ -725,7 +919,7 @@ static HRESULT STDMETHODCALLTYPE hub_invoke(IDispatch *self, DISPID id, REFIID r
     HubCall call;
 
     (void)locale;
-    memset(&call, 0, sizeof call); /* so what is told is EMPTY */
+    memset(&call, 0, sizeof call); /* so the result is EMPTY */
     call.hub = (Hub *)self;
     call.given = given;
     call.argument = NO_ARGUMENT;

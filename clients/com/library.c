@@ -80,8 +80,8 @@ static void remember_name(Library *library, REFGUID class, REFIID iid, const WCH
     library->names = name;
 }
 
-HRESULT names_to_ids(Connection *connection, UINT32 object, REFGUID class, REFIID iid, REFIID riid, LCID locale,
-                     const WCHAR *const *names, UINT32 count, DISPID *ids)
+HRESULT names_to_ids(Connection *connection, UINT32 generation, UINT32 object, REFGUID class, REFIID iid, REFIID riid,
+                     LCID locale, const WCHAR *const *names, UINT32 count, DISPID *ids)
 {
     BOOL alone = count == 1 && IsEqualGUID(riid, &GUID_NULL);
     KnownName *known = NULL;
@@ -98,7 +98,7 @@ HRESULT names_to_ids(Connection *connection, UINT32 object, REFGUID class, REFII
     }
     for (i = 0; i < count; i++)
         ids[i] = DISPID_UNKNOWN;
-    to = begin_request(connection, OP_GETIDS);
+    to = begin_request_of(connection, OP_GETIDS, generation);
     write_32(to, object);
     write_32(to, 0);
     write_bytes(to, iid, sizeof *iid);
@@ -127,6 +127,42 @@ HRESULT names_to_ids(Connection *connection, UINT32 object, REFGUID class, REFII
     if (alone && result == S_OK)
         remember_name(connection->library, class, iid, names[0], (UINT32)lstrlenW(names[0]), ids[0]);
     return result;
+}
+
+#define DEFERRED_FIRST ((DISPID)0x8f6f0000) /* a library that has it has its own member called */
+#define MAX_DEFERRED 1024u
+
+typedef struct deferred_name {
+    WCHAR text[MAX_NAME + 1];
+} DeferredName;
+
+BOOL defer_name(Connection *connection, const WCHAR *name, DISPID *id)
+{
+    UINT32 length = (UINT32)lstrlenW(name), i;
+    DeferredName *all;
+
+    if (!length || length > MAX_NAME)
+        return FALSE;
+    for (i = 0; i < connection->deferred_count; i++)
+        if ((UINT32)lstrlenW(connection->deferred[i].text) == length &&
+            same_name(connection->deferred[i].text, name, length))
+            break;
+    if (i == connection->deferred_count) {
+        if (i == MAX_DEFERRED || !(all = realloc(connection->deferred, (i + 1) * sizeof *all)))
+            return FALSE;
+        memcpy(all[i].text, name, (length + 1) * sizeof *name);
+        connection->deferred = all;
+        connection->deferred_count++;
+    }
+    *id = DEFERRED_FIRST + (DISPID)i;
+    return TRUE;
+}
+
+const WCHAR *deferred_name(const Connection *connection, DISPID id)
+{
+    UINT32 place = (UINT32)id - (UINT32)DEFERRED_FIRST;
+
+    return place < connection->deferred_count ? connection->deferred[place].text : NULL;
 }
 
 void copy_name(const Name *name, WCHAR text[MAX_NAME + 1])
@@ -165,7 +201,7 @@ static BOOL read_name(Reader *from, Name *name)
     return !from->bad;
 }
 
-HRESULT describe_item(Connection *connection, UINT32 index, Item *item, Reader *entries)
+static HRESULT ask_item(Connection *connection, enum way way, UINT32 index, Item *item, Reader *entries)
 {
     Writer *to = begin_request(connection, OP_TYPEINFO);
     HRESULT result;
@@ -174,7 +210,7 @@ HRESULT describe_item(Connection *connection, UINT32 index, Item *item, Reader *
     memset(item, 0, sizeof *item);
     write_32(to, index);
     write_32(to, 0);
-    if ((result = exchange(connection, index ? HERE : AGAIN)) != S_OK)
+    if ((result = exchange(connection, way)) != S_OK)
         return result;
     *entries = reply_fields(connection);
     item->kind = read_32(entries);
@@ -184,6 +220,11 @@ HRESULT describe_item(Connection *connection, UINT32 index, Item *item, Reader *
         return OAUT_E_NO_REPLY;
     copy_name(&name, item->name);
     return S_OK;
+}
+
+HRESULT describe_item(Connection *connection, UINT32 index, Item *item, Reader *entries)
+{
+    return ask_item(connection, index ? HERE : AGAIN, index, item, entries);
 }
 
 Reader entries_of(const Item *item)
@@ -227,7 +268,7 @@ BOOL next_member(Reader *at, Member *member)
         ;
     if (member->kind == INVOKE_PROPERTYPUT && member->declared && !at->bad) {
         member->parameters--;
-        member->type = parameter.type; /* the last one tells what the property holds */
+        member->type = parameter.type; /* the last one has the type of the property */
     } else if (member->kind == INVOKE_FUNC) {
         member->type = VT_VOID;
     }
@@ -299,7 +340,7 @@ const Item *interface_at(const Library *library, const Item *class, UINT32 place
     return &library->items[index];
 }
 
-/* By its GUID where it has no name. */
+/* By its GUID if it has no name. */
 static const Item *interface_of(const Library *library, REFGUID class, REFIID iid, const WCHAR *name)
 {
     const Item *coclass = find_coclass(library, class), *found;
@@ -356,7 +397,8 @@ static HRESULT add_item(Library *library, Item *item, Reader *entries)
     return S_OK;
 }
 
-static HRESULT read_library(Connection *connection)
+/* Reads all items. The first one is asked for by a way, the others over the same connection. */
+static HRESULT read_library(Connection *connection, enum way first)
 {
     Library *library = connection->library;
     BOOL has_classes = FALSE;
@@ -367,8 +409,11 @@ static HRESULT read_library(Connection *connection)
         Reader entries;
         Item item;
 
-        if ((result = describe_item(connection, index, &item, &entries)) != S_OK)
+        if ((result = ask_item(connection, index ? HERE : first, index, &item, &entries)) != S_OK)
             break;
+        library = connection->library; /* (another one, if this request has dialled) */
+        if (!index && library->is_whole)
+            return S_OK; /* it was read to be compared with an earlier one */
         if (!index)
             forget_items(library);
         if (index >= MAX_ITEMS || item.count > MAX_ENTRIES ||
@@ -386,22 +431,163 @@ static HRESULT read_library(Connection *connection)
 
 HRESULT library_of(Connection *connection, const Library **library)
 {
-    HRESULT result;
+    BOOL has_locks = connection->locks || connection->lost_locks;
+    HRESULT result = S_OK;
 
-    *library = connection->library;
     if (is_connected(connection) && has_gone(connection))
         hang_up(connection); /* another library may be there by now */
-    if (is_connected(connection) && connection->library->is_whole)
-        return S_OK;
-    result = read_library(connection);
-    if (result == OAUT_E_LOST) {
+    if (!is_connected(connection) || !connection->library->is_whole)
+        result = read_library(connection, AGAIN);
+    if (result == OAUT_E_LOST && !has_locks) {
         hang_up(connection); /* what is half read is not used */
-        result = read_library(connection);
+        result = read_library(connection, AGAIN);
     }
+    *library = connection->library; /* (not before: a dial may have put another one there) */
     if (SUCCEEDED(result))
         return S_OK;
     hang_up(connection); /* nothing of the caller's has been asked yet */
-    return result == OAUT_E_LOST ? OAUT_E_NOT_REACHED : result;
+    return result == OAUT_E_LOST && !has_locks ? OAUT_E_NOT_REACHED : result;
+}
+
+/* ---- whether a library has what an earlier one had */
+
+static BOOL same_names(const Name *one, const Name *other)
+{
+    WCHAR a[MAX_NAME + 1], b[MAX_NAME + 1];
+
+    copy_name(one, a);
+    copy_name(other, b);
+    return one->length == other->length && same_name(a, b, one->length);
+}
+
+static BOOL same_parameters(const Member *one, const Member *other)
+{
+    Parameter a, b;
+    UINT32 i;
+
+    for (i = 0; i < one->declared; i++)
+        if (!parameter_at(one, i, &a) || !parameter_at(other, i, &b) || a.type != b.type || a.flags != b.flags ||
+            !same_names(&a.name, &b.name))
+            return FALSE;
+    return TRUE;
+}
+
+static BOOL has_member(const Item *type, const Member *wanted)
+{
+    Reader at = entries_of(type);
+    Member member;
+
+    while (next_member(&at, &member))
+        if (member.id == wanted->id && member.kind == wanted->kind && member.flags == wanted->flags &&
+            member.type == wanted->type && member.declared == wanted->declared &&
+            same_names(&member.name, &wanted->name) && same_parameters(&member, wanted))
+            return TRUE;
+    return FALSE;
+}
+
+static BOOL has_members(const Item *type, const Item *before)
+{
+    Reader at = entries_of(before);
+    Member member;
+
+    while (next_member(&at, &member))
+        if (!has_member(type, &member))
+            return FALSE;
+    return TRUE;
+}
+
+/* Whether a coclass has the interfaces of an earlier one, and the same default one. */
+static BOOL has_interfaces(const Library *library, const Item *class, const Library *before_library, const Item *before)
+{
+    const Item *wanted, *found;
+    BOOL was_default, is_default;
+    UINT32 i, k;
+
+    for (i = 0; (wanted = interface_at(before_library, before, i, &was_default)); i++) {
+        for (k = 0; (found = interface_at(library, class, k, &is_default)); k++)
+            if (IsEqualGUID(&found->guid, &wanted->guid))
+                break;
+        if (!found || is_default != was_default)
+            return FALSE;
+    }
+    return TRUE;
+}
+
+static BOOL has_item(const Library *library, const Library *before_library, const Item *before)
+{
+    const Item *item;
+    UINT32 i;
+
+    for (i = 0; i < library->count; i++) {
+        item = &library->items[i];
+        if (item->kind == before->kind && IsEqualGUID(&item->guid, &before->guid))
+            return item->kind == KIND_INTERFACE ? has_members(item, before)
+                                                : has_interfaces(library, item, before_library, before);
+    }
+    return FALSE;
+}
+
+static BOOL has_known_name(const Library *library, const KnownName *name)
+{
+    const Item *type = find_interface(library, &name->class, &name->iid);
+    Reader at;
+    Member member;
+
+    if (!type)
+        return FALSE;
+    at = entries_of(type);
+    while (next_member(&at, &member)) {
+        WCHAR text[MAX_NAME + 1];
+
+        copy_name(&member.name, text);
+        if (member.id == name->id && member.name.length == name->length && same_name(text, name->text, name->length))
+            return TRUE;
+    }
+    return FALSE;
+}
+
+/* Whether everything that was read of an earlier library is the same in this one. */
+static BOOL has_all_of(const Library *library, const Library *before)
+{
+    const KnownName *name;
+    UINT32 i;
+
+    for (i = 0; before->is_whole && i < before->count; i++)
+        if (!has_item(library, before, &before->items[i]))
+            return FALSE;
+    for (name = before->names; name; name = name->next)
+        if (!has_known_name(library, name))
+            return FALSE;
+    return TRUE;
+}
+
+static BOOL has_told(const Library *library)
+{
+    return library->is_whole || library->names;
+}
+
+HRESULT compare_library(Connection *connection)
+{
+    Library *library = connection->library;
+    HRESULT result;
+
+    if (has_told(library) && !has_told(connection->before)) {
+        connection->library = connection->before;
+        connection->before = library;
+    }
+    forget_library(connection->library);
+    if (!has_told(connection->before))
+        return S_OK;
+    if (FAILED(result = read_library(connection, HERE)))
+        return result;
+    if (has_all_of(connection->library, connection->before)) {
+        connection->library->names = connection->before->names; /* they are so here too */
+        connection->before->names = NULL;
+    } else {
+        connection->generation++;
+    }
+    forget_library(connection->before);
+    return S_OK;
 }
 
 const Library *library_told(const Connection *connection)

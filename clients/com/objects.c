@@ -109,7 +109,7 @@ HRESULT has_interface(const Target *target, REFIID iid)
     return find_interface(library, &target->class, iid) ? S_OK : E_NOINTERFACE;
 }
 
-/* The face of an object for one of its coclass's interfaces; it is made where nobody has asked for it before. */
+/* The face of an object for one of its coclass's interfaces; it is made when it is first asked for. */
 static HRESULT find_face(Object *object, REFIID iid, Face **found)
 {
     const Target *target = &object->face.target;
@@ -122,8 +122,8 @@ static HRESULT find_face(Object *object, REFIID iid, Face **found)
             *found = face;
             return S_OK;
         }
-    /* what stands for a second interface is that alone: COM's own stubs of dispinterfaces call IDispatch, so that another
-       one would be taken for it in another apartment */
+    /* an object of a second interface has only that: COM's own stubs of dispinterfaces call IDispatch, so in another
+       apartment another interface would be taken for it */
     if (!IsEqualGUID(&target->iid, &GUID_NULL))
         return E_NOINTERFACE;
     if (FAILED(result = has_interface(target, iid)))
@@ -265,9 +265,40 @@ static HRESULT STDMETHODCALLTYPE face_names(IDispatch *self, REFIID riid, LPOLES
     if (!count || !names || !ids)
         return E_INVALIDARG;
     connection_enter(target->connection);
-    result = names_to_ids(target->connection, target->number, &target->class, &target->iid, riid, locale,
-                          (const WCHAR *const *)names, count, ids);
+    result = names_to_ids(target->connection, target->generation, target->number, &target->class, &target->iid, riid,
+                          locale, (const WCHAR *const *)names, count, ids);
+    if (FAILED(result) && result != DISP_E_UNKNOWNNAME && count == 1 && IsEqualGUID(riid, &IID_NULL) &&
+        defer_name(target->connection, names[0], ids)) {
+        if (result == OAUT_E_NO_REPLY)
+            hang_up(target->connection);
+        result = S_OK;
+    }
     return connection_leave(target->connection, result);
+}
+
+/* Asks for the DISPID of a name that could not be asked for before. */
+static HRESULT find_deferred(Call *call)
+{
+    const Target *target = call->target;
+    const WCHAR *name = deferred_name(target->connection, call->id);
+    const Library *library;
+    const Item *type;
+    HRESULT result;
+    Member member;
+    DISPID id;
+
+    if (!name)
+        return S_OK;
+    if (FAILED(result = library_of(target->connection, &library)))
+        return result;
+    type = find_interface(library, &target->class, &target->iid);
+    if (type && find_member(type, call->id, &member))
+        return S_OK;
+    result = names_to_ids(target->connection, target->generation, target->number, &target->class, &target->iid,
+                          &IID_NULL, LOCALE_NEUTRAL, &name, 1, &id);
+    if (result == S_OK)
+        call->id = id;
+    return result;
 }
 
 void name_class(Connection *connection, REFGUID class, WCHAR *text, size_t room)
@@ -310,13 +341,14 @@ static BOOL is_probe(const Call *call, HRESULT code)
            (code == DISP_E_MEMBERNOTFOUND || code == DISP_E_PARAMNOTOPTIONAL);
 }
 
-/* Tells in words what is wrong with a call, where the host has given room for them. */
+/* Describes the error of a call in words, if the host has passed a structure for them. */
 static HRESULT refuse(const Call *call, HRESULT code, EXCEPINFO *told)
 {
     WCHAR source[80], object[96], member_name[MAX_NAME + 1], argument[MAX_NAME + 1];
     const Target *target = call->target;
     BOOL has_argument = call->argument < call->given->cArgs;
-    Refusal refusal = {code, source, object, NULL, NULL, VT_EMPTY, NULL, target->connection};
+    Refusal refusal = {code, source, object, NULL, NULL, VT_EMPTY, NULL, target->for_scripts, target->connection,
+                       NULL, 0};
     const Library *library;
     const Item *type;
     Member member;
@@ -327,8 +359,12 @@ static HRESULT refuse(const Call *call, HRESULT code, EXCEPINFO *told)
         library_of(target->connection, &library); /* for the names; without it some are missing */
     name_class(target->connection, &target->class, source, ARRAYSIZE(source));
     swprintf(object, ARRAYSIZE(object), L"%ls %lu", source, (unsigned long)target->number);
-    if (name_told(target->connection, &target->class, &target->iid, call->id, member_name))
+    /* (in another library the DISPID may be another member's) */
+    if (code != OAUT_E_OTHER_LIBRARY &&
+        name_told(target->connection, &target->class, &target->iid, call->id, member_name))
         refusal.member = member_name;
+    else
+        refusal.member = deferred_name(target->connection, call->id);
     type = find_interface(library_told(target->connection), &target->class, &target->iid);
     if (has_argument && type && find_member(type, call->id, &member))
         name_argument(call, &member, &refusal, argument);
@@ -353,7 +389,7 @@ static HRESULT STDMETHODCALLTYPE face_invoke(IDispatch *self, DISPID id, REFIID 
     connection_enter(call.target->connection);
     if (FAILED(code))
         call.given = &nothing;
-    else
+    else if (SUCCEEDED(code = find_deferred(&call)))
         code = perform_call(&call);
     if (FAILED(code) && argument && call.argument < call.given->cArgs)
         *argument = call.argument;

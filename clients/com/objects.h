@@ -11,13 +11,13 @@ extern LONG dll_references;
    QueryInterface. */
 HRESULT new_object(const Target *target, REFIID iid, void **made);
 
-/* What a COM object stands for, where it is one of new_object's; NULL else. It lasts as long as the object. */
+/* The target of a COM object that new_object has made, else NULL. It lasts as long as the object. */
 const Target *target_of(IUnknown *object);
 
 /* Whether an object of a coclass would answer an interface. Wants the connection's lock held. */
 HRESULT has_interface(const Target *target, REFIID iid);
 
-/* The class as it is registered, such as Desk.Sheet, else its coclass's name, and the object's number behind it. */
+/* The class as it is registered, such as Desk.Sheet, or its coclass's name, followed by the object's number. */
 void name_class(Connection *connection, REFGUID class, WCHAR *text, size_t room);
 
 #endif

@@ -4,8 +4,8 @@
 #include <string.h>
 #include <wchar.h>
 
-/* Each code that a call may be refused with. The numbers are those of VBScript, JScript and VBA, 0 where they have none
-   for the code. docs/com.md has the same table. */
+/* Each code with which a call may be refused. The numbers are those of VBScript, JScript and VBA, 0 if they have none for the code.
+ * docs/guide/com.md has the same table. */
 static const struct {
     HRESULT code;
     UINT32 number;
@@ -17,31 +17,35 @@ static const struct {
     {DISP_E_UNKNOWNINTERFACE, 438, L"DISP_E_UNKNOWNINTERFACE", L"the riid of a call has to be IID_NULL"},
     {DISP_E_TYPEMISMATCH, 13, L"DISP_E_TYPEMISMATCH", L"the value is of another type"},
     {DISP_E_OVERFLOW, 6, L"DISP_E_OVERFLOW", L"the number is too large or too small"},
-    {DISP_E_BADVARTYPE, 458, L"DISP_E_BADVARTYPE", L"values of this type are not taken"},
-    {DISP_E_PARAMNOTOPTIONAL, 449, L"DISP_E_PARAMNOTOPTIONAL", L"an argument is left out that has to be given"},
+    {DISP_E_BADVARTYPE, 458, L"DISP_E_BADVARTYPE", L"values of this type are not supported"},
+    {DISP_E_PARAMNOTOPTIONAL, 449, L"DISP_E_PARAMNOTOPTIONAL", L"a required argument is missing"},
     {DISP_E_BADPARAMCOUNT, 450, L"DISP_E_BADPARAMCOUNT", L"the number of arguments is wrong"},
     {DISP_E_NONAMEDARGS, 446, L"DISP_E_NONAMEDARGS", L"its arguments have no names"},
-    {DISP_E_PARAMNOTFOUND, 448, L"DISP_E_PARAMNOTFOUND", L"an argument has a name that is none of the parameters'"},
+    {DISP_E_PARAMNOTFOUND, 448, L"DISP_E_PARAMNOTFOUND", L"no parameter has the name of an argument"},
     {DISP_E_BADINDEX, 9, L"DISP_E_BADINDEX", L"nothing has this index"},
     {DISP_E_ARRAYISLOCKED, 10, L"DISP_E_ARRAYISLOCKED", L"the array is locked"},
     {E_NOTIMPL, 445, L"E_NOTIMPL", L"it is a method, and the library has no bodies of methods"},
     {E_NOINTERFACE, 430, L"E_NOINTERFACE", L"the object does not have this interface"},
     {E_INVALIDARG, 5, L"E_INVALIDARG", L"an argument is given twice, or an array or the whole call is too large"},
-    {E_OUTOFMEMORY, 7, L"E_OUTOFMEMORY", L"memory was refused; nothing is changed"},
+    {E_OUTOFMEMORY, 7, L"E_OUTOFMEMORY", L"out of memory; nothing has changed"},
     {E_POINTER, 0, L"E_POINTER", L"a pointer is null"},
     {E_UNEXPECTED, 0, L"E_UNEXPECTED",
-     L"there is no lock to take back, the array was never put, or the store has no room for an object more"},
+     L"there is no lock to release, the array was never put, or the store cannot hold another object"},
     {E_FAIL, 0, L"E_FAIL", L"the store's device has failed; nothing is written any more"},
     {RPC_E_DISCONNECTED, 0, L"RPC_E_DISCONNECTED", L"the store has no object with this number; it was released"},
-    {(HRESULT)0x800706F7, 0, L"RPC_X_BAD_STUB_DATA", L"the server does not take the call: a text is too long"},
-    {STG_E_WRITEFAULT, 0, L"STG_E_WRITEFAULT", L"the store's device refused to write; it is done or not, wholly"},
-    {STG_E_MEDIUMFULL, 0, L"STG_E_MEDIUMFULL", L"the store is full; nothing is changed"},
+    {(HRESULT)0x800706F7, 0, L"RPC_X_BAD_STUB_DATA", L"the server refuses the call: a text is too long"},
+    {STG_E_WRITEFAULT, 0, L"STG_E_WRITEFAULT",
+     L"the store's device failed to write; the request was executed completely or not at all"},
+    {STG_E_MEDIUMFULL, 0, L"STG_E_MEDIUMFULL", L"the store is full; nothing has changed"},
     {REGDB_E_CLASSNOTREG, 429, L"REGDB_E_CLASSNOTREG", L"the library has no such coclass"},
     {OAUT_E_NOT_REACHED, 462, L"RPC_S_SERVER_UNAVAILABLE", L"the server was not reached; nothing was sent"},
+    {OAUT_E_OTHER_LIBRARY, 0, L"RPC_S_UNKNOWN_IF",
+     L"the server has another library now; nothing was sent: make the object again"},
     {OAUT_E_LOST, 0, L"RPC_E_CONNECTION_TERMINATED",
-     L"the connection broke before the reply; it is done or not, wholly"},
-    {OAUT_E_LATE, 0, L"RPC_E_TIMEOUT", L"no reply came in time; it is done or not, wholly"},
-    {OAUT_E_NO_REPLY, 0, L"RPC_E_INVALID_DATA", L"bytes came that are no reply; it is done or not, wholly"},
+     L"the connection broke before the reply; the request was executed completely or not at all"},
+    {OAUT_E_LATE, 0, L"RPC_E_TIMEOUT", L"no reply came in time; the request was executed completely or not at all"},
+    {OAUT_E_NO_REPLY, 0, L"RPC_E_INVALID_DATA",
+     L"the server sent bytes that are not a reply; the request was executed completely or not at all"},
 };
 
 HRESULT code_for_scripts(HRESULT code)
@@ -136,6 +140,40 @@ static void add_type(Text *to, VARTYPE type)
         add(to, L")");
 }
 
+/* Which element of an array is at fault, by its indices, and why. */
+static BOOL add_element(Text *to, const Refusal *refusal, const VARIANT *given)
+{
+    const SAFEARRAY *array = V_ARRAY(given);
+    const WCHAR *advice = NULL;
+    const VARIANT *cell;
+    WCHAR number[24];
+    VARIANT room;
+    HRESULT code;
+    UINT32 place, i;
+
+    code = find_misfit(array, V_VT(given) & (VARTYPE)~VT_ARRAY, refusal->declared, refusal->how, &place, &cell, &room);
+    if (code == S_OK)
+        return FALSE;
+    add(to, L"; element (");
+    for (i = array->cDims; i-- > 0;) { /* the leftmost index first, which counts fastest */
+        const SAFEARRAYBOUND *bound = &array->rgsabound[i];
+
+        swprintf(number, ARRAYSIZE(number), L"%ld%ls", (long)bound->lLbound + (long)(place % bound->cElements),
+                 i ? L", " : L")");
+        place /= bound->cElements;
+        add(to, number);
+    }
+    add(to, code == DISP_E_OVERFLOW ? L" is too large or too small: it is given as " : L" is given as ");
+    add_type(to, V_VT(cell));
+    if (code == DISP_E_BADVARTYPE)
+        advice = advice_on(cell);
+    if (advice) {
+        add(to, L"; ");
+        add(to, advice);
+    }
+    return TRUE;
+}
+
 /* What was declared and what was given, of the codes that speak of a value. */
 static void add_argument(Text *to, const Refusal *refusal)
 {
@@ -159,6 +197,9 @@ static void add_argument(Text *to, const Refusal *refusal)
             add_type(to, V_VT(given));
         }
     }
+    if (given && is_of_value && (V_VT(given) & VT_ARRAY) && refusal->declared != VT_EMPTY &&
+        add_element(to, refusal, given))
+        return;
     if (given && (refusal->code == DISP_E_BADVARTYPE || (refusal->code == DISP_E_OVERFLOW && is_floating(given))))
         advice = advice_on(given);
     if (advice) {
@@ -167,8 +208,8 @@ static void add_argument(Text *to, const Refusal *refusal)
     }
 }
 
-/* Which server was not reached, or lost, and why, as far as this end is told. */
-static void add_cause(Text *to, const Connection *connection)
+/* Which server was not reached, or lost, and why, as far as this end knows. */
+static void add_cause(Text *to, const Refusal *refusal)
 {
     static const struct {
         int cause;
@@ -183,22 +224,29 @@ static void add_cause(Text *to, const Connection *connection)
         {WSAENETUNREACH, L"no route to this network"},
         {WSAECONNRESET, L"the server reset the connection"},
         {WSAECONNABORTED, L"this machine aborted the connection"},
+        {WSAEPROTONOSUPPORT, L"what listens there sends no changes"},
     };
+    const Settings *settings = &refusal->connection->settings;
+    int cause = refusal->watch ? refusal->cause : refusal->connection->cause;
     const WCHAR *words = L"";
     WCHAR number[16];
     size_t i;
 
+    if (refusal->watch && !*refusal->watch) {
+        add(to, L"; no port for changes is registered: oautreg add has --watch for it");
+        return;
+    }
     for (i = 0; i < ARRAYSIZE(CAUSES); i++)
-        if (CAUSES[i].cause == connection->cause)
+        if (CAUSES[i].cause == cause)
             words = CAUSES[i].words;
     add(to, L"; ");
-    add(to, connection->settings.host);
+    add(to, settings->host);
     add(to, L":");
-    add(to, connection->settings.port);
+    add(to, refusal->watch ? refusal->watch : settings->port);
     add(to, L": ");
     add(to, words);
-    if (connection->cause) {
-        swprintf(number, ARRAYSIZE(number), *words ? L", %d" : L"%d", connection->cause);
+    if (cause) {
+        swprintf(number, ARRAYSIZE(number), *words ? L", %d" : L"%d", cause);
         add(to, number);
     }
 }
@@ -223,10 +271,10 @@ static void describe(Text *to, const Refusal *refusal)
     add(to, L": ");
     add(to, words);
     add_argument(to, refusal);
-    /* (where a server answers such a code, the connection stands) */
+    /* (if the server itself replies with such a code, the connection still works) */
     if ((refusal->code == OAUT_E_NOT_REACHED || refusal->code == OAUT_E_LOST) &&
-        refusal->connection->socket == INVALID_SOCKET)
-        add_cause(to, refusal->connection);
+        (refusal->watch || refusal->connection->socket == INVALID_SOCKET))
+        add_cause(to, refusal);
     add(to, L" (");
     if (name) {
         add(to, name);

@@ -3,8 +3,8 @@
        tlb2idl FILE [-o OUT.idl] [--double=DECIMAL] [--date=CY|BSTR] [--only=COCLASS]..
 
    FILE is a .tlb, or a DLL or EXE with a type library inside; `FILE\2` is its second one. What cannot be carried is left out, each with a line on
-   standard error. What is kept, as what, and why the rest is not, stands in docs/import.md. clients/python/oaut/importing.py has the same rules for
-   MIDL text, in the same order and with the same words: a change of one is a change of both. */
+   standard error. docs/guide/import.md lists what is kept, in which form, and why the rest is not. clients/python/oaut/importing.py has the same rules for
+   MIDL text, in the same order and with the same words: change both. */
 #define COBJMACROS
 #define CINTERFACE
 #ifndef TESTS_TYPELIB_H
@@ -27,13 +27,14 @@
 #define PARAMETER_LIMIT 16
 #define DEPTH_LIMIT 64 /* of aliases, and of interfaces above one another */
 #define SECONDS 120    /* after so long the system's reader is taken for one that never ends */
+#define RESERVE 65536  /* bytes of the stack for what runs after it has overflowed */
 
 typedef struct Text {
     char *bytes;
     size_t length, room;
 } Text;
 
-/* A type of a library's text, NULL for void; `was` is what stood there where it is another one. */
+/* A type of a library's text, NULL for void; `was` is the original type if it differs. */
 typedef struct Type {
     const char *word, *was;
     BOOL is_array;
@@ -66,7 +67,7 @@ typedef struct Interface {
     Member **members;
     size_t count, room;
     Text text;
-    int rank; /* 0 where it is a coclass's default, 1 where a coclass has it, else 2 */
+    int rank; /* 0 if it is a coclass's default, 1 if a coclass has it, otherwise 2 */
     BOOL is_left, is_wanted;
 } Interface;
 
@@ -233,7 +234,7 @@ static void add_guid(Text *to, const GUID *guid)
 
 /* ---- types */
 
-/* A type, where so many pointers to it are none of it. Gives why it is left out, or NULL. */
+/* A type with this many pointers removed. Returns why it is left out, or NULL. */
 static const char *carried(ITypeInfo *of, const TYPEDESC *desc, int pointers, BOOL in_array, Type *type)
 {
     ITypeInfo *infos[DEPTH_LIMIT];
@@ -404,7 +405,7 @@ static BOOL whole(const VARIANT *value, BOOL *is_below, uint64_t *size)
     return TRUE;
 }
 
-/* The literal of a default, or NULL where there is none. */
+/* The literal of a default, or NULL if there is none. */
 static const char *literal_of(const VARIANT *value, const Type *type)
 {
     static const struct {
@@ -498,7 +499,7 @@ static const char *parameter_of(ITypeInfo *info, const ELEMDESC *element, Kind k
         return why;
     if (!made->type.word)
         return "void";
-    /* that nothing was given is told by an error, too */
+    /* an omitted argument is an error value, too */
     if (has_default && V_VT(&words->pparamdescex->varDefaultValue) == VT_ERROR &&
         V_UI4(&words->pparamdescex->varDefaultValue) == 0x80020004)
         has_default = FALSE;
@@ -618,7 +619,7 @@ static BOOL do_agree(const Member *one, const Member *other)
     return TRUE;
 }
 
-/* Why a form cannot stand beside those that are kept, or NULL. A property's get and put without parameters are one declaration. */
+/* Why a form cannot be kept beside the earlier ones, or NULL. A property's get and put without parameters are one declaration. */
 static const char *joined(const Interface *to, const Member *made, size_t *declarations)
 {
     const Member *other = NULL;
@@ -760,8 +761,8 @@ static void add_own(Collected *to, ITypeInfo *info)
     ITypeInfo_ReleaseTypeAttr(info, attributes);
 }
 
-/* The interfaces from one up to IDispatch or IUnknown, these left away; the references are the caller's to give back. Tells whether IDispatch is there,
-   and whether one could not be found. */
+/* The interfaces from one up to IDispatch or IUnknown, without these; the caller releases the references. Reports whether IDispatch is there, and whether
+   one could not be found. */
 static unsigned chain_of(ITypeInfo *info, ITypeInfo **chain, BOOL *dispatches, BOOL *is_cut)
 {
     unsigned count = 0;
@@ -796,7 +797,7 @@ static unsigned chain_of(ITypeInfo *info, ITypeInfo **chain, BOOL *dispatches, B
     return count;
 }
 
-/* Whether members of an interface are called by their DISPIDs; where they are, they are collected. */
+/* Whether members of an interface are called by their DISPIDs; if so, they are collected. */
 static BOOL collect(Interface *of, ITypeInfo *info, size_t *seen)
 {
     Collected to = {of, 0, 0};
@@ -1024,7 +1025,7 @@ static void read_item(ITypeInfo *info, UINT place)
     ITypeInfo_ReleaseTypeAttr(info, attributes);
 }
 
-/* Why an item cannot stand beside those that are kept, which come before it in their order, or NULL. */
+/* Why an item cannot be kept beside the earlier ones, or NULL. */
 static const char *fault_of_item(const char *name, const GUID *guid, size_t interfaces, size_t coclasses)
 {
     const char *why = fault_of_name(name);
@@ -1231,7 +1232,7 @@ static void drop_entries(void)
     }
 }
 
-/* The text of a type library, and behind the report a line that counts. */
+/* The text of a type library, and after the report a line with counts. */
 static Text text_of(ITypeLib *of)
 {
     Text text = {NULL, 0, 0};
@@ -1332,14 +1333,17 @@ static void write_file(const Text *text)
 }
 
 static WCHAR *input;
+static volatile LONG is_done; /* all is written */
 
 static DWORD WINAPI work(void *unused)
 {
+    ULONG reserve = RESERVE;
     ITypeLib *of;
     HRESULT result;
     Text text;
 
     (void)unused;
+    SetThreadStackGuarantee(&reserve);
     result = CoInitialize(NULL);
     if (SUCCEEDED(result))
         result = LoadTypeLibEx(input, REGKIND_NONE, &of);
@@ -1359,21 +1363,30 @@ static DWORD WINAPI work(void *unused)
         fail("standard output cannot be written");
     fwrite(given.report.bytes, 1, given.report.length, stderr);
     fflush(stderr);
+    is_done = TRUE;
     return 0;
 }
 
-/* The system's reader meets whatever a file has; where it falls over that, so does no more than this process, with a line. */
-static LONG WINAPI fallen(EXCEPTION_POINTERS *told)
+/* Ends this process after a crash of the system's reader, with a line. It takes no lock and no memory: the crash may have
+   left both in any state. */
+static void end_after_crash(const char *code)
 {
-    char why[64];
+    const char *parts[] = {"tlb2idl: ", given.path, ": the system's reader crashed", code, "\n"};
     DWORD count;
+    size_t i;
 
-    snprintf(why, sizeof why, ": the system's reader fell over it (0x%08lX)\n",
-             (unsigned long)told->ExceptionRecord->ExceptionCode);
-    WriteFile(GetStdHandle(STD_ERROR_HANDLE), "tlb2idl: ", 9, &count, NULL);
-    WriteFile(GetStdHandle(STD_ERROR_HANDLE), given.path, (DWORD)strlen(given.path), &count, NULL);
-    WriteFile(GetStdHandle(STD_ERROR_HANDLE), why, (DWORD)strlen(why), &count, NULL);
+    for (i = 0; i < sizeof parts / sizeof *parts; i++)
+        WriteFile(GetStdHandle(STD_ERROR_HANDLE), parts[i], (DWORD)strlen(parts[i]), &count, NULL);
     TerminateProcess(GetCurrentProcess(), 1);
+}
+
+/* The system's reader gets any bytes of a file; if it crashes on them, only this process ends. */
+static LONG WINAPI on_crash(EXCEPTION_POINTERS *told)
+{
+    char code[32];
+
+    snprintf(code, sizeof code, " (0x%08lX)", (unsigned long)told->ExceptionRecord->ExceptionCode);
+    end_after_crash(code);
     return EXCEPTION_EXECUTE_HANDLER;
 }
 
@@ -1394,7 +1407,6 @@ static int usage(void)
 int wmain(int count, WCHAR **words)
 {
     HANDLE worker;
-    DWORD status;
     int i;
 
     for (i = 1; i < count; i++) {
@@ -1419,12 +1431,14 @@ int wmain(int count, WCHAR **words)
     _setmode(_fileno(stdout), _O_BINARY);
     _setmode(_fileno(stderr), _O_BINARY);
     SetErrorMode(SEM_FAILCRITICALERRORS | SEM_NOGPFAULTERRORBOX);
-    SetUnhandledExceptionFilter(fallen);
+    SetUnhandledExceptionFilter(on_crash);
     worker = CreateThread(NULL, 16 << 20, work, NULL, 0, NULL);
     if (!worker)
         fail("out of memory");
-    if (WaitForSingleObject(worker, SECONDS * 1000) != WAIT_OBJECT_0 || !GetExitCodeThread(worker, &status))
+    if (WaitForSingleObject(worker, SECONDS * 1000) != WAIT_OBJECT_0)
         fail("the system's reader does not come to an end");
-    return (int)status;
+    if (!is_done) /* after a stack overflow the system may end the thread without a call of on_crash */
+        end_after_crash("");
+    return 0;
 }
 #endif

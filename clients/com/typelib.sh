@@ -3,7 +3,7 @@
 #
 #     clients/com/typelib.sh OAUT LIB.idl Name.tlb
 #
-# It is found where it stands beside oautcom.dll, under the name that is registered, when regsvr32 is run. Debian: mingw-w64-tools
+# regsvr32 uses it if it is beside oautcom.dll and has the registered name. Debian: mingw-w64-tools
 # for widl, libwine for stdole2.tlb. The canonical text is taken, since widl wants both `properties:` and `methods:`.
 set -eu
 here=$(dirname "$0")

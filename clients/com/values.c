@@ -103,6 +103,39 @@ static void multiply(Big *number, UINT32 factor)
     }
 }
 
+static void add(Big *number, UINT32 more)
+{
+    UINT64 carry = more;
+    int i;
+
+    for (i = 0; i < LIMBS; i++) {
+        carry += number->limbs[i];
+        number->limbs[i] = (UINT32)carry;
+        carry >>= 32;
+    }
+}
+
+/* Divides, and gives the rest. */
+static UINT32 divide(Big *number, UINT32 divisor)
+{
+    UINT64 rest = 0;
+    int i;
+
+    for (i = LIMBS - 1; i >= 0; i--) {
+        rest = rest << 32 | number->limbs[i];
+        number->limbs[i] = (UINT32)(rest / divisor);
+        rest %= divisor;
+    }
+    return (UINT32)rest;
+}
+
+static BOOL is_zero(const Big *number)
+{
+    Big zero = big_of(0);
+
+    return !memcmp(number, &zero, sizeof zero);
+}
+
 static Big difference(const Big *one, const Big *other)
 {
     INT64 borrow = 0;
@@ -168,7 +201,7 @@ typedef struct Floating {
     BOOL is_negative, is_power; /* the mantissa is the least one, so that the number below is nearer than that above */
 } Floating;
 
-/* Takes a number apart; FALSE where it is infinite or none. */
+/* Divides a number into its parts; FALSE if it is infinite or not a number. */
 static BOOL parts_of(const VARIANT *value, Floating *parts)
 {
     BOOL is_double = V_VT(value) == VT_R8;
@@ -200,7 +233,7 @@ static BOOL is_whole(const Floating *parts)
     return parts->exponent > -64 && !(parts->mantissa & (((UINT64)1 << -parts->exponent) - 1));
 }
 
-/* A whole number's magnitude, of 96 bits; FALSE where it has more. */
+/* A whole number's magnitude in 96 bits; FALSE if it has more. */
 static BOOL magnitude_of(const Floating *parts, UINT32 *high, UINT64 *low)
 {
     Big number = big_of(parts->mantissa);
@@ -231,8 +264,8 @@ static BOOL reads_back(const Floating *parts, const Big *off, BOOL is_below, con
     return order < 0 || (order == 0 && !(parts->mantissa & 1));
 }
 
-/* The shortest decimal that reads back as a number that is not whole, as digits / 10^places, and of these the nearest.
-   FALSE where it takes more places than a DECIMAL's. */
+/* The shortest decimal that reads back as the same number, which is not whole, as digits / 10^places, and of these the nearest. FALSE if it
+ * needs more places than a DECIMAL has. */
 static BOOL shortest_decimal(const Floating *parts, UINT64 *digits, BYTE *places)
 {
     Big scaled = big_of(parts->mantissa), power = big_of(1), one;
@@ -360,6 +393,141 @@ VARTYPE exact_type(const VARIANT *value, BOOL *is_large)
     return result == S_OK ? V_VT(&made) : VT_EMPTY;
 }
 
+/* ---- decimals: digits / 10^places with a sign */
+
+typedef struct Decimal {
+    Big digits; /* of at most 96 bits */
+    int places;
+    BOOL is_negative;
+} Decimal;
+
+static Decimal decimal_of(const DECIMAL *number)
+{
+    Decimal made = {big_of(number->Lo64), number->scale, (number->sign & DECIMAL_NEG) != 0};
+
+    made.digits.limbs[2] = number->Hi32;
+    return made;
+}
+
+/* Removes the zeros at its end. */
+static void shorten(Decimal *number)
+{
+    Big shorter = number->digits;
+
+    if (is_zero(&number->digits))
+        number->places = 0;
+    while (number->places > 0 && !divide(&shorter, 10)) {
+        number->digits = shorter;
+        number->places--;
+    }
+}
+
+/* As a whole number in the narrowest of I4, I8 and DECIMAL. */
+static void make_whole(VARIANT *made, const Decimal *number)
+{
+    UINT64 low = bits_from(&number->digits, 0), most = (UINT64)INT64_MAX + (number->is_negative ? 1 : 0);
+    INT64 signed_low = (INT64)(number->is_negative ? 0 - low : low);
+
+    if (number->digits.limbs[2] || low > most) {
+        make_decimal(made, number->digits.limbs[2], low, 0, number->is_negative);
+        return;
+    }
+    memset(made, 0, sizeof *made);
+    if (signed_low == (INT32)signed_low) {
+        V_I4(made) = (INT32)signed_low;
+        V_VT(made) = VT_I4;
+    } else {
+        V_I8(made) = signed_low;
+        V_VT(made) = VT_I8;
+    }
+}
+
+/* Appends a digit. FALSE if the number has more than 96 bits then. */
+static BOOL append(Decimal *number, UINT32 digit)
+{
+    multiply(&number->digits, 10);
+    add(&number->digits, digit);
+    return !number->digits.limbs[3] && !number->digits.limbs[4] && !number->digits.limbs[5];
+}
+
+/* The number that a text is; S_FALSE if it is none. It has the places that it was written with, but for zeros at its end
+   that a DECIMAL has no room for. */
+static HRESULT parse_text(const WCHAR *at, UINT32 units, Decimal *number)
+{
+    const WCHAR *end = at + units;
+    BOOL has_digits = FALSE, has_point = FALSE;
+    Decimal longer;
+    UINT32 zeros;
+
+    while (at < end && (*at == L' ' || *at == L'\t'))
+        at++;
+    while (at < end && (end[-1] == L' ' || end[-1] == L'\t'))
+        end--;
+    memset(number, 0, sizeof *number);
+    if (at < end && (*at == L'-' || *at == L'+'))
+        number->is_negative = *at++ == L'-';
+    for (zeros = 0; at < end; at++) {
+        if (*at == L'.' && !has_point) {
+            has_point = TRUE;
+            continue;
+        }
+        if (*at < L'0' || *at > L'9')
+            return S_FALSE;
+        has_digits = TRUE;
+        if (has_point && *at == L'0') {
+            zeros++; /* which count if a digit follows */
+            continue;
+        }
+        for (; zeros; zeros--, number->places++)
+            if (!append(number, 0))
+                return DISP_E_OVERFLOW;
+        if (!append(number, (UINT32)(*at - L'0')))
+            return DISP_E_OVERFLOW;
+        number->places += has_point;
+    }
+    for (longer = *number; zeros && longer.places < MAX_PLACES && append(&longer, 0); zeros--) {
+        longer.places++;
+        *number = longer;
+    }
+    return has_digits ? S_OK : S_FALSE;
+}
+
+static BOOL is_number_type(VARTYPE type)
+{
+    return type == VT_DECIMAL || (width_of(type) && type != VT_BOOL && type != VT_ERROR && type != VT_DATE);
+}
+
+HRESULT text_as(const VARIANT *value, VARTYPE declared, VARIANT *made)
+{
+    Decimal number;
+    HRESULT result;
+    INT64 count;
+
+    if (V_VT(value) != VT_BSTR || !V_BSTR(value) || !is_number_type(declared))
+        return S_FALSE;
+    if ((result = parse_text(V_BSTR(value), SysStringByteLen(V_BSTR(value)) / 2, &number)) != S_OK)
+        return result;
+    if (declared == VT_DECIMAL && number.places <= MAX_PLACES) { /* with the places that it was written with */
+        make_decimal(made, number.digits.limbs[2], bits_from(&number.digits, 0), (BYTE)number.places,
+                     number.is_negative);
+        return S_OK;
+    }
+    shorten(&number);
+    if (!number.places) {
+        make_whole(made, &number);
+        return S_OK;
+    }
+    if (declared != VT_CY || number.places > CY_PLACES)
+        return DISP_E_TYPEMISMATCH;
+    if (number.digits.limbs[2] ||
+        !currency_of(bits_from(&number.digits, 0), (BYTE)number.places, number.is_negative, &count))
+        return DISP_E_OVERFLOW;
+    memset(made, 0, sizeof *made);
+    V_CY(made).int64 = count;
+    V_VT(made) = VT_CY;
+    return S_OK;
+}
+
 /* ---- cells */
 
 #define CY_MOST (INT64_MAX / 10000) /* the largest whole number of a CURRENCY */
@@ -372,6 +540,21 @@ static HRESULT whole_cell(const VARIANT *cell, INT64 *number, BOOL *large)
 
     if (whole_number(cell, number, large))
         return S_OK;
+    *large = FALSE;
+    if (V_VT(cell) == VT_CY) { /* as the DLL itself returns numbers that a Long does not hold */
+        *number = V_CY(cell).int64 / 10000;
+        return V_CY(cell).int64 % 10000 ? DISP_E_BADVARTYPE : S_OK;
+    }
+    if (V_VT(cell) == VT_DECIMAL && !V_DECIMAL(cell).scale) {
+        UINT64 low = V_DECIMAL(cell).Lo64;
+        BOOL minus = (V_DECIMAL(cell).sign & DECIMAL_NEG) != 0;
+
+        if (V_DECIMAL(cell).Hi32 || (minus && low > (UINT64)1 << 63))
+            return DISP_E_OVERFLOW;
+        *number = (INT64)(minus ? 0 - low : low);
+        *large = !minus && low > (UINT64)INT64_MAX;
+        return S_OK;
+    }
     if ((result = number_as(cell, VT_I8, &made)) != S_OK)
         return result == S_FALSE ? DISP_E_TYPEMISMATCH : result;
     if (whole_number(&made, number, large))
@@ -434,13 +617,91 @@ HRESULT cell_as(const VARIANT *cell, VARTYPE type, VARIANT *made)
     return S_OK;
 }
 
-void make_number_scriptable(VARIANT *value)
+/* ---- what scripts have */
+
+#define MOST_DIGITS 40 /* and a sign and a point */
+
+/* As a text: a sign, digits, and a point in front of its places. */
+static HRESULT make_text(VARIANT *value, const Decimal *number)
+{
+    WCHAR text[MOST_DIGITS], *end = text + MOST_DIGITS, *at = end;
+    Big left = number->digits;
+    int places = 0;
+
+    do {
+        *--at = (WCHAR)(L'0' + divide(&left, 10));
+        if (++places == number->places)
+            *--at = L'.';
+    } while (!is_zero(&left) || places <= number->places);
+    if (number->is_negative)
+        *--at = L'-';
+    memset(value, 0, sizeof *value);
+    V_BSTR(value) = SysAllocStringByteLen((const char *)at, (UINT)(end - at) * (UINT)sizeof *at);
+    if (!V_BSTR(value))
+        return E_OUTOFMEMORY;
+    V_VT(value) = VT_BSTR;
+    return S_OK;
+}
+
+/* Whether a floating-point number that is put as a DECIMAL is this one. */
+static BOOL is_same(const VARIANT *floating, const Decimal *number)
+{
+    Decimal whole = {big_of(0), 0, FALSE}, shortest = *number;
+    VARIANT made;
+
+    if (number_as(floating, VT_DECIMAL, &made) != S_OK)
+        return FALSE;
+    if (V_VT(&made) == VT_DECIMAL) {
+        whole = decimal_of(&V_DECIMAL(&made));
+    } else {
+        INT64 told = V_VT(&made) == VT_I4 ? V_I4(&made) : V_I8(&made);
+
+        whole.is_negative = told < 0;
+        whole.digits = big_of(told < 0 ? 0 - (UINT64)told : (UINT64)told);
+    }
+    shorten(&whole);
+    shorten(&shortest);
+    return !compare(&whole.digits, &shortest.digits) && whole.places == shortest.places &&
+           (whole.is_negative == shortest.is_negative || is_zero(&shortest.digits));
+}
+
+/* A double, if that is the number, else a text. */
+static HRESULT make_for_jscript(VARIANT *value, const Decimal *number)
+{
+    double nearest = (double)bits_from(&number->digits, 0), power = 1;
+    VARIANT made;
+    int i;
+
+    for (i = 0; i < number->places; i++)
+        power *= 10;
+    nearest /= power;
+    memset(&made, 0, sizeof made);
+    if (number->is_negative)
+        nearest = -nearest;
+    memcpy(&V_UI8(&made), &nearest, sizeof nearest);
+    V_VT(&made) = VT_R8;
+    if (number->digits.limbs[2] || !is_same(&made, number))
+        return make_text(value, number);
+    *value = made;
+    return S_OK;
+}
+
+HRESULT make_scriptable(VARIANT *value, int how)
 {
     INT64 number;
     BOOL large, minus;
+    Decimal decimal;
 
+    if ((how & FOR_JSCRIPT) && V_VT(value) == VT_ERROR) {
+        V_VT(value) = VT_I4; /* at the same place */
+        return S_OK;
+    }
+    if ((how & FOR_JSCRIPT) && V_VT(value) == VT_DECIMAL) {
+        decimal = decimal_of(&V_DECIMAL(value));
+        return make_for_jscript(value, &decimal);
+    }
     if (V_VT(value) == VT_UI1 || V_VT(value) == VT_I2 || V_VT(value) == VT_I4 || !whole_number(value, &number, &large))
-        return;
+        return S_OK;
     minus = !large && number < 0;
     if (!large && number == (INT32)number) {
         memset(value, 0, sizeof *value);
@@ -452,5 +713,51 @@ void make_number_scriptable(VARIANT *value)
         V_VT(value) = VT_CY;
     } else {
         make_decimal(value, 0, minus ? 0 - (UINT64)number : (UINT64)number, 0, minus);
+        return how & FOR_JSCRIPT ? make_scriptable(value, how) : S_OK;
     }
+    return S_OK;
+}
+
+/* ---- the cell of an array that is at fault */
+
+HRESULT find_misfit(const SAFEARRAY *array, VARTYPE own, VARTYPE declared, int how, UINT32 *place, const VARIANT **cell,
+                    VARIANT *room)
+{
+    VARTYPE wanted = declared & (VARTYPE)~VT_ARRAY;
+    UINT32 count = array && array->pvData ? 1 : 0, i;
+    VARIANT made, text;
+    HRESULT result;
+
+    for (i = 0; array && i < array->cDims; i++)
+        count *= array->rgsabound[i].cElements;
+    if (own != VT_VARIANT && own != VT_R4 && own != VT_R8)
+        count = 0;
+    for (i = 0; i < count; i++) {
+        if (own == VT_VARIANT) {
+            if (!(*cell = value_behind((const VARIANT *)array->pvData + i, room)))
+                return S_OK;
+        } else {
+            memset(room, 0, sizeof *room);
+            memcpy(&V_UI8(room), (const BYTE *)array->pvData + (size_t)i * width_of(own), width_of(own));
+            V_VT(room) = own;
+            *cell = room;
+        }
+        *place = i;
+        if (!(declared & VT_ARRAY))
+            wanted = VT_VARIANT;
+        if (wanted == VT_VARIANT) {
+            result = number_as(*cell, VT_VARIANT, &made);
+            if (result == S_FALSE && (V_VT(*cell) == VT_DATE || V_VT(*cell) == VT_DISPATCH ||
+                                      V_VT(*cell) == VT_UNKNOWN || (V_VT(*cell) & VT_ARRAY)))
+                result = DISP_E_BADVARTYPE;
+        } else if ((how & WITH_TEXTS) && (result = text_as(*cell, wanted, &text)) != S_FALSE) {
+            if (result == S_OK)
+                result = cell_as(&text, wanted, &made);
+        } else {
+            result = cell_as(*cell, wanted, &made);
+        }
+        if (FAILED(result))
+            return result;
+    }
+    return S_OK;
 }

@@ -23,8 +23,7 @@ void writer_free(Writer *to)
     memset(to, 0, sizeof *to);
 }
 
-/* Room for `count` bytes more; NULL where that is none, or with the fault set. The length is never above
-   body + MAX_BODY. */
+/* Space for `count` more bytes; NULL if that fails, or after an earlier fault. The length is never above body + MAX_BODY. */
 static BYTE *extend(Writer *to, size_t count)
 {
     BYTE *bytes;
@@ -107,7 +106,7 @@ static BOOL is_scalar(VARTYPE type)
 
 /* What a wireSAFEARRAY says of cells of a type. */
 typedef struct Cells {
-    UINT32 form;   /* sfType: 0 where a server has no arrays of the type */
+    UINT32 form;   /* sfType: 0 if a server has no arrays of the type */
     UINT32 bytes;  /* cbElements on the wire */
     UINT16 flags;  /* fFeatures */
     size_t memory; /* the bytes of a cell here */
@@ -132,7 +131,7 @@ static Cells cells_of(VARTYPE type)
     return cells;
 }
 
-/* The product of the counts, or MAX_CELLS + 1 where it is above MAX_CELLS. */
+/* The product of the counts, or MAX_CELLS + 1 if it is above MAX_CELLS. */
 static UINT32 count_cells(const SAFEARRAYBOUND *bounds, UINT32 count)
 {
     UINT64 cells = 1;
@@ -218,8 +217,8 @@ static void write_texts(Writer *to, const BSTR *texts, UINT32 count)
             write_text(to, texts[i]);
 }
 
-/* Whether cells are what a VARIANT calls them. Numbers are compared by their width alone, since a host may call a
-   Long an INT; but what is followed as a pointer has to be one by the array's own word, where it has said it. */
+/* Whether cells have the type of their VARIANT. Numbers are compared only by their width, since a host may call a Long an INT. A cell is
+ * followed as a pointer only if the array itself, if it has a type, says that it is one. */
 static BOOL holds_cells(const SAFEARRAY *array, VARTYPE type, size_t width)
 {
     VARTYPE own;
@@ -230,7 +229,7 @@ static BOOL holds_cells(const SAFEARRAY *array, VARTYPE type, size_t width)
            (SUCCEEDED(SafeArrayGetVartype((SAFEARRAY *)array, &own)) && own == type);
 }
 
-/* What an array has to be for its cells to be written: that is, as many as `count` tells. No array is one without
+/* Checks that the cells of an array can be written; `count` is their number. A null pointer is an array without
    cells. */
 static HRESULT check_array(const SAFEARRAY *array, VARTYPE type, size_t width, UINT32 *count)
 {
@@ -243,8 +242,8 @@ static HRESULT check_array(const SAFEARRAY *array, VARTYPE type, size_t width, U
     return *count > MAX_CELLS || (*count && !array->pvData) ? E_INVALIDARG : S_OK;
 }
 
-/* All of an array before its cells. The bounds stand as in memory, where rgsabound has the leftmost dimension last, and
-   so do the cells: in memory the last of rgsabound counts fastest, on the wire the last that is listed. */
+/* All of an array before its cells. The bounds are in the order of memory: rgsabound has the leftmost dimension last. So
+   are the cells: in memory the last of rgsabound counts fastest, on the wire the last that is listed. */
 static void write_array_head(Writer *to, VARTYPE type, const SAFEARRAY *array, UINT32 count)
 {
     static const SAFEARRAYBOUND nothing = {0, 0};
@@ -266,19 +265,19 @@ static void write_array_head(Writer *to, VARTYPE type, const SAFEARRAY *array, U
     write_32(to, count);
 }
 
-/* Where cells come from: an array that a host has made, and the type that it has for them. */
+/* The source of cells: a host's array, and the type of its cells. */
 typedef struct Source {
     const SAFEARRAY *array;
     VARTYPE own;
-    VARTYPE wanted;  /* the type that they are written with; that of a VARIANT takes any scalar */
-    BOOL as_scripts; /* floating-point numbers go as what they are exactly */
+    VARTYPE wanted; /* the type that they are written with; that of a VARIANT takes any scalar */
+    int how;        /* for scripts floating-point numbers go as what they are exactly */
 } Source;
 
 /* What is written of a cell. */
 static HRESULT cell_at(const Source *source, UINT32 i, VARIANT *made)
 {
     const VARIANT *cell;
-    VARIANT room;
+    VARIANT room, number;
     HRESULT result;
 
     if (source->own == VT_VARIANT) {
@@ -293,9 +292,14 @@ static HRESULT cell_at(const Source *source, UINT32 i, VARIANT *made)
         V_VT(&room) = source->own;
         cell = &room;
     }
+    if ((source->how & WITH_TEXTS) && (result = text_as(cell, source->wanted, &number)) != S_FALSE) {
+        if (FAILED(result))
+            return result;
+        cell = &number;
+    }
     if (source->wanted != VT_VARIANT)
         return cell_as(cell, source->wanted, made);
-    if (source->as_scripts && (result = number_as(cell, VT_VARIANT, made)) != S_FALSE)
+    if (source->how && (result = number_as(cell, VT_VARIANT, made)) != S_FALSE)
         return result;
     *made = *cell;
     return is_scalar(V_VT(cell)) ? S_OK : DISP_E_BADVARTYPE; /* a server says bad stub data, without the argument */
@@ -330,7 +334,7 @@ static HRESULT write_cells(Writer *to, const Source *source, UINT32 count)
 static HRESULT write_array(Writer *to, VARTYPE type, const SAFEARRAY *array)
 {
     Cells cells = cells_of(type);
-    Source source = {array, VT_VARIANT, VT_VARIANT, FALSE};
+    Source source = {array, VT_VARIANT, VT_VARIANT, 0};
     size_t head = to->length;
     HRESULT result;
     UINT32 count;
@@ -355,10 +359,10 @@ static HRESULT write_array(Writer *to, VARTYPE type, const SAFEARRAY *array)
     return result;
 }
 
-/* An array of VARIANT, VT_R4 or VT_R8, with its cells as those of another type. Nothing is written where one cannot be. */
-static HRESULT write_array_as(Writer *to, VARTYPE own, const SAFEARRAY *array, VARTYPE wanted)
+/* An array of VARIANT, VT_R4 or VT_R8, with its cells converted to another type. Nothing is written if one cannot be converted. */
+static HRESULT write_array_as(Writer *to, VARTYPE own, const SAFEARRAY *array, VARTYPE wanted, int how)
 {
-    Source source = {array, own, wanted, TRUE};
+    Source source = {array, own, wanted, how};
     size_t head = to->length;
     HRESULT result;
     UINT32 count, i;
@@ -405,7 +409,24 @@ HRESULT write_variant(Writer *to, const VARIANT *value)
     return end_field(to, field, result);
 }
 
-HRESULT write_variant_as(Writer *to, const VARIANT *value, VARTYPE declared)
+/* A number as an SCODE, which JScript has no other value for. */
+static BOOL scode_of(const VARIANT *value, VARIANT *made)
+{
+    VARIANT whole;
+    INT64 number;
+    BOOL large;
+
+    if (number_as(value, VT_I8, &whole) == S_OK)
+        value = &whole;
+    if (!whole_number(value, &number, &large) || large || number < INT32_MIN || number > UINT32_MAX)
+        return FALSE;
+    memset(made, 0, sizeof *made);
+    V_UI4(made) = (UINT32)number; /* an SCODE's place */
+    V_VT(made) = VT_ERROR;
+    return TRUE;
+}
+
+HRESULT write_variant_as(Writer *to, const VARIANT *value, VARTYPE declared, int how)
 {
     size_t begun = to->length, field;
     VARTYPE own, wanted = VT_VARIANT;
@@ -416,7 +437,11 @@ HRESULT write_variant_as(Writer *to, const VARIANT *value, VARTYPE declared)
         return E_POINTER;
     own = V_VT(value) & (VARTYPE)~VT_ARRAY;
     if (!(V_VT(value) & VT_ARRAY)) {
+        if (declared == VT_ERROR && (how & FOR_JSCRIPT) && scode_of(value, &made))
+            return write_variant(to, &made);
         result = number_as(value, declared, &made);
+        if (result == S_FALSE && (how & WITH_TEXTS))
+            result = text_as(value, declared, &made);
         return FAILED(result) ? result : write_variant(to, result == S_OK ? &made : value);
     }
     if (own != VT_VARIANT && own != VT_R4 && own != VT_R8)
@@ -424,7 +449,7 @@ HRESULT write_variant_as(Writer *to, const VARIANT *value, VARTYPE declared)
     if ((declared & VT_ARRAY) && cells_of(declared & (VARTYPE)~VT_ARRAY).form)
         wanted = declared & (VARTYPE)~VT_ARRAY;
     field = begin_field(to);
-    result = end_field(to, field, write_array_as(to, own, V_ARRAY(value), wanted));
+    result = end_field(to, field, write_array_as(to, own, V_ARRAY(value), wanted, how));
     if (FAILED(result) && SUCCEEDED(to->fault))
         to->length = begun;
     return result;
@@ -504,7 +529,7 @@ UINT32 read_string(Reader *from, const BYTE **units)
     return count;
 }
 
-/* A text behind its referent. It is made only once all of its bytes are known to be there. */
+/* A text after its referent. It is made only after all of its bytes are known to have come. */
 static HRESULT read_text(Reader *from, BSTR *text)
 {
     UINT32 most, count, units;
@@ -539,7 +564,7 @@ static void read_decimal(Reader *from, DECIMAL *number)
         from->bad = TRUE;
 }
 
-/* A wireVARIANT that is a scalar. The VARIANT owns a text only where S_OK is answered. */
+/* A wireVARIANT that is a scalar. The VARIANT owns a text only if S_OK is returned. */
 static HRESULT read_scalar(Reader *from, VARIANT *value)
 {
     HRESULT result = S_OK;
@@ -596,8 +621,9 @@ static HRESULT read_text_cell(Reader *from, void *data, UINT32 i, BOOL as_varian
 }
 
 /* The cells of an array of texts or VARIANTs: their referents, then those that are not null. */
-static HRESULT read_pointees(Reader *from, VARTYPE type, void *data, UINT32 count, BOOL as_variants)
+static HRESULT read_pointees(Reader *from, VARTYPE type, void *data, UINT32 count, int how)
 {
+    BOOL as_variants = how != 0;
     Reader referents = *from;
     HRESULT result = S_OK;
     UINT32 i;
@@ -612,8 +638,8 @@ static HRESULT read_pointees(Reader *from, VARTYPE type, void *data, UINT32 coun
             result = read_scalar(from, (VARIANT *)data + i);
         else if (type == VT_BSTR && as_variants)
             V_VT((VARIANT *)data + i) = VT_BSTR;
-        if (type == VT_VARIANT && as_variants)
-            make_number_scriptable((VARIANT *)data + i);
+        if (type == VT_VARIANT && as_variants && SUCCEEDED(result))
+            result = make_scriptable((VARIANT *)data + i, how);
     }
     return result;
 }
@@ -632,26 +658,28 @@ static void read_numbers(Reader *from, VARTYPE type, void *data, UINT32 count, U
                 ((VARIANT_BOOL *)data)[i] = VARIANT_TRUE;
 }
 
-/* The same into an array of VARIANT, whose numbers are of the types that scripts have. */
-static void read_numbers_as_variants(Reader *from, VARTYPE type, VARIANT *cells, UINT32 count, UINT32 width)
+/* Reads cells into an array of VARIANT, whose numbers get types that scripts have. */
+static HRESULT read_numbers_as_variants(Reader *from, VARTYPE type, VARIANT *cells, UINT32 count, UINT32 width, int how)
 {
+    HRESULT result = S_OK;
     UINT32 i;
 
     if (count)
         read_pad(from, width);
-    for (i = 0; i < count && !from->bad; i++) {
+    for (i = 0; i < count && !from->bad && SUCCEEDED(result); i++) {
         read_bytes(from, &V_UI8(&cells[i]), width);
         if (type == VT_BOOL && V_BOOL(&cells[i]))
             V_BOOL(&cells[i]) = VARIANT_TRUE;
         V_VT(&cells[i]) = type;
-        make_number_scriptable(&cells[i]);
+        result = make_scriptable(&cells[i], how);
     }
+    return result;
 }
 
 /* A wireVARIANT that is an array, from its discriminant on; for scripts it becomes one of VARIANT. */
-static HRESULT read_array(Reader *from, VARTYPE type, BOOL for_scripts, VARIANT *value)
+static HRESULT read_array(Reader *from, VARTYPE type, int how, VARIANT *value)
 {
-    VARTYPE made = for_scripts ? VT_VARIANT : type;
+    VARTYPE made = how ? VT_VARIANT : type;
     SAFEARRAYBOUND bounds[MAX_BOUNDS];
     Cells cells = cells_of(type);
     UINT32 discriminant, referents, most, dimensions, form, count;
@@ -681,9 +709,9 @@ static HRESULT read_array(Reader *from, VARTYPE type, BOOL for_scripts, VARIANT 
     if (count && !array->pvData)
         result = E_OUTOFMEMORY;
     else if (type == VT_BSTR || type == VT_VARIANT)
-        result = read_pointees(from, type, array->pvData, count, for_scripts);
-    else if (for_scripts)
-        read_numbers_as_variants(from, type, array->pvData, count, cells.bytes);
+        result = read_pointees(from, type, array->pvData, count, how);
+    else if (how)
+        result = read_numbers_as_variants(from, type, array->pvData, count, cells.bytes, how);
     else
         read_numbers(from, type, array->pvData, count, cells.bytes);
     if (from->bad || FAILED(result)) {
@@ -695,7 +723,7 @@ static HRESULT read_array(Reader *from, VARTYPE type, BOOL for_scripts, VARIANT 
     return S_OK;
 }
 
-HRESULT read_variant(Reader *from, BOOL for_scripts, VARIANT *value)
+HRESULT read_variant(Reader *from, int how, VARIANT *value)
 {
     UINT32 length = read_32(from);
     HRESULT result;
@@ -713,12 +741,12 @@ HRESULT read_variant(Reader *from, BOOL for_scripts, VARIANT *value)
     type = read_16(&field);
     read_past(&field, 6);
     if (type & VT_ARRAY) {
-        result = read_array(&field, type & (VARTYPE)~VT_ARRAY, for_scripts, value);
+        result = read_array(&field, type & (VARTYPE)~VT_ARRAY, how, value);
     } else {
         field.place = 0; /* a scalar is read from its head on */
         result = read_scalar(&field, value);
-        if (for_scripts)
-            make_number_scriptable(value);
+        if (how && SUCCEEDED(result))
+            result = make_scriptable(value, how);
     }
     if (SUCCEEDED(result) && (from->bad || field.place != length)) {
         VariantClear(value);

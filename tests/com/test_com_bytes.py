@@ -16,6 +16,8 @@ from running import ROOT, Cases, rows_of
 from under_wine import COM, TESTS, TIMEOUT, all_planted, built, is_placed, left_out, plain, text
 
 FUZZ_SECONDS = 6
+# opcodes: docs/reference/records.md
+TYPEINFO, LIST = 10, 11
 
 
 def corpus():
@@ -61,6 +63,22 @@ class UnderLinux(Cases):
         for row, line in zip(rows, got):
             if line != exact(*row):
                 self.tell(f"the bits {row[1]:x} of type {row[0]}, declared {row[2]}", False, f"{line}, wanted {exact(*row)}")
+
+    def test_numbers_of_the_table(self):
+        """The rows that clients/dcom is compared with too."""
+        rows = [row.split(" = ") for row in rows_of("numbers.txt")]
+        done = subprocess.run(
+            [f"{sanitized()[0]}/numbers"],
+            input="".join(f"{row[0]}\n" for row in rows).encode(),
+            stdout=subprocess.PIPE,
+            stderr=subprocess.PIPE,
+            timeout=TIMEOUT,
+        )
+        got = done.stdout.decode().splitlines()
+        self.tell("they are taken", (done.returncode, len(got)) == (0, len(rows)), plain(done.stderr)[:2000])
+        for row, line in zip(rows, got):
+            if line != row[1]:
+                self.tell(row[0], False, f"{line}, wanted {row[1]}")
 
     def test_spoiled_bytes(self):
         status, said = fuzzed(sanitized()[0], int.from_bytes(os.urandom(4), "little"))
@@ -129,7 +147,7 @@ def decimal_line(number, digits, places):
 
 
 def exact(vt, bits, declared):
-    """What tests/numbers.c prints for a number, as docs/com.md has it."""
+    """What tests/numbers.c prints for a number, as docs/guide/com.md has it."""
     number = struct.unpack("<d" if vt == DOUBLE else "<f", bits.to_bytes(8 if vt == DOUBLE else 4, "little"))[0]
     if not math.isfinite(number):
         return "80020008"
@@ -148,6 +166,33 @@ def exact(vt, bits, declared):
     return "8002000a" if declared == CY else decimal_line(number, digits, places)
 
 
+@left_out("gcc")
+class Connections(Cases):
+    """connection.c with the sanitizers, before servers of the tests."""
+
+    def runs(self, program, *words):
+        room, said = sanitized()
+        self.tell("the build", said == (0, ""), said)
+        done = subprocess.run([f"{room}/{program}", *map(str, words)], stdout=subprocess.PIPE, stderr=subprocess.PIPE, timeout=TIMEOUT)
+        self.tell(f"{program} {words}: its status", done.returncode == 0, plain(done.stderr)[:2000])
+        return plain(done.stdout).splitlines()
+
+    def test_lists_of_many_objects(self):
+        """Each object has 24 bytes, as docs/reference/records.md has them, and a store's banks have at most 1 GiB."""
+        for count in (699_049, 699_050, 5_000_000):
+            self.tell(f"{count} objects", self.runs("lists", LIST, count, 0) == [f"00000000 {8 + 24 * count} 1 00000000"])
+        self.tell("more than a bank has end the connection", self.runs("lists", LIST, 44_800_000, 0) == ["8001000f 0 0 00000000"])
+        self.tell("so do as many bytes of another reply", self.runs("lists", TYPEINFO, 699_050, 0) == ["8001000f 0 0 00000000"])
+
+    def test_a_list_that_there_is_no_memory_for(self):
+        """It is refused, and the connection stays with its locks, whichever allocation it is."""
+        for refused in (1, 2, 5):
+            self.tell(f"{refused}", self.runs("lists", LIST, 699_050, refused) == ["8007000e 0 1 00000000"])
+
+    def test_the_address_that_was_reached_last_is_dialled_first(self):
+        self.tell("the addresses", [it.strip() for it in self.runs("dials")] == ["1", "1", "2", "2"])
+
+
 class Source(Cases):
     """What is looked at in the sources alone."""
 
@@ -155,6 +200,14 @@ class Source(Cases):
         own = re.search(r"^#define MAX_BODY (\w+)u ", text(f"{COM}/wire.h"), re.MULTILINE)[1]
         server = re.search(r"^pub const MAX_REQUEST_BYTES: u32 = ([\d_]+);", text(f"{ROOT}/crates/oa_model/src/limits.rt"), re.MULTILINE)[1]
         self.tell("MAX_BODY of clients/com/wire.h", int(own, 0) == int(server), (own, server))
+
+    def test_refusals_of_the_table(self):
+        """The rows that clients/dcom is compared with too: code, name, number and words in refusals.c."""
+        source = re.sub(r'"\s+L"', "", text(f"{COM}/refusals.c"))
+        found = set(re.findall(r'\{(?:\(HRESULT\))?\w+, (\d+), L"(\w+)",\s+L"([^"]*)"\}', source))
+        for row in rows_of("refusals.txt"):
+            _, name, number, words = row.split(" ", 3)
+            self.tell(f"refusals.c: {name}", (number, name, words) in found, sorted(found)[:3])
 
 
 def fuzzed(room, seed):
@@ -173,7 +226,7 @@ SPOILERS = {
         [
             ("room = length < FIRST_ROOM ? FIRST_ROOM : length;", "room = length;"),
             ("if (room <= connection->reply_room)", "if (connection->reply)"),
-            ("(int)(connection->reply_room - connection->received)", "(int)(length - connection->received)"),
+            ("connection->reply_room - connection->received", "length - connection->received"),
         ],
     ),
 }

@@ -1,10 +1,13 @@
 """The COM bridge, clients/com, as its tests have it: built by mingw-w64, registered under Wine, before a server behind a socket; and copies of its
 sources with a planted fault. What is not installed leaves its tests out, each by its name."""
+import atexit
+import collections
 import concurrent.futures
 import contextlib
 import fcntl
 import functools
 import glob
+import itertools
 import os
 import random
 import re
@@ -21,15 +24,17 @@ import unittest
 import uuid
 
 import wire  # which finds the client's module
-from running import PROGRAM, ROOT, Cases, short
+from running import PROGRAM, ROOT, Cases, goes_on, short
 
 oaut = wire.oaut
 COM = f"{ROOT}/clients/com"
 TESTS = f"{COM}/tests"
-TIMEOUT = 300
+# what one step may take, of a processor that many share
+TIMEOUT = 2_400
 NOT_STARTED = b"Application could not be started"
-# behind so many seconds what is not begun under Wine is left out, each by its name
-LIMIT, BEGUN = float(os.environ.get("OAUT_COM_SECONDS") or 210), time.monotonic()
+# what Wine says of itself as it ends a program whose server it has lost
+LOST = b"wine client error:"
+ASKED = 4  # how often
 
 ITEM = uuid.UUID("11223344-5566-7788-99aa-bbccddeeff03")
 
@@ -51,6 +56,10 @@ def left_out(*tools):
 
 
 needs_wine = left_out("x86_64-w64-mingw32-gcc", "wine")
+# a Wine of 64 and of 32 bits: Debian's wine32 beside wine64
+WINE32 = "/usr/lib/i386-linux-gnu/wine/i386-unix"
+WINE64 = "/usr/lib/wine/wine64"
+needs_wine32 = unittest.skipUnless(os.path.isdir(WINE32), "wine32 is not there")
 
 
 def text(path):
@@ -66,33 +75,44 @@ def write(path, content):
 
 def built(words, **how):
     """What a build says, and its status."""
+    goes_on()
     done = subprocess.run(words, stdout=subprocess.PIPE, stderr=subprocess.STDOUT, timeout=TIMEOUT, **how)
+    goes_on()
     return done.returncode, done.stdout.decode("utf-8", "replace")
 
 
 # --- a server behind a socket, for one client after another
 
 
+def reserved(port=0):
+    """A socket with a port of this machine. As long as it is there the system gives the port to nobody who names none, and whoever dials it is refused; a
+    server that names the port may listen."""
+    made = socket.socket()
+    made.setsockopt(socket.SOL_SOCKET, socket.SO_REUSEADDR, 1)
+    made.bind(("127.0.0.1", port))
+    return made
+
+
 class Server:
     """Accepts on a port of its own and starts the program for each client in turn. Its words may change: the next client's program has them. Where
     records are looked at, they go through this process, which keeps the requests' bodies, spoils some replies of a thousand, ends a session behind so
-    many requests for types, once, and answers a put of a number itself, where it has answers."""
+    many requests for types, once, and itself answers a put of a number, where it has answers, and a LIST, where it has the bytes of objects."""
 
     def __init__(self):
         self.words, self.looks, self.spoils, self.requests = None, False, 0, []
         self.types_left, self.is_last = 0, False
-        self.answers = []
+        self.answers, self.listed = [], None
         self.chance = random.Random(20261126)
         self.child = self.client = None
-        self.port = 0
+        # how the programs ended, and what they said, for a test that fails
+        self.statuses, self.said = collections.deque(maxlen=5), tempfile.TemporaryFile()
+        self.place = reserved()
+        self.port = self.place.getsockname()[1]
         self.listen()
 
     def listen(self):
-        self.listening = socket.socket()
-        self.listening.setsockopt(socket.SOL_SOCKET, socket.SO_REUSEADDR, 1)
-        self.listening.bind(("127.0.0.1", self.port))
+        self.listening = reserved(self.port)
         self.listening.listen(8)
-        self.port = self.listening.getsockname()[1]
         self.thread = threading.Thread(target=self.accept, args=(self.listening,), daemon=True)
         self.thread.start()
 
@@ -105,14 +125,20 @@ class Server:
             self.client = client
             with client:
                 client.setsockopt(socket.IPPROTO_TCP, socket.TCP_NODELAY, 1)
-                if self.looks:
-                    self.look(client)
+                begun = os.fstat(self.said.fileno()).st_size
+                try:
+                    if self.looks:
+                        self.look(client)
+                    else:
+                        self.child = subprocess.Popen(self.words, stdin=client, stdout=client, stderr=self.said)
+                        self.child.wait()
+                except OSError as error:  # a program that cannot be started is no end of the server
+                    self.statuses.append(repr(error))
                 else:
-                    self.child = subprocess.Popen(self.words, stdin=client, stdout=client, stderr=subprocess.DEVNULL)
-                    self.child.wait()
+                    self.statuses.append((self.child.returncode, os.pread(self.said.fileno(), 1_000, begun)))
 
     def look(self, client):
-        self.child = child = subprocess.Popen(self.words, stdin=subprocess.PIPE, stdout=subprocess.PIPE, stderr=subprocess.DEVNULL)
+        self.child = child = subprocess.Popen(self.words, stdin=subprocess.PIPE, stdout=subprocess.PIPE, stderr=self.said)
         back = threading.Thread(target=self.carry_back, args=(child.stdout, client), daemon=True)
         back.start()
         with client.makefile("rb") as asked, contextlib.suppress(OSError):  # a client that resets its connection, or a program that has ended
@@ -121,6 +147,9 @@ class Server:
                 if self.answers and body[4] == oaut.INVOKE and body[52] & 4:
                     code, index = self.answers[struct.unpack_from("<i", body, 100)[0]]
                     client.sendall(struct.pack("<I", 16) + body[:4] + struct.pack("<III", code, index, 0))
+                    continue
+                if self.listed and body[4] == oaut.LIST:
+                    client.sendall(struct.pack("<I", 16 + len(self.listed)) + body[:4] + struct.pack("<III", 0, 0xFFFFFFFF, 0) + self.listed)
                     continue
                 if self.types_left and body[4] == oaut.TYPEINFO:
                     self.types_left -= 1
@@ -161,11 +190,12 @@ class Server:
     def kill_at_request(self, child, seconds=TIMEOUT / 2):
         """Kills a client's program, which is stopped, once bytes of that client wait unread."""
         until = time.monotonic() + seconds
-        while time.monotonic() < until and not struct.unpack("i", fcntl.ioctl(self.client, termios.FIONREAD, bytes(4)))[0]:
-            time.sleep(0.05)
+        with contextlib.suppress(OSError, ValueError):  # a client that is there no more
+            while time.monotonic() < until and not struct.unpack("i", fcntl.ioctl(self.client, termios.FIONREAD, bytes(4)))[0]:
+                time.sleep(0.05)
         child.kill()
 
-    def ends(self, child, seconds=20):
+    def ends(self, child, seconds=TIMEOUT):
         """Waits until a client's program has ended, since the client has hung up."""
         try:
             child.wait(seconds)
@@ -179,9 +209,30 @@ class Server:
         except OSError:
             pass
         self.listening.close()
-        if self.child and self.child.poll() is None:
-            self.child.kill()
-        self.thread.join(20)
+        until = time.monotonic() + TIMEOUT / 10
+        while self.thread.is_alive() and time.monotonic() < until:
+            if self.child and self.child.poll() is None:
+                self.child.kill()
+            self.thread.join(0.1)  # (it may have been about to start a program)
+
+
+def passes(sock, to):
+    """Passes bytes on both ways, until one side ends."""
+
+    def one_way(come, go):
+        try:
+            while some := come.recv(1 << 16):
+                go.sendall(some)
+        except OSError:
+            pass
+        for it in (come, go):
+            try:
+                it.shutdown(socket.SHUT_RDWR)
+            except OSError:
+                pass
+
+    for pair in ((sock, to), (to, sock)):
+        threading.Thread(target=one_way, args=pair, daemon=True).start()
 
 
 def record(stream):
@@ -197,15 +248,15 @@ def record(stream):
 
 
 class Wine:
-    """A folder of Wine's and a Wine server of their own."""
+    """A folder of Wine's and a Wine server of their own. Windows' programs are those of 64 bits, or of 32. A Windows of 32 bits is the architecture win32."""
 
-    def __init__(self, room):
-        self.room = room
+    def __init__(self, room, bits=64, arch="win64"):
+        self.room, self.bits, self.arch = room, bits, arch
         self.env = {
             **os.environ,
             "WINEPREFIX": f"{room}/wine",
             "WINEDEBUG": "-all",
-            "WINEARCH": "win64",
+            "WINEARCH": arch,
             "WINEDLLOVERRIDES": "mscoree,mshtml=",
             "LC_ALL": "C.UTF-8",
         }
@@ -214,29 +265,69 @@ class Wine:
         quiet = {"env": self.env, "stdin": subprocess.DEVNULL, "stdout": subprocess.DEVNULL, "stderr": subprocess.DEVNULL}
         # without one of our own each command waits until Wine's last background process has closed its pipe
         server = next(it for it in ("/usr/lib/wine/wineserver64", shutil.which("wineserver") or "wineserver") if os.path.exists(it) or "/" not in it)
+        own = os.stat(f"{room}/wine")
+        # (Debian's Wine has another folder at each start, which it names in a file of the prefix)
+        places = (f"/tmp/.wine-{os.getuid()}/server-{own.st_dev:x}-{own.st_ino:x}/socket", f"{room}/wine/wineserver")
+        before = {it: seen_at(it) for it in places}
         self.server = subprocess.Popen([server, "-f", "-p"], **quiet)
+        # (a command that finds none starts one, and that goes by itself)
+        until = time.monotonic() + 60
+        while all(seen_at(it) in (None, before[it]) for it in places) and self.server.poll() is None and time.monotonic() < until:
+            time.sleep(0.05)
+        goes_on()
         subprocess.run(["wine", "wineboot", "-i"], timeout=TIMEOUT, **quiet)
+        goes_on()
+        # (a program with windows starts the desktop, which takes 14 s without a display, and goes soon after the last one of them: this one stays)
+        self.desktop = subprocess.Popen(self.words("explorer"), **quiet)
 
-    def start(self, *words):
-        return subprocess.Popen(["wine", *words], env=self.env, cwd=self.room, stdin=subprocess.DEVNULL, stdout=subprocess.PIPE, stderr=subprocess.DEVNULL)
+    def words(self, program, *words):
+        """A command line. A program of Windows is named without a folder. With wine32 beside it, Debian's `wine` starts one of 32 bits, so `wine64` is asked
+        for those of 64."""
+        if self.bits == 32 and self.arch == "win64" and re.fullmatch(r"\w+", program):
+            program = f"C:\\windows\\syswow64\\{program}.exe"
+        return [WINE64 if self.bits == 64 and os.path.isdir(WINE32) else "wine", program, *words]
+
+    def start(self, *words, errors=subprocess.DEVNULL):
+        goes_on()
+        return subprocess.Popen(self.words(*words), env=self.env, cwd=self.room, stdin=subprocess.DEVNULL, stdout=subprocess.PIPE, stderr=errors)
 
     def run(self, *words, given=None):
-        """The status and the output; where it takes too long, None and what came. On a busy machine Wine now and then starts nothing of what is asked: it is asked twice."""
-        for _ in range(2):
+        """The status and the output; where it takes too long, None and what came. On a busy machine Wine now and then starts nothing of what is asked: it is
+        asked again, as where Wine lost its server before the program said a word."""
+        for _ in range(ASKED):
+            goes_on()
             try:
-                done = subprocess.run(
-                    ["wine", *words], env=self.env, cwd=self.room, input=given or b"", stdout=subprocess.PIPE, stderr=subprocess.DEVNULL, timeout=TIMEOUT
-                )
+                done = subprocess.run(self.words(*words), env=self.env, cwd=self.room, input=given or b"", capture_output=True, timeout=TIMEOUT)
             except subprocess.TimeoutExpired as late:
                 return None, plain(late.stdout or b"")
-            if not done.stdout.startswith(NOT_STARTED):
+            if not done.stdout.startswith(NOT_STARTED) and (done.stdout or done.returncode == 0 or LOST not in done.stderr):
                 break
         return done.returncode, plain(done.stdout)
+
+    def said(self, *words):
+        """The status, and what comes on standard error, without what Wine itself says there. A program of ours that fails says why. One that fails without a
+        word was ended by Wine, which now and then loses its server on a busy machine: it is asked again."""
+        for _ in range(ASKED):
+            goes_on()
+            done = subprocess.run(self.words(*words), env=self.env, cwd=self.room, stdin=subprocess.DEVNULL, capture_output=True, timeout=TIMEOUT)
+            said = "".join(f"{it}\n" for it in plain(done.stderr).splitlines() if "wine32" not in it and not it.startswith(LOST.decode()))
+            if not done.stdout.startswith(NOT_STARTED) and (done.returncode == 0 or said):
+                break
+        return done.returncode, said
 
     def close(self):
         # by this signal it ends what runs in its folder, too
         self.server.send_signal(signal.SIGINT)
-        self.server.wait(20)
+        self.server.wait(TIMEOUT)
+        self.desktop.wait(TIMEOUT)
+
+
+def seen_at(path):
+    """Which file is there, or None."""
+    with contextlib.suppress(FileNotFoundError):
+        it = os.stat(path)
+        return it.st_ino, it.st_ctime_ns
+    return None
 
 
 def plain(output):
@@ -248,37 +339,44 @@ def windows(path):
 
 
 class Bridge:
-    """The bridge as it is built and registered, before a server on a store of tests/demo.idl."""
+    """The bridge as it is built and registered, before a server on a store of tests/demo.idl. Both are of 64 bits, or of 32."""
 
-    def __init__(self):
-        self.room = tempfile.mkdtemp(prefix="oaut-com-")
+    def __init__(self, bits=64):
+        self.room, self.bits, self.stores = tempfile.mkdtemp(prefix="oaut-com-"), bits, itertools.count(1)
         self.wine = self.server = None
         try:
             os.mkdir(f"{self.room}/built")
-            self.builds = [built([f"{COM}/build.sh", f"{self.room}/built"]), built([f"{TESTS}/build.sh", "windows", f"{self.room}/built"])]
+            tests = ["env", f"CC={'x86_64' if bits == 64 else 'i686'}-w64-mingw32-gcc", f"{TESTS}/build.sh", "windows", f"{self.room}/built"]
+            self.builds = [built([f"{COM}/build.sh", f"{self.room}/built", str(bits)]), built(tests)]
             self.dll = f"{self.room}/built/oautcom.dll"
             self.library = f"{TESTS}/demo.idl"
             self.server = Server()
             self.new_store()
-            self.wine = Wine(self.room)
+            self.wine = Wine(self.room, bits)
             if shutil.which("x86_64-w64-mingw32-widl"):
-                self.builds.append(built([f"{COM}/typelib.sh", PROGRAM, self.library, f"{self.room}/built/Demo.tlb"]))
+                self.builds.append(self.type_library(self.library, f"{self.room}/built/Demo.tlb"))
             self.registered = self.register("Demo")
         except BaseException:
             self.close()
             raise
 
+    def type_library(self, library, to):
+        """Makes one for programs of the bridge's bits: those of 32 bits find none of 64."""
+        return built(["env", f"WIDL={'x86_64' if self.bits == 64 else 'i686'}-w64-mingw32-widl", f"{COM}/typelib.sh", PROGRAM, library, to])
+
     def new_store(self, library=None):
         """A store of a library, which the next client finds."""
         self.library = library or f"{TESTS}/demo.idl"
-        self.store = f"{self.room}/{len(os.listdir(self.room))}.store"
+        self.store = f"{self.room}/{next(self.stores)}.store"
         subprocess.run([PROGRAM, "format", self.store, self.library], check=True, stdout=subprocess.DEVNULL, timeout=TIMEOUT)
         self.server.words = [PROGRAM, "serve", self.store, self.library]
 
-    def add_item(self):
+    def add_item(self, **values):
         """Makes an object in the store, with an array that can be locked."""
         with oaut.serve(self.store, self.library, program=PROGRAM) as session:
-            session.create("Item").Grid = [1, 2, 3]
+            item = session.create("Item")
+            for name, value in {"Grid": [1, 2, 3], **values}.items():
+                setattr(item, name, value)
 
     def register(self, name, *more):
         return self.wine.run("regsvr32", "/s", "/n", *more, f"/i:{name}@127.0.0.1:{self.server.port}", self.dll)[0]
@@ -316,9 +414,10 @@ class Bridge:
 
 
 @functools.lru_cache(None)
-def bridge():
-    made = Bridge()
-    unittest.addModuleCleanup(made.close)
+def bridge(bits=64):
+    """One for all parts of a run: to build it takes longer than most of them."""
+    made = Bridge(bits)
+    atexit.register(made.close)
     return made
 
 
@@ -342,25 +441,37 @@ class Told(Cases):
 
 
 class UnderWine(Told):
+    bits = 64
+
     @classmethod
     def setUpClass(cls):
-        cls.bridge = bridge()
+        cls.bridge = bridge(cls.bits)
         cls.wine, cls.server = cls.bridge.wine, cls.bridge.server
 
-    def setUp(self):
-        if time.monotonic() - BEGUN > LIMIT:
-            self.skipTest(f"{LIMIT} seconds are over")
+    def same(self, what, got, wanted):
+        self.tell(what, got == wanted, f"wanted {wanted!r}, got {got!r}")
 
     def runs(self, script, *words):
         self.each(script, self.wine.run(*self.bridge.script(script), *words)[1])
 
     def held(self, script, *words):
         """A script that waits for a file, up to its line "ready": the process, the file, what it has told."""
-        go = tempfile.mktemp(dir=self.bridge.room)
-        process = self.wine.start(*self.bridge.script(script), windows(go), *words)
-        told = b""
-        while b"ready" not in told and (line := process.stdout.readline()):
-            told += line
+        return self.ready(lambda go: [*self.bridge.script(script), go, *words])
+
+    def held_program(self, program, *words):
+        """The same of a program of the tests."""
+        return self.ready(lambda go: [f"{self.bridge.room}/built/{program}", *words, go])
+
+    def ready(self, words):
+        """What is held, once it has told that it is ready: words with the name of the file."""
+        for _ in range(ASKED):
+            go = tempfile.mktemp(dir=self.bridge.room)
+            process, told = self.wine.start(*words(windows(go))), b""
+            while b"ready" not in told and (line := process.stdout.readline()):
+                told += line
+            if not told.startswith(NOT_STARTED):
+                break
+            process.communicate(timeout=TIMEOUT)
         return process, go, told
 
     def finish(self, held):
@@ -383,14 +494,15 @@ class UnderWine(Told):
         finally:
             self.server.looks = False
 
-    def started(self):
-        """What a client tells that ends before the process that it has started, and whether its connection ends with it."""
+    def started(self, seconds=4):
+        """What a client tells that ends before the process that it has started, and whether its connection ends with it. That process goes on until the file is
+        there, so that a connection which it has is there as long."""
         go = tempfile.mktemp(dir=self.bridge.room)
         client = self.wine.start(f"{self.bridge.room}/built/client.exe", "starts", windows(go))
         told = b""
         while b"end" not in told and (line := client.stdout.readline()):
             told += line
-        ended = self.server.ends(self.server.child, 4)
+        ended = self.server.ends(self.server.child, seconds)
         write(go, "")
         told += client.communicate(timeout=TIMEOUT)[0]
         return f"{'ok   ' if ended else 'BAD  '}its server ends\n{plain(told)}"

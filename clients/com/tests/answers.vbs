@@ -1,4 +1,4 @@
-' Each code that a server may answer: it answers a put of N with the code at that place of a table. Err.Description is what docs/com.md says of it.
+' Each code that a server may answer: it answers a put of N with the code at that place of a table. Err.Description is what docs/guide/com.md says of it.
 Dim item, i
 Set item = CreateObject("Demo.Item")
 On Error Resume Next

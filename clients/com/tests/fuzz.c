@@ -125,7 +125,7 @@ static void check_code(HRESULT code)
 
 static long read_well, read_ill;
 
-static void use_value(VARIANT *value)
+static void use_value(VARIANT *value, int how)
 {
     static const VARTYPE types_of[] = {
         VT_VARIANT,
@@ -152,7 +152,9 @@ static void use_value(VARIANT *value)
 
     writer_begin(&one, 4);
     writer_begin(&other, 0);
-    if (write_variant(&one, value) == S_OK) {
+    if (how & FOR_JSCRIPT) {
+        write_variant(&one, value); /* it may have doubles, which no server has */
+    } else if (write_variant(&one, value) == S_OK) {
         from = reader_of(one.bytes + 4, one.length - 4);
         if (read_variant(&from, FALSE, &again) == S_OK) {
             if (write_variant(&other, &again) == S_OK &&
@@ -166,8 +168,9 @@ static void use_value(VARIANT *value)
         fail("a value that was read is not written");
     }
     writer_begin(&one, 0);
-    if (write_variant_as(&one, value, types_of[any(sizeof types_of / sizeof *types_of)]) != S_OK && has_memory &&
-        one.length)
+    if (write_variant_as(&one, value, types_of[any(sizeof types_of / sizeof *types_of)], FOR_SCRIPTS | (int)any(8)) !=
+            S_OK &&
+        has_memory && one.length)
         fail("a value that is not written has left something");
     writer_free(&one);
     writer_free(&other);
@@ -179,12 +182,13 @@ static void fuzz_field(void)
     Bytes changed = any(8) ? spoiled(field.bytes, field.length) : spoiled(field.bytes, 0);
     Bytes whole = framed(changed), body = any(4) ? framed(changed) : spoiled(whole.bytes, whole.length);
     Reader from = reader_of(body.bytes, body.length);
+    int how = (int)any(8);
     VARIANT value;
 
     refused_in = any(4) ? 0 : 1 + any(8);
-    if (read_variant(&from, (BOOL)any(2), &value) == S_OK) {
+    if (read_variant(&from, how, &value) == S_OK) {
         read_well++;
-        use_value(&value);
+        use_value(&value, how);
         VariantClear(&value);
     } else {
         read_ill++;
@@ -361,7 +365,7 @@ static VARIANT any_argument(void)
 static HRESULT fuzz_perform(Connection *connection)
 {
     static const WORD flags[] = {1, 2, 3, 4, 8, 12, 0};
-    Target target = {connection, CLASS_GUID, GUID_NULL, 1, (BOOL)any(4)};
+    Target target = {connection, CLASS_GUID, GUID_NULL, 1, (int)any(8), 0};
     VARIANT values[4], result;
     DISPID names[2] = {DISPID_PROPERTYPUT, (DISPID)any(4)};
     DISPPARAMS given = {values, names, any(5), any(3)};
@@ -381,7 +385,7 @@ static HRESULT fuzz_perform(Connection *connection)
     if (call.argument != NO_ARGUMENT && call.argument >= given.cArgs && !SUCCEEDED(code) && connection->argument >= 4)
         call.argument = NO_ARGUMENT; /* as a spoiled reply has told it: nobody looks there */
     if (code == S_OK && call.result)
-        use_value(&result);
+        use_value(&result, target.for_scripts);
     if (V_VT(&result) != VT_EMPTY)
         VariantClear(&result);
     for (i = 0; i < 4; i++)
@@ -421,7 +425,9 @@ static void fuzz_call(Connection *connection)
     EnterCriticalSection(&connection->lock);
     refused_in = any(8) ? 0 : 1 + any(12);
     switch (any(6)) {
-    case 0: count_code(names_to_ids(connection, 1, &class, &GUID_NULL, &GUID_NULL, 0, names, 1 + any(3), ids)); break;
+    case 0:
+        count_code(names_to_ids(connection, 0, 1, &class, &GUID_NULL, &GUID_NULL, 0, names, 1 + any(3), ids));
+        break;
     case 1: fuzz_library(connection); break;
     case 2: count_code(describe_item(connection, any(4), &item, &entries)); break;
     case 3:

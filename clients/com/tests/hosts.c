@@ -3,16 +3,23 @@
    with Script = 0.
 
        hosts early         with the type library registered
+       hosts written       with the one that the DLL has written, as it was registered, and its hub
        hosts plain         without one
        hosts apartments    with the type library registered, by which the first interface is marshalled
+       hosts waits         one apartment waits for a change, which the other makes
+       hosts turns FILE    two threads wait with one hub: "ready" says that the second one has, and that a change may come
+       hosts calls COUNT   makes so many calls, and prints what the process has of handles and bytes between them
        hosts unloads FILE  puts a number once there is such a file, while the server is stopped: "sent" says that it may
-                           go on */
+                           go on
+       hosts keeps FILE    keeps a DISPID, and puts by it once there is such a file and a server with another library */
 #define COBJMACROS
 #include <windows.h>
 #include <oleauto.h>
 #include <ocidl.h>
+#include <psapi.h>
 
 #include <stdio.h>
+#include <stdlib.h>
 #include <string.h>
 
 static const GUID DEMO = {0x11223344, 0x5566, 0x7788, {0x99, 0xAA, 0xBB, 0xCC, 0xDD, 0xEE, 0xFF, 0x01}};
@@ -189,12 +196,12 @@ static void types(const char *wanted)
 }
 
 /* As an editor and what it compiles: DISPIDs are the registered library's. */
-static void registered(void)
+static void registered(REFGUID guid)
 {
     ITypeLib *library = NULL;
     ITypeInfo *own = NULL, *second = NULL;
     IDispatch *item = NULL, *stock = NULL;
-    HRESULT code = LoadRegTypeLib(&DEMO, 1, 0, 0, &library);
+    HRESULT code = LoadRegTypeLib(guid, 1, 0, 0, &library);
 
     tell(code == S_OK, "LoadRegTypeLib", code);
     if (code != S_OK)
@@ -213,7 +220,7 @@ static void registered(void)
     tell(code == S_OK && get(item, id_in(own, L"Count"), VT_I4) == 12 &&
              get(stock, id_in(second, L"Price"), VT_CY) == 199900,
          "calls by its DISPIDs", code);
-    code = LoadRegTypeLib(&DEMO, 1, 1, 0, &library);
+    code = LoadRegTypeLib(guid, 1, 1, 0, &library);
     tell(code != S_OK, "another version is not registered", code);
     if (stock)
         IDispatch_Release(stock);
@@ -223,6 +230,115 @@ static void registered(void)
         ITypeInfo_Release(own);
     if (second)
         ITypeInfo_Release(second);
+}
+
+/* ---- the hub's types */
+
+/* The type library that a class names in the registry. */
+static HRESULT library_of_class(REFCLSID clsid, GUID *library)
+{
+    WCHAR path[80] = L"CLSID\\", text[40];
+    LONG size = sizeof text;
+
+    StringFromGUID2(clsid, path + 6, 40);
+    lstrcatW(path, L"\\TypeLib");
+    if (RegQueryValueW(HKEY_CLASSES_ROOT, path, text, &size))
+        return REGDB_E_KEYMISSING;
+    return CLSIDFromString(text, library);
+}
+
+/* Prints a member as an editor shows it: its name, DISPID, kind, and its parameters by their names. */
+static void print_members(const char *title, ITypeInfo *type)
+{
+    FUNCDESC *function;
+    UINT i, k, count;
+    BSTR names[8];
+
+    for (i = 0; type && SUCCEEDED(ITypeInfo_GetFuncDesc(type, i, &function)); i++) {
+        if ((function->memid & ~0x1ffff) == 0x60000000) {
+            ITypeInfo_ReleaseFuncDesc(type, function);
+            continue; /* IDispatch's own */
+        }
+        count = 0;
+        ITypeInfo_GetNames(type, function->memid, names, 8, &count);
+        printf("%s %d %d:", title, (int)function->memid, function->invkind);
+        for (k = 0; k < count; k++) {
+            printf(" %ls", names[k]);
+            SysFreeString(names[k]);
+        }
+        printf(function->cParamsOpt < 0 ? " ..\n" : "\n");
+        ITypeInfo_ReleaseFuncDesc(type, function);
+    }
+}
+
+/* The hub as the written library has it, and as it tells itself. */
+static void hub_types(REFGUID guid)
+{
+    ITypeInfo *type = NULL, *face = NULL, *told = NULL;
+    IDispatch *hub = NULL, *own = NULL, *items = NULL;
+    DISPPARAMS arguments = {NULL, NULL, 1, 0};
+    VARIANT word, found;
+    ITypeLib *library = NULL;
+    TYPEATTR *attributes;
+    HREFTYPE reference;
+    CLSID clsid;
+    HRESULT code = CLSIDFromProgID(L"Demo.Store", &clsid);
+
+    VariantInit(&found);
+    if (code == S_OK)
+        code = LoadRegTypeLib(guid, 1, 0, 0, &library);
+    if (code == S_OK)
+        code = ITypeLib_GetTypeInfoOfGuid(library, &clsid, &type);
+    if (code == S_OK)
+        code = ITypeInfo_GetRefTypeOfImplType(type, 0, &reference);
+    if (code == S_OK)
+        code = ITypeInfo_GetRefTypeInfo(type, reference, &face);
+    tell(code == S_OK && !strcmp(line_of(type), "Store 2 kind 5 vars 0 funcs 0"), "its class", code);
+    print_members("written", face);
+    if (code == S_OK)
+        code = CoCreateInstance(&clsid, NULL, CLSCTX_INPROC_SERVER, &IID_IDispatch, (void **)&hub);
+    if (code == S_OK && (code = ITypeInfo_GetTypeAttr(face, &attributes)) == S_OK) {
+        code = IDispatch_QueryInterface(hub, &attributes->guid, (void **)&own);
+        ITypeInfo_ReleaseTypeAttr(face, attributes);
+    }
+    tell(code == S_OK && own == hub, "its own interface", code);
+    if (hub)
+        code = IDispatch_GetTypeInfo(hub, 0, 0, &told);
+    tell(code == S_OK, "GetTypeInfo of the hub", code);
+    print_members("told", told);
+    VariantInit(&word);
+    V_VT(&word) = VT_BSTR;
+    V_BSTR(&word) = SysAllocString(L"Item");
+    arguments.rgvarg = &word;
+    if (code == S_OK)
+        code = IDispatch_Invoke(hub, id_in(face, L"Objects"), &IID_NULL, 0, DISPATCH_METHOD, &arguments, &found, NULL,
+                                NULL);
+    items = V_VT(&found) == VT_DISPATCH ? V_DISPATCH(&found) : NULL;
+    if (code == S_OK)
+        code = items ? IDispatch_GetTypeInfo(items, 0, 0, &told) : E_FAIL;
+    print_members("collection", code == S_OK ? told : NULL);
+    tell(code == S_OK && id_in(told, L"Count") == 2 && id_in(face, L"Count") == 2, "a collection's types", code);
+    if (code == S_OK && (code = ITypeInfo_GetTypeAttr(told, &attributes)) == S_OK) {
+        code = IDispatch_QueryInterface(items, &attributes->guid, (void **)&own);
+        ITypeInfo_ReleaseTypeAttr(told, attributes);
+    }
+    tell(code == S_OK && own == items, "its own interface, of a collection", code);
+    VariantClear(&word);
+}
+
+static void written(void)
+{
+    CLSID clsid;
+    GUID library;
+    HRESULT code = CLSIDFromProgID(L"Demo.Store", &clsid);
+
+    if (code == S_OK)
+        code = library_of_class(&clsid, &library);
+    tell(code == S_OK, "the hub's class names a type library", code);
+    if (code != S_OK)
+        return;
+    registered(&library);
+    hub_types(&library);
 }
 
 /* ---- apartments */
@@ -353,6 +469,130 @@ static void apartments(void)
     IDispatch_Release(item);
 }
 
+/* ---- waits for a change */
+
+typedef struct Waited {
+    HANDLE is_begun;
+    HRESULT code;
+    VARIANT first, second;
+} Waited;
+
+static HRESULT wait_for_change(IDispatch *hub, LONG milliseconds, VARIANT *told)
+{
+    VARIANT given;
+    DISPPARAMS arguments = {&given, NULL, 1, 0};
+
+    VariantInit(&given);
+    V_VT(&given) = VT_I4;
+    V_I4(&given) = milliseconds;
+    return IDispatch_Invoke(hub, 13, &IID_NULL, 0, DISPATCH_METHOD, &arguments, told, NULL, NULL);
+}
+
+static DWORD WINAPI waiting_apartment(void *context)
+{
+    Waited *waited = context;
+    IDispatch *hub = NULL;
+    CLSID clsid;
+
+    CoInitialize(NULL);
+    waited->code = CLSIDFromProgID(L"Demo.Store", &clsid);
+    if (waited->code == S_OK)
+        waited->code = CoCreateInstance(&clsid, NULL, CLSCTX_INPROC_SERVER, &IID_IDispatch, (void **)&hub);
+    if (waited->code == S_OK)
+        waited->code = wait_for_change(hub, 600000, &waited->first);
+    SetEvent(waited->is_begun);
+    if (waited->code == S_OK)
+        waited->code = wait_for_change(hub, 600000, &waited->second);
+    if (hub)
+        IDispatch_Release(hub);
+    CoUninitialize();
+    return 0;
+}
+
+/* A wait that kept other calls waiting would last until its end. */
+static void waits(void)
+{
+    DISPPARAMS arguments;
+    VARIANT given, number;
+    IDispatch *item, *hub;
+    Waited waited;
+    HANDLE thread;
+    CLSID clsid;
+    HRESULT code = create(&IID_IDispatch, &item);
+
+    tell(code == S_OK, "an object is made", code);
+    if (code != S_OK || CLSIDFromProgID(L"Demo.Store", &clsid) != S_OK ||
+        CoCreateInstance(&clsid, NULL, CLSCTX_INPROC_SERVER, &IID_IDispatch, (void **)&hub) != S_OK)
+        return;
+    V_VT(&given) = VT_DISPATCH;
+    V_DISPATCH(&given) = item;
+    memset(&arguments, 0, sizeof arguments);
+    arguments.cArgs = 1;
+    arguments.rgvarg = &given;
+    code = IDispatch_Invoke(hub, 4, &IID_NULL, 0, DISPATCH_METHOD, &arguments, &number, NULL, NULL);
+    tell(code == S_OK && V_VT(&number) == VT_I4, "its number", code);
+    memset(&waited, 0, sizeof waited);
+    waited.is_begun = CreateEventW(NULL, TRUE, FALSE, NULL);
+    thread = CreateThread(NULL, 0, waiting_apartment, &waited, 0, NULL);
+    WaitForSingleObject(waited.is_begun, INFINITE);
+    code = put(item, 1, VT_I4, 41);
+    tell(code == S_OK, "a put while another apartment waits", code);
+    wait_for(thread);
+    tell(waited.code == S_OK && V_VT(&waited.first) == VT_I4 && V_I4(&waited.first) == -1, "the first wait begins",
+         waited.code);
+    tell(waited.code == S_OK && V_VT(&waited.second) == VT_I4 && V_I4(&waited.second) == V_I4(&number),
+         "the second one gives the object's number", waited.code);
+    IDispatch_Release(hub);
+    IDispatch_Release(item);
+}
+
+typedef struct Turn {
+    IDispatch *hub;
+    volatile LONG has_ended;
+    HRESULT code;
+    VARIANT told;
+} Turn;
+
+static DWORD WINAPI first_turn(void *context)
+{
+    Turn *turn = context;
+
+    turn->code = wait_for_change(turn->hub, 600000, &turn->told);
+    InterlockedExchange(&turn->has_ended, 1);
+    return 0;
+}
+
+static void turns(void)
+{
+    BOOL well = TRUE;
+    VARIANT told;
+    HANDLE thread;
+    CLSID clsid;
+    HRESULT code = CLSIDFromProgID(L"Demo.Store", &clsid);
+    Turn turn;
+    int i;
+
+    memset(&turn, 0, sizeof turn);
+    if (code == S_OK)
+        code = CoCreateInstance(&clsid, NULL, CLSCTX_INPROC_SERVER, &IID_IDispatch, (void **)&turn.hub);
+    if (code == S_OK)
+        code = wait_for_change(turn.hub, 600000, &told);
+    tell(code == S_OK && V_VT(&told) == VT_I4 && V_I4(&told) == -1, "a wait begins", code);
+    if (code != S_OK)
+        return;
+    thread = CreateThread(NULL, 0, first_turn, &turn, 0, NULL);
+    for (i = 0; i < 100 && well; i++) { /* the first one is among them soon */
+        code = wait_for_change(turn.hub, 20, &told);
+        well = code == S_OK && V_VT(&told) == VT_I4 && !V_I4(&told) && !turn.has_ended;
+    }
+    tell(well, "a second one ends in its own time", code);
+    puts("ready");
+    fflush(stdout);
+    wait_for(thread);
+    tell(turn.code == S_OK && V_VT(&turn.told) == VT_I4 && V_I4(&turn.told) == 3, "the first one goes on", turn.code);
+    IDispatch_Release(turn.hub);
+}
+
 /* ---- unloading */
 
 static volatile LONG is_sent, is_answered;
@@ -409,6 +649,249 @@ static void unloads(const char *file)
         IDispatch_Release(item);
 }
 
+/* ---- many calls */
+
+#define CALLS_OF_A_ROUND 20
+
+/* The object with the number 1. */
+static IDispatch *first_object(void)
+{
+    IDispatch *hub = NULL;
+    VARIANT number, object;
+    DISPPARAMS given = {&number, NULL, 1, 0};
+    CLSID clsid;
+
+    V_VT(&number) = VT_I4;
+    V_I4(&number) = 1;
+    VariantInit(&object);
+    if (FAILED(CLSIDFromProgID(L"Demo.Store", &clsid)) ||
+        FAILED(CoCreateInstance(&clsid, NULL, CLSCTX_INPROC_SERVER, &IID_IDispatch, (void **)&hub)))
+        return NULL;
+    IDispatch_Invoke(hub, 1, &IID_NULL, 0, DISPATCH_METHOD, &given, &object, NULL, NULL);
+    IDispatch_Release(hub);
+    return V_VT(&object) == VT_DISPATCH ? V_DISPATCH(&object) : NULL;
+}
+
+static void keeps(const char *file)
+{
+    IDispatch *item = first_object(), *again = NULL;
+    WCHAR name[] = L"Count";
+    LPOLESTR names = name;
+    DISPID id = DISPID_UNKNOWN, other = DISPID_UNKNOWN;
+    HRESULT code = E_FAIL;
+
+    if (item)
+        code = IDispatch_GetIDsOfNames(item, &IID_NULL, &names, 1, 0, &id);
+    tell(code == S_OK && id == 1, "the DISPID of a member", code);
+    if (code != S_OK)
+        return;
+    tell(put(item, id, VT_I4, 41) == S_OK, "a put by it", S_OK);
+    puts("ready");
+    fflush(stdout);
+    while (GetFileAttributesA(file) == INVALID_FILE_ATTRIBUTES)
+        Sleep(20);
+    code = put(item, id, VT_I4, 42);
+    tell(code == (HRESULT)0x800706B5, "with another library the put is refused", code);
+    tell(get(item, id, VT_I4) == -1, "and a get", S_OK);
+    if ((again = first_object()))
+        code = IDispatch_GetIDsOfNames(again, &IID_NULL, &names, 1, 0, &other);
+    tell(again && code == S_OK && other == 17, "the object that is made again has the other DISPID", code);
+    tell(again && put(again, other, VT_I4, 43) == S_OK && get(again, other, VT_I4) == 43, "and may be called", S_OK);
+    code = put(item, id, VT_I4, 44);
+    tell(code == (HRESULT)0x800706B5, "the earlier one is refused as before", code);
+    IDispatch_Release(item);
+    if (again)
+        IDispatch_Release(again);
+}
+
+static VARIANT text_of(const WCHAR *text)
+{
+    VARIANT made;
+
+    VariantInit(&made);
+    V_VT(&made) = VT_BSTR;
+    V_BSTR(&made) = SysAllocString(text);
+    return made;
+}
+
+static VARIANT number_of(LONG number)
+{
+    VARIANT made;
+
+    VariantInit(&made);
+    V_VT(&made) = VT_I4;
+    V_I4(&made) = number;
+    return made;
+}
+
+/* A call whose arguments and result are freed; whether it ended with this code, and if it was refused with words. */
+static BOOL called(IDispatch *object, DISPID id, WORD flags, VARIANT *values, UINT count, HRESULT wanted)
+{
+    DISPID name = DISPID_PROPERTYPUT;
+    DISPPARAMS given = {values, &name, count, flags == DISPATCH_PROPERTYPUT ? 1 : 0};
+    EXCEPINFO told;
+    VARIANT result;
+    HRESULT code;
+    UINT i;
+
+    memset(&told, 0, sizeof told);
+    VariantInit(&result);
+    code = IDispatch_Invoke(object, id, &IID_NULL, 0, flags, &given, &result, &told, NULL);
+    VariantClear(&result);
+    for (i = 0; i < count; i++)
+        VariantClear(&values[i]);
+    if (code == DISP_E_EXCEPTION) {
+        code = told.bstrDescription && *told.bstrDescription ? told.scode : E_FAIL;
+        SysFreeString(told.bstrSource);
+        SysFreeString(told.bstrDescription);
+    }
+    return code == wanted;
+}
+
+static VARIANT array_of(LONG number)
+{
+    VARIANT made;
+    SHORT *cells;
+    LONG i;
+
+    VariantInit(&made);
+    V_ARRAY(&made) = SafeArrayCreateVector(VT_I2, 0, 100);
+    V_VT(&made) = VT_ARRAY | VT_I2;
+    if (V_ARRAY(&made) && SUCCEEDED(SafeArrayAccessData(V_ARRAY(&made), (void **)&cells))) {
+        for (i = 0; i < 100; i++)
+            cells[i] = (SHORT)(number + i);
+        SafeArrayUnaccessData(V_ARRAY(&made));
+    }
+    return made;
+}
+
+/* Calls of each kind: how many went as they should. An object is made and released, another one is found by its number. */
+static int round_of_calls(IDispatch *hub, IDispatch *item, LONG round)
+{
+    static const WCHAR *const names[] = {L"Name", L"nothing"};
+    WCHAR text[400];
+    IDispatch *made, *stock;
+    VARIANT values[4];
+    ITypeInfo *type;
+    int well = 0, i;
+    DISPID id;
+
+    for (i = 0; i < 399; i++)
+        text[i] = (WCHAR)(L'a' + (round + i) % 26);
+    text[399] = 0;
+    values[0] = number_of(round);
+    well += called(item, 1, DISPATCH_PROPERTYPUT, values, 1, S_OK);
+    well += called(item, 1, DISPATCH_PROPERTYGET, values, 0, S_OK);
+    values[0] = text_of(text);
+    well += called(item, 2, DISPATCH_PROPERTYPUT, values, 1, S_OK);
+    well += called(item, 2, DISPATCH_PROPERTYGET, values, 0, S_OK);
+    values[0] = array_of(round);
+    well += called(item, 8, DISPATCH_PROPERTYPUT, values, 1, S_OK);
+    well += called(item, 8, DISPATCH_PROPERTYGET, values, 0, S_OK);
+    values[0] = number_of(7);
+    well += called(item, 8, DISPATCH_PROPERTYGET, values, 1, S_OK);
+    values[0] = text_of(text);
+    values[1] = text_of(L"key");
+    values[2] = number_of(round % 50);
+    well += called(item, 9, DISPATCH_PROPERTYPUT, values, 3, S_OK);
+    values[0] = text_of(L"key");
+    values[1] = number_of(round % 50);
+    well += called(item, 9, DISPATCH_PROPERTYGET, values, 2, S_OK);
+    values[0] = text_of(text);
+    well += called(item, 1, DISPATCH_PROPERTYPUT, values, 1, DISP_E_TYPEMISMATCH);
+    well += called(item, 6, DISPATCH_PROPERTYPUT, values, 1, DISP_E_MEMBERNOTFOUND);
+    for (i = 0; i < 2; i++) {
+        LPOLESTR name = (LPOLESTR)names[i];
+
+        well += IDispatch_GetIDsOfNames(item, &IID_NULL, &name, 1, 0, &id) == (i ? DISP_E_UNKNOWNNAME : S_OK);
+    }
+    well += called(hub, 2, DISPATCH_PROPERTYGET, values, 0, S_OK);
+    values[0] = number_of(1);
+    well += called(hub, 1, DISPATCH_METHOD, values, 1, S_OK);
+    values[0] = number_of(1);
+    well += called(hub, 0, DISPATCH_PROPERTYGET, values, 1, S_OK);
+    well += called(hub, 3, DISPATCH_PROPERTYGET, values, 0, S_OK);
+    if (create(&IID_IDispatch, &made) == S_OK) {
+        V_VT(&values[0]) = VT_DISPATCH;
+        V_DISPATCH(&values[0]) = made;
+        well += called(hub, 5, DISPATCH_METHOD, values, 1, S_OK);
+    }
+    if (IDispatch_QueryInterface(item, &IID_DStock, (void **)&stock) == S_OK) {
+        well += called(stock, 1, DISPATCH_PROPERTYGET, values, 0, S_OK);
+        IDispatch_Release(stock);
+    }
+    if (round % 16) { /* which takes a hundred times as long as the others */
+        well++;
+    } else if (IDispatch_GetTypeInfo(round % 32 ? hub : item, 0, 0, &type) == S_OK) {
+        ITypeInfo_Release(type);
+        well++;
+    }
+    return well;
+}
+
+/* The bytes of all blocks that are in use, of each heap: the C library has one of its own. */
+static SIZE_T heap_bytes(void)
+{
+    HANDLE heaps[64];
+    DWORD count = GetProcessHeaps(64, heaps), i;
+    SIZE_T sum = 0;
+
+    for (i = 0; i < count && i < 64; i++) {
+        PROCESS_HEAP_ENTRY entry;
+
+        memset(&entry, 0, sizeof entry);
+        HeapLock(heaps[i]);
+        while (HeapWalk(heaps[i], &entry))
+            if (entry.wFlags & PROCESS_HEAP_ENTRY_BUSY)
+                sum += entry.cbData;
+        HeapUnlock(heaps[i]);
+    }
+    return sum;
+}
+
+static void print_resources(LONGLONG calls)
+{
+    PROCESS_MEMORY_COUNTERS_EX counters;
+    HANDLE next = CreateEventW(NULL, FALSE, FALSE, NULL); /* the lowest number that is free: Wine counts none */
+    ULONG_PTR handles = (ULONG_PTR)next / 4;
+
+    CloseHandle(next);
+    memset(&counters, 0, sizeof counters);
+    K32GetProcessMemoryInfo(GetCurrentProcess(), (PROCESS_MEMORY_COUNTERS *)&counters, sizeof counters);
+    printf("calls %lld handles %llu bytes %llu heap %llu\n", calls, (unsigned long long)handles,
+           (unsigned long long)counters.WorkingSetSize, (unsigned long long)heap_bytes());
+    fflush(stdout);
+}
+
+static void many_calls(LONGLONG wanted)
+{
+    IDispatch *hub = NULL, *item = NULL;
+    LONGLONG calls, next = wanted / 10;
+    int well = CALLS_OF_A_ROUND;
+    LONG round = 0;
+    CLSID clsid;
+    HRESULT code = CLSIDFromProgID(L"Demo.Store", &clsid);
+
+    if (code == S_OK)
+        code = CoCreateInstance(&clsid, NULL, CLSCTX_INPROC_SERVER, &IID_IDispatch, (void **)&hub);
+    if (code == S_OK)
+        code = create(&IID_IDispatch, &item);
+    tell(code == S_OK, "the objects are made", code);
+    for (calls = 0; code == S_OK && calls < wanted && well == CALLS_OF_A_ROUND; calls += CALLS_OF_A_ROUND) {
+        if (calls >= next) {
+            print_resources(calls);
+            next += wanted / 10;
+        }
+        well = round_of_calls(hub, item, round++);
+    }
+    print_resources(calls);
+    tell(code == S_OK && calls >= wanted && well == CALLS_OF_A_ROUND, "all calls", (HRESULT)well);
+    if (item)
+        IDispatch_Release(item);
+    if (hub)
+        IDispatch_Release(hub);
+}
+
 int main(int count, char **words)
 {
     const char *what = count > 1 ? words[1] : "";
@@ -420,14 +903,26 @@ int main(int count, char **words)
     if (!strcmp(what, "early")) {
         interfaces();
         types("DItem 2 kind 4 vars 8 funcs 14");
-        registered();
+        registered(&DEMO);
+    } else if (!strcmp(what, "written")) {
+        interfaces();
+        types("Item 2 kind 4 vars 8 funcs 14");
+        written();
     } else if (!strcmp(what, "plain")) {
         interfaces();
         types("Item 2 kind 4 vars 8 funcs 14");
     } else if (!strcmp(what, "apartments")) {
         apartments();
+    } else if (!strcmp(what, "waits")) {
+        waits();
+    } else if (!strcmp(what, "turns")) {
+        turns();
+    } else if (!strcmp(what, "calls") && count > 2) {
+        many_calls(atoll(words[2]));
     } else if (!strcmp(what, "unloads") && count > 2) {
         unloads(words[2]);
+    } else if (!strcmp(what, "keeps") && count > 2) {
+        keeps(words[2]);
     }
     CoUninitialize();
     puts("end");

@@ -51,11 +51,11 @@ Same "a count", UBound(item.Names), CLng(2)
 
 On Error Resume Next
 ' what is refused, its number, and which type would hold it
-Tells "a fraction for a long", 458, "Count: values of this type are not taken: the new value is declared long and given as double; CURRENCY and DECIMAL hold this number (DISP_E_BADVARTYPE, 0x80020008)"
+Tells "a fraction for a long", 458, "Count: values of this type are not supported: the new value is declared long and given as double; CURRENCY and DECIMAL hold this number (DISP_E_BADVARTYPE, 0x80020008)"
 item.Count = 2.5: Told
-Tells "0.1 + 0.2, which has 17 places", 458, "Price: values of this type are not taken: the new value is declared CURRENCY and given as double; DECIMAL holds this number, and CCur makes a CURRENCY that is near it (DISP_E_BADVARTYPE, 0x80020008)"
+Tells "0.1 + 0.2, which has 17 places", 458, "Price: values of this type are not supported: the new value is declared CURRENCY and given as double; DECIMAL holds this number, and CCur makes a CURRENCY that is near it (DISP_E_BADVARTYPE, 0x80020008)"
 item.Price = 0.1 + 0.2: Told
-Tells "16 places for a CURRENCY", 458, "Price: values of this type are not taken: the new value is declared CURRENCY and given as double; DECIMAL holds this number, and CCur makes a CURRENCY that is near it (DISP_E_BADVARTYPE, 0x80020008)"
+Tells "16 places for a CURRENCY", 458, "Price: values of this type are not supported: the new value is declared CURRENCY and given as double; DECIMAL holds this number, and CCur makes a CURRENCY that is near it (DISP_E_BADVARTYPE, 0x80020008)"
 item.Price = third: Told
 Tells "a large one for a CURRENCY", 6, "Price: the number is too large or too small: the new value is declared CURRENCY and given as double; DECIMAL holds this number, and CCur makes a CURRENCY that is near it (DISP_E_OVERFLOW, 0x8002000A)"
 item.Price = 2 ^ 50 + 0.25: Told
@@ -63,21 +63,21 @@ Tells "a whole one too large for a long", 6, "Count: the number is too large or 
 item.Count = 3000000000: Told
 Tells "one beyond DECIMAL", 6, "Exact: the number is too large or too small: the new value is declared DECIMAL and given as double; no type holds a number so large (DISP_E_OVERFLOW, 0x8002000A)"
 item.Exact = 1E+30: Told
-Tells "one of 29 places", 458, "Exact: values of this type are not taken: the new value is declared DECIMAL and given as double; no type holds this number; a text does (DISP_E_BADVARTYPE, 0x80020008)"
+Tells "one of 29 places", 458, "Exact: values of this type are not supported: the new value is declared DECIMAL and given as double; no type holds this number; a text does (DISP_E_BADVARTYPE, 0x80020008)"
 item.Exact = 1E-29: Told
 Tells "a whole one for a text", 13, "Name: the value is of another type: the new value is declared BSTR and given as double (DISP_E_TYPEMISMATCH, 0x80020005)"
 item.Name = 4 / 2: Told
-Tells "a date", 458, "Count: values of this type are not taken: the new value is declared long and given as DATE; there are no dates; a text or a number of days holds one (DISP_E_BADVARTYPE, 0x80020008)"
+Tells "a date", 458, "Count: values of this type are not supported: the new value is declared long and given as DATE; there are no dates; a text or a number of days holds one (DISP_E_BADVARTYPE, 0x80020008)"
 item.Count = Now: Told
-Tells "an object", 458, "Any: values of this type are not taken: the new value is declared VARIANT and given as object; objects are not kept; the hub's NumberOf gives a number that is (DISP_E_BADVARTYPE, 0x80020008)"
+Tells "an object", 458, "Any: values of this type are not supported: the new value is declared VARIANT and given as object; objects are not kept; the hub's NumberOf gives a number that is (DISP_E_BADVARTYPE, 0x80020008)"
 Set item.Any = item: Told
-Tells "Nothing", 458, "Any: values of this type are not taken: the new value is declared VARIANT and given as object; Nothing is not kept; Null and Empty are (DISP_E_BADVARTYPE, 0x80020008)"
+Tells "Nothing", 458, "Any: values of this type are not supported: the new value is declared VARIANT and given as object; Nothing is not kept; Null and Empty are (DISP_E_BADVARTYPE, 0x80020008)"
 Set item.Any = Nothing: Told
-Tells "a fraction in an array", 458, "Grid: values of this type are not taken: the new value is declared SAFEARRAY(short) and given as SAFEARRAY(VARIANT); an array holds scalars alone: no doubles, dates, objects and arrays (DISP_E_BADVARTYPE, 0x80020008)"
+Tells "a fraction in an array", 458, "Grid: values of this type are not supported: the new value is declared SAFEARRAY(short) and given as SAFEARRAY(VARIANT); element (1) is given as double; CURRENCY and DECIMAL hold this number (DISP_E_BADVARTYPE, 0x80020008)"
 item.Grid = Array(1, 2.5): Told
-Tells "a parameter", 458, "Cell: values of this type are not taken: Row is declared long and given as double; CURRENCY and DECIMAL hold this number (DISP_E_BADVARTYPE, 0x80020008)"
+Tells "a parameter", 458, "Cell: values of this type are not supported: Row is declared long and given as double; CURRENCY and DECIMAL hold this number (DISP_E_BADVARTYPE, 0x80020008)"
 item.Cell(1.5, "k") = "x": Told
-Tells "an index that is a fraction", 458, "Grid: values of this type are not taken: an index is given as double; CURRENCY and DECIMAL hold this number (DISP_E_BADVARTYPE, 0x80020008)"
+Tells "an index that is a fraction", 458, "Grid: values of this type are not supported: an index is given as double; CURRENCY and DECIMAL hold this number (DISP_E_BADVARTYPE, 0x80020008)"
 a = item.Grid(1.5): Told
 Tells "an index of a text", 13, "Grid: the value is of another type: an index is given as BSTR (DISP_E_TYPEMISMATCH, 0x80020005)"
 a = item.Grid("1"): Told

@@ -292,13 +292,22 @@ static void narrow(const WCHAR *from, char *to, size_t room)
     to[i] = 0;
 }
 
+/* A host with commas has several addresses, in this order. */
 int GetAddrInfoW(const WCHAR *host, const WCHAR *port, const ADDRINFOW *hints, ADDRINFOW **list)
 {
-    char name[256], service[16];
+    char names[256], service[16], *name, *left;
+    int cause;
 
-    narrow(host, name, sizeof name);
+    narrow(host, names, sizeof names);
     narrow(port, service, sizeof service);
-    return getaddrinfo(name, service, hints, list);
+    *list = NULL;
+    for (name = strtok_r(names, ",", &left); name; name = strtok_r(NULL, ",", &left)) {
+        if ((cause = getaddrinfo(name, service, hints, list)))
+            return cause;
+        while (*list)
+            list = &(*list)->ai_next;
+    }
+    return 0;
 }
 
 int set_socket_option(SOCKET socket, int level, int option, const char *value, int size)

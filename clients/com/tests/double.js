@@ -1,0 +1,43 @@
+// Script = 2: what JScript has no type for is a number, if that put back is the same, else a text.
+function same(what, got, want) {
+  var well = typeof got == typeof want && got === want;
+  WScript.Echo((well ? "ok   " : "BAD  ") + what + (well ? "" : ": " + typeof got + " " + escape(got) + ", wanted " + want));
+}
+var item = new ActiveXObject("Demo.Item");
+item.Exact = 19.99;
+same("a DECIMAL of four digits", item.Exact, 19.99);
+item.Exact = "-0.001";
+same("a small DECIMAL", item.Exact, -0.001);
+item.Exact = "79228162514264337593543950335";
+same("the greatest DECIMAL", item.Exact, "79228162514264337593543950335");
+item.Exact = item.Exact;
+same("put back", item.Exact, "79228162514264337593543950335");
+item.Exact = "0.1000000000000000055511151231";
+same("a DECIMAL beside a double", item.Exact, "0.1000000000000000055511151231");
+item.Exact = "-7.0000000000000000000000000001";
+same("one of 29 digits", item.Exact, "-7.0000000000000000000000000001");
+item.Exact = "2.50";
+same("one with a zero behind", item.Exact, 2.5);
+item.Huge = "9007199254740993";
+same("a hyper below 922,337,203,685,478 is a CURRENCY or more", String(item.Huge), "9007199254740993");
+item.Huge = 9223372036854774784;
+same("a hyper that is a double", item.Huge, 9223372036854774784);
+item.Huge = "9223372036854775807";
+same("the greatest hyper", item.Huge, "9223372036854775807");
+item.Huge = item.Huge;
+same("put back again", item.Huge, "9223372036854775807");
+item.Huge = "-9223372036854775808";
+same("the least hyper", item.Huge, -Math.pow(2, 63));
+item.Large = "18446744073709551615";
+same("the greatest unsigned hyper", item.Large, "18446744073709551615");
+item.Code = 0x80004005;
+same("an SCODE", item.Code, -2147467259);
+item.Code = item.Code;
+same("an SCODE that is put back", item.Code, -2147467259);
+item.Code = 0;
+same("an SCODE of zero", item.Code, 0);
+var grid = item.Bigs;
+same("the cells of an array", new VBArray(grid).toArray().join(" "), "5 9223372036854775807");
+item.Bigs = grid;
+same("are put back", new VBArray(item.Bigs).toArray().join(" "), "5 9223372036854775807");
+WScript.Echo("end");

@@ -1,5 +1,5 @@
 """Builds the package's wheel and its source archive for pip (PEP 517), with the standard library
-alone: what stands in pyproject.toml and in oaut/__version__ is their metadata.
+alone. Their metadata comes from pyproject.toml and from oaut/__version__.
 
     python3 wheels.py PROGRAM FOLDER    a wheel for this machine, with the built program in it
 
@@ -25,8 +25,17 @@ def _read(name):
         return file.read()
 
 
+def _list(name, head, joined=None):
+    """The lines of METADATA with the items of a list of pyproject.toml."""
+    found = re.search(rf"^{name} = \[(.*?)\]$", _read("pyproject.toml"), re.MULTILINE | re.DOTALL)
+    values = re.findall(r'"(.*?)"', found[1])
+    values = values if joined is None else [joined.join(values)]
+    return "".join(f"{head}: {it}\n" for it in values)
+
+
 def _word(name):
-    return re.search(rf'^{name} = "(.*)"$', _read("pyproject.toml"), re.MULTILINE)[1]
+    value = rf'^{name} = (?:{{ text = )?"(.*)"(?: }})?$'
+    return re.search(value, _read("pyproject.toml"), re.MULTILINE)[1]
 
 
 VERSION = re.search(r'^__version__ = "(.*)"$', _read("oaut/__init__.py"), re.MULTILINE)[1]
@@ -35,12 +44,23 @@ METADATA = f"""Metadata-Version: 2.1
 Name: {_word("name")}
 Version: {VERSION}
 Summary: {_word("description")}
+License: {_word("license")}
 Requires-Python: {_word("requires-python")}
-Provides-Extra: view
+{_list("classifiers", "Classifier")}{_list("keywords", "Keywords", ",")}Provides-Extra: view
 Requires-Dist: aiohttp (>=3.8) ; extra == 'view'
 Description-Content-Type: text/markdown
 
 {_read("README.md")}"""
+WITH_PROGRAM = """
+The program `oaut` is in this wheel: nothing else has to be installed.
+"""
+# what an installer makes commands of, and where pytest finds the plugin
+ENTRY_POINTS = """[console_scripts]
+oaut-tools = oaut.__main__:run_as_command
+
+[pytest11]
+oaut = oaut.pytest
+"""
 WHEEL = "Wheel-Version: 1.0\nGenerator: wheels\nRoot-Is-Purelib: {pure}\nTag: {tag}\n"
 PURE = "py3-none-any"
 
@@ -61,14 +81,16 @@ def _tag(program):
 
 
 def _archive(folder, files, program=None):
-    """A wheel of these files by name, and its list of them. The program stands among the scripts,
+    """A wheel of these files by name, and its list of them. The program is one of the scripts,
     so that pip puts it beside Python's own commands."""
     tag = PURE if program is None else _tag(program)
     name, record = f"{STEM}-{tag}.whl", f"{STEM}.dist-info/RECORD"
     wheel = WHEEL.format(pure="true" if program is None else "false", tag=tag)
     files = {path: text.encode() for path, text in files.items()}
-    files[f"{STEM}.dist-info/METADATA"] = METADATA.encode()
+    metadata = METADATA if program is None else METADATA + WITH_PROGRAM
+    files[f"{STEM}.dist-info/METADATA"] = metadata.encode()
     files[f"{STEM}.dist-info/WHEEL"] = wheel.encode()
+    files[f"{STEM}.dist-info/entry_points.txt"] = ENTRY_POINTS.encode()
     if program is not None:
         files[f"{STEM}.data/scripts/oaut"] = program
     told = []

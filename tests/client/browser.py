@@ -8,6 +8,7 @@ import shutil
 import sys
 
 from selenium import webdriver
+from selenium.common.exceptions import WebDriverException
 from selenium.webdriver.common.action_chains import ActionChains
 from selenium.webdriver.common.by import By
 from selenium.webdriver.common.keys import Keys
@@ -21,9 +22,18 @@ def opened():
         options.add_argument(it)
     options.binary_location = shutil.which("chromium")
     options.set_capability("goog:loggingPrefs", {"browser": "ALL"})
-    return webdriver.Chrome(
-        service=webdriver.ChromeService(shutil.which("chromedriver")) if hasattr(webdriver, "ChromeService") else service(), options=options
-    )
+    for last in (False, False, True):  # (a busy machine's browser may not be there in time)
+        try:
+            driver = webdriver.Chrome(
+                service=webdriver.ChromeService(shutil.which("chromedriver")) if hasattr(webdriver, "ChromeService") else service(), options=options
+            )
+            break
+        except WebDriverException:
+            if last:
+                raise
+    driver.set_page_load_timeout(600)
+    driver.set_script_timeout(600)
+    return driver
 
 
 def service():

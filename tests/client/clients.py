@@ -15,7 +15,7 @@ PACKAGE = f"{ROOT}/clients/python"
 if not os.environ.get("OAUT_INSTALLED"):
     sys.path.insert(0, PACKAGE)
 import oaut
-from oaut import EMPTY, I2, I4, NULL_BSTR, Array, Currency, Error
+from oaut import EMPTY, I2, I4, NULL_BSTR, Array, Currency, SCode
 
 FULL = f"{ROOT}/examples/full.idl"
 ARRAYS = f"{ROOT}/examples/arrays.idl"
@@ -31,12 +31,17 @@ class ClientCases(Cases):
         self.tell(name, type(got) is type(wanted) and got == wanted, f"wanted {wanted!r}, got {got!r}")
 
     def raises(self, name, kind, act, says=None, **wanted):
-        """The exception that `act` raises, which has these attributes, and says this."""
+        """The exception that `act` raises, which has these attributes, and says this. If `kind` is one of Python's own, it is that kind of oaut.Error."""
         try:
             got = act()
         except kind as error:
             found = {it: getattr(error, it) for it in wanted}
-            well = type(error) is kind and found == wanted and (says is None or str(error) == says)
+            own = (
+                type(error).__bases__[-1:] == (kind,) and isinstance(error, oaut.Error)
+                if not kind.__module__.startswith(("oaut", "test_"))
+                else type(error) is kind
+            )
+            well = own and found == wanted and (says is None or str(error) == says)
             self.tell(name, well, f"wanted {kind.__name__} {wanted} {says!r}, got {error!r} {found} {str(error)!r}")
             return error
         except Exception as error:

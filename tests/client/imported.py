@@ -4,7 +4,7 @@
     python3 tests/client/imported.py [--program PATH] [NAME ..]
 
 imports each, or those whose names are given, with the program checks what comes of it, and in a session of it creates each coclass, puts each property
-that can be put, and gets each that can be got. Prints docs/import.md's table: a line for each, and one in which they are added up.
+that can be put, and gets each that can be got. Prints a table: a line for each, and one in which they are added up.
 """
 import argparse
 import collections
@@ -69,7 +69,7 @@ def values_of(oaut, word):
     if word in integers:
         return [-(1 << integers[word]), 0, (1 << integers[word]) - 1]
     if word in unsigned:
-        return [oaut.Error(7)] if word == "SCODE" else [0, (1 << unsigned[word]) - 1]
+        return [oaut.SCode(7)] if word == "SCODE" else [0, (1 << unsigned[word]) - 1]
     return {
         "BSTR": ["", "a text \u00e4\u20ac"],
         "VARIANT_BOOL": [True, False],

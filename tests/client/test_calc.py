@@ -22,7 +22,7 @@ def made(context, name):
 def words(**given):
     return tuple(PropertyValue(Name=name, Value=value) for name, value in given.items())
 resolver = made(uno.getComponentContext(), "bridge.UnoUrlResolver")
-for turn in range(600):
+for turn in range(3_000):
     try:
         context = resolver.resolve(f"uno:pipe,name={pipe};urp;StarOffice.ComponentContext")
         break
@@ -84,7 +84,7 @@ class Calc(ClientCases):
                 start_new_session=True,
             )
             try:
-                done = subprocess.run([PYTHON, f"{room}/driver.py", pipe, f"file://{room}/objects.ods"], capture_output=True, text=True, timeout=300)
+                done = subprocess.run([PYTHON, f"{room}/driver.py", pipe, f"file://{room}/objects.ods"], capture_output=True, text=True, timeout=800)
             finally:
                 if office.poll() is None:
                     os.killpg(office.pid, 9)

@@ -7,7 +7,7 @@ import subprocess
 import tempfile
 
 from clients import FULL, PROGRAM, ClientCases, oaut
-from oaut import I2, I4, Array, aio
+from oaut import I2, I4, Array, aio, faults
 from oaut import store as stores
 
 
@@ -37,10 +37,10 @@ class Awaited(ClientCases):
                     (
                         "what is not sent",
                         item.put("Count", 0.5),
-                        TypeError,
+                        faults.WrongType,
                         "put Item.Count = 0.5: there are no floating-point numbers: give oaut.real(0.5), a Currency or a whole number",
                     ),
-                    ("no such member", item.get("Cuont"), AttributeError, "Item has no member Cuont: did you mean Count?"),
+                    ("no such member", item.get("Cuont"), faults.NoSuchMember, "Item has no member Cuont: did you mean Count?"),
                     ("a method", item.call("Clear"), oaut.NotImplementedHere, "call Item.Clear(): E_NOTIMPL (0x80004001)"),
                 ):
                     try:
@@ -109,7 +109,7 @@ class Awaited(ClientCases):
                 try:
                     await item.get("Count")
                     self.tell(name, False)
-                except oaut.Stopped as end:
+                except oaut.SessionEnded as end:
                     self.same(name, end.status, -signal.SIGKILL)
             await server.close()
             server = await aio.play(FULL, program=PROGRAM, timeout=60)
@@ -120,7 +120,11 @@ class Awaited(ClientCases):
                 await item.get("Count")
                 self.tell("no answer in time", False)
             except oaut.TimedOut as end:
-                self.same("no answer in time", (str(end), end.may_stand), ("no answer within 0.2 seconds; what was asked is done or not, wholly", True))
+                self.same(
+                    "no answer in time",
+                    (str(end), end.may_stand),
+                    ("no reply within 0.2 seconds; a request without a reply was executed completely or not at all", True),
+                )
             await server.close()
             for name, opening, kind in (
                 ("no program", aio.play(FULL, program="no-such-oaut"), oaut.ProgramNotFound),

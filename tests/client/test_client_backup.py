@@ -1,12 +1,16 @@
 """`python3 -m oaut store`: what a store holds, its dumps, what is restored of them, and copies, over stores that are made here."""
+import decimal
+import errno
 import fcntl
 import hashlib
+import io
 import json
 import os
 import struct
 import subprocess
 import sys
 import tempfile
+from unittest import mock
 
 from clients import ENVIRONMENT, LIBRARY, PROGRAM, ROOT, ClientCases, oaut
 from oaut import copies, dumps, files
@@ -88,12 +92,20 @@ class Backup(ClientCases):
                 found = files.info(path)
                 wanted = {"format": form, "size": length, "bank": 0, "bank_size": bank, "library": "Demo", "library_sha256": hashlib.sha256(TEXT).hexdigest()}
                 wanted |= {"library_size": len(TEXT), "snapshot_size": 8, "groups": 4, "groups_size": size, "room": bank - len(TEXT) - 8 - size}
+                # docs/reference/store.md: a checkpoint is due where the room is under 4,718,597 bytes
+                wanted["log_free"] = wanted["room"] - 4_718_597 if form == 2 else 0
+                limit = bank - 5_242_880 if form == 2 else 14_680_064
+                wanted |= {"limit": limit, "used": 8 + size, "free": limit - 8 - size, "percent": round(100 * (8 + size) / limit, 1), "exact": False}
                 with open(path, "rb") as file:
                     read = stores.read(file.read())
                 self.same(f"format {form}", found, wanted)
                 wanted |= {"events": count, "next": 6, "objects": 4, "cells": len(VALUES) + 1, "image_size": len(stores.table_image(read.next, read.objects))}
+                image = wanted["image_size"]
+                wanted |= {"used": image, "free": limit - image, "percent": round(100 * image / limit, 1), "exact": True}
                 self.same(f"format {form}, counted", dumps.counted(path), wanted)
-            self.same("in words", command("info", path)[:1] + tuple(command("info", path)[1].splitlines()[:2]), (0, "format 1", "size 33562624"))
+            self.same(
+                "in words", command("info", path)[:1] + tuple(command("info", path)[1].splitlines()[:2]), (0, "format 1", "size 33562624 bytes (32.0 MiB)")
+            )
             self.same("for programs", json.loads(command("info", "--json", path)[1]), found)
             self.same("counted, for programs", json.loads(command("info", "--objects", "--json", path)[1]), wanted)
 
@@ -128,6 +140,42 @@ class Backup(ClientCases):
             self.same("and what it holds", command("dump", f"{room}/again"), (0, held(path), ""))
             self.same("library", command("library", path), (0, TEXT.decode(), ""))
             self.same("groups", command("groups", path)[1].splitlines()[:2], ["format 1, bank 0", f"group at {8_192 + 32 + len(TEXT) + 8}: 5 events"])
+
+    def test_what_other_tools_have_changed(self):
+        """A value is restored as it is told, or not at all: none is rounded, and none is taken for another one."""
+        with tempfile.TemporaryDirectory() as room:
+            told = dumps.dump(made(room, events=[EVENTS[0], KEYED[0]]))
+            for vt, value, wanted in (
+                *(("BOOL", True, True), ("BOOL", 1, None), ("BOOL", "true", None), ("BOOL", None, None)),
+                *(("I4", "7", 7), ("I4", 7.0, 7), ("I4", 3.7, None), ("I4", "3.7", None), ("I4", True, None), ("I4", None, None), ("I4", "1e999999999", None)),
+                *(("CY", 1.1, "1.1000"), ("CY", 2, "2.0000"), ("CY", "1.23456", None), ("CY", "NaN", None), ("CY", "922337203685477.5808", None)),
+                *(("DECIMAL", 0.5, "0.5"), ("DECIMAL", True, None), ("EMPTY", 5, None), ("NULL", "x", None)),
+            ):
+                cell = {"interface": str(FACE), "dispid": 1, "type": vt, "value": value}
+                changed = {**told, "next": 9, "objects": [{"number": 1, "coclass": str(CLASS), "cells": [cell]}]}
+                if wanted is None:
+                    self.raises(f"{vt} of {value!r}", oaut.Unusable, lambda: dumps.restore(changed, f"{room}/new"))
+                    continue
+                dumps.restore(changed, f"{room}/new")
+                self.same(f"{vt} of {value!r}", dumps.dump(f"{room}/new")["objects"][0]["cells"][0]["value"], wanted)
+                os.unlink(f"{room}/new")
+
+    def test_amounts_whatever_decimals_a_program_computes_with(self):
+        with tempfile.TemporaryDirectory() as room:
+            told = dumps.dump(made(room, events=[EVENTS[0], KEYED[0]]))
+            cell = {"interface": str(FACE), "dispid": 1, "type": "CY", "value": "123456789.0123"}
+            told = {**told, "next": 9, "objects": [{"number": 1, "coclass": str(CLASS), "cells": [cell]}]}
+            with decimal.localcontext() as context:
+                context.prec = 3
+                dumps.restore(told, f"{room}/new")
+                found = dumps.dump(f"{room}/new")
+            self.same("it is told", found["objects"][0]["cells"][0]["value"], "123456789.0123")
+
+    def test_a_stream_without_a_file(self):
+        with tempfile.TemporaryDirectory() as room:
+            path = made(room, events=[EVENTS[0], KEYED[0]])
+            dumps.restore(io.StringIO(json.dumps(dumps.dump(path))), f"{room}/new")
+            self.same("what is restored holds it all", held(f"{room}/new"), held(path))
 
     def test_what_is_not_restored(self):
         with tempfile.TemporaryDirectory() as room:
@@ -200,6 +248,26 @@ class Backup(ClientCases):
                 self.same(f"{name}: no store", command("info", f"{room}/{name}"), (1, "", f"python3 -m oaut: {room}/{name}: not a store\n"))
             self.same("a file that is not there", command("info", "/none")[0], 1)
             self.same("what is there", sorted(os.listdir(room)), ["copy", "empty", "it.store", "short"])
+
+    def test_a_folder_without_links(self):
+        """As those of FAT and of some servers are: a new file gets its name all the same, and no file is replaced."""
+        refused = mock.patch("os.link", side_effect=PermissionError(errno.EPERM, os.strerror(errno.EPERM)))
+        with tempfile.TemporaryDirectory() as room, refused:
+            path = made(room)
+            copies.copy(path, f"{room}/copy")
+            copies.backup(path, f"{room}/backup")
+            dumps.restore(dumps.dump(path), f"{room}/restored")
+            for name in ("copy", "backup", "restored"):
+                self.same(f"what the {name} holds", held(f"{room}/{name}"), held(path))
+
+            def in_between(*_):
+                with open(f"{room}/other", "w") as file:
+                    file.write("mine")
+
+            self.raises("a file that comes in between", FileExistsError, lambda: copies.copy(path, f"{room}/other", in_between))
+            with open(f"{room}/other") as file:
+                self.same("it stays", file.read(), "mine")
+            self.same("what is there", sorted(os.listdir(room)), ["backup", "copy", "it.store", "other", "restored"])
 
     def test_a_store_in_use(self):
         with tempfile.TemporaryDirectory() as room:

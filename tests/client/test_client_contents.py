@@ -148,13 +148,13 @@ class Contents(ClientCases):
             self.same(
                 "a text in another order",
                 command("restore", "-", f"{room}/new", given=wrong),
-                (1, "", "python3 -m oaut: the dump tells no table: " f"object {first} stands behind {second}\n"),
+                (1, "", "python3 -m oaut: the dump is no table: " f"object {first} comes after {second}\n"),
             )
             for name, given, says in (
-                ("empty", "", "the end stands for { at character 0"),
+                ("empty", "", "the end instead of { at character 0"),
                 ("cut", sorted_text[:-9], None),
                 ("more behind", sorted_text + "}", f"there is more at character {len(sorted_text)}"),
-                ("no colon", '{"dump" 1}', "1 stands for : at character 8"),
+                ("no colon", '{"dump" 1}', "1 instead of : at character 8"),
             ):
                 status, out, err = command("restore", "-", f"{room}/new", given=given)
                 self.tell(
@@ -213,6 +213,11 @@ class Contents(ClientCases):
                     self.same(
                         f"{name}: rights as of a new file", (command(*words, f"{room}/{name}")[0], oct(os.stat(f"{room}/{name}").st_mode & 0o777)), (0, "0o640")
                     )
+                os.chmod(path, 0o600)
+                os.umask(0o022)
+                for name, words in {"own copy": ["copy", path], "own live": ["copy", "--live", path], "own salvaged": ["salvage", path]}.items():
+                    command(*words, f"{room}/{name}")
+                    self.same(f"{name}: who may not read the store may not read it", oct(os.stat(f"{room}/{name}").st_mode & 0o777), "0o600")
             finally:
                 os.umask(old)
 

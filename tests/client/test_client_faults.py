@@ -4,7 +4,7 @@ import pickle
 import struct
 import tempfile
 
-from clients import DONE, LIBRARY, SEVEN, ClientCases, answer, hexed, item_of, oaut, scripted
+from clients import DONE, LIBRARY, SEVEN, ClientCases, Kept, answer, hexed, item_of, oaut, scripted
 from oaut import I2, Array
 
 MISMATCH, NOT_FOUND, OVERFLOW, FULL_UP = 0x8002_0005, 0x8002_0003, 0x8002_000A, 0x8003_0070
@@ -58,8 +58,8 @@ UNSENT = [
     (lambda it: it.Cell(Rwo=1), TypeError, "get Item.Cell(Rwo=1): Cell has no parameter Rwo: did you mean Row?"),
     (lambda it: it.Grid["a"], TypeError, "an index is a whole number, not 'a'"),
     (lambda it: it.Grid[2**31], IndexError, "2147483648 is no index: an index has 32 bits"),
-    (lambda it: it.Grid[0, 1:2], TypeError, "a slice stands alone, and is read only"),
-    (lambda it: it.Grid.__setitem__(slice(0, 1), [1]), TypeError, "a slice stands alone, and is read only"),
+    (lambda it: it.Grid[0, 1:2], TypeError, "a slice is the only index, and cannot be put"),
+    (lambda it: it.Grid.__setitem__(slice(0, 1), [1]), TypeError, "a slice is the only index, and cannot be put"),
     (lambda it: it.Grid.redim(-1), ValueError, "a count is below 2^32, and a lowest index has 32 signed bits"),
     (lambda it: it._server.object(2**32, "Item"), ValueError, "4294967296 is no object's number: these have 32 bits"),
     (lambda it: pickle.dumps(it), TypeError, "<Item 1> belongs to its session and cannot be pickled: keep its number, 1"),
@@ -73,6 +73,13 @@ SMALL = [
     + oaut.string_field("Count"),
     struct.pack("<II", 5, 1) + LIBRARY.coclasses[0].guid.bytes_le + oaut.string_field("Item") + struct.pack("<II", 1, 0),
 ]
+
+
+def refused_second(framing):
+    """The bytes of the second of three replies, and of a refusal in its place."""
+    head = struct.pack("<I", 2)
+    pack = oaut.framing.FRAMINGS[framing].pack
+    return pack([head + oaut.records.DONE]), pack([head + struct.pack("<III", MISMATCH, 0, 0)])
 
 
 class Faults(ClientCases):
@@ -93,6 +100,38 @@ class Faults(ClientCases):
             self.tell("a batch with a refusal", False)
         except oaut.TypeMismatch as refusal:
             self.same("a refusal of a batch", (str(refusal), batch.failures), (TOLD[0][3], [(1, refusal)]))
+
+    def test_each_byte_of_replies_to_a_batch(self):
+        """Of puts alone, whose replies are known beforehand: what differs in length, tag or code is no success."""
+        for framing in ("raw", "lines"):
+            tags = [struct.pack("<I", it) for it in (1, 2, 3)]
+            stream = oaut.framing.FRAMINGS[framing].pack([it + oaut.records.DONE for it in tags])
+            width = len(stream) // 3
+
+            def outcome(given):
+                server = oaut.connect(reader=Kept(given), writer=Kept(), group=1, framing=framing)
+                server.described = LIBRARY
+                item = item_of(server)
+                try:
+                    with server.batch() as batch:
+                        item.Count, item.Count, item.Count = 5, 6, 7
+                except oaut.Refused as refusal:
+                    return [at for at, _ in batch.failures], refusal.code
+                except oaut.Error as fault:
+                    return type(fault).__name__
+                return "done"
+
+            self.same(f"{framing}: the replies as they are", outcome(stream), "done")
+            passed = set()
+            for at in range(len(stream)):
+                spoiled = bytearray(stream)
+                spoiled[at] ^= 4
+                if outcome(bytes(spoiled)) == "done":
+                    passed.add(at % width)
+            # (a reply's argument and the reserved number have no meaning if it is no refusal)
+            free = range(12, 20) if framing == "raw" else range(16, 32)
+            self.tell(f"{framing}: bytes that may differ", passed <= {*free}, sorted(passed))
+            self.same(f"{framing}: the second is refused", outcome(stream.replace(*refused_second(framing))), ([1], MISMATCH))
 
     def test_what_is_not_sent_names_it_too(self):
         for act, kind, says in UNSENT:
@@ -129,11 +168,33 @@ class Faults(ClientCases):
             self.same(f"{name} is the same object", (made == item, made is item, made.number, repr(made)), (True, False, 1, "<Item 1>"))
         self.same("a copied array", (copy.copy(GRID) == GRID, copy.deepcopy(GRID) == GRID, pickle.loads(pickle.dumps(GRID)) == GRID), (True, True, True))
         self.same("a copied property", repr(copy.copy(item.Cell)), "<property Cell of <Item 1>>")
-        for value in (I2(5), oaut.Currency("2.5"), oaut.EMPTY, oaut.NULL_BSTR, oaut.Error(5)):
+        for value in (I2(5), oaut.Currency("2.5"), oaut.EMPTY, oaut.NULL_BSTR, oaut.SCode(5)):
             self.same(f"a copied {value!r}", copy.deepcopy(value), value)
 
 
 class Replacing(ClientCases):
+    def test_exceptions_of_another_process(self):
+        """multiprocessing passes them on by pickle: they say the same, and have the same attributes."""
+        faults = oaut.faults
+        refusal = oaut.BadIndex(1, "Row", b"xy", None, "get Item.Cell(5)", "its bounds")
+        lost = oaut.IncompatibleLibrary(oaut.InvalidArg(None, None, b"", None, "replace"), LIBRARY.interfaces[0].guid, 9, "Item.Cell of DItem, DISPID 9")
+        stopped = oaut.SessionEnded("it has ended", "oaut: cannot write x", -9, "No space left on device")
+        stopped.may_stand = True
+        given = [refusal, lost, stopped, oaut.NotSent(5, "5 requests of a batch were not sent"), oaut.SessionInUse("another process", 7)]
+        given += [faults.ProtocolError("a type", True), oaut.TimedOut("no answer"), faults.NoSuchFile("/none"), faults.ProgramNotFound("there is no program")]
+        given += [
+            faults.NoTls("no TLS"),
+            oaut.OutOfMemory(None, None, b"", None, "create Item"),
+            oaut.Unusable("no store"),
+            oaut.ReplayDiffers("another request"),
+        ]
+        place = "/x.idl", 1, 2, "] x\n ^"
+        given += [faults.LibraryRefused("oaut: syntax at byte 1", 2, place, "note: a word"), faults.LibraryNotTaken(refusal, "oaut: limit", place)]
+        for wanted in given:
+            for name, got in (("pickled", pickle.loads(pickle.dumps(wanted))), ("copied", copy.copy(wanted))):
+                told = lambda it: (type(it), str(it), it.args, vars(it), [getattr(it, of, None) for of in ("errno", "strerror", "filename")])
+                self.same(f"{type(wanted).__name__}, {name}", told(got), told(wanted))
+
     def test_a_library_that_is_replaced(self):
         with tempfile.TemporaryDirectory() as room:
             path = f"{room}/new.idl"
@@ -156,9 +217,20 @@ class Replacing(ClientCases):
             for guid, dispid, lost in ((face, 9, "Item.Cell of DItem, DISPID 9"), (face, -1, "the interface DItem"), (class_, -1, "the coclass Item")):
                 server = scripted(answer(guid.bytes_le.hex() + struct.pack("<iI", dispid, 0).hex(), code=0x8007_0057))
                 says = f"replace the library by {file.name}: E_INVALIDARG (0x80070057): the new library does not keep {lost}"
-                self.raises(lost, oaut.NotKept, lambda: server.replace_library(file.name), says, guid=guid, dispid=None if dispid == -1 else dispid, lost=lost)
+                self.raises(
+                    lost,
+                    oaut.IncompatibleLibrary,
+                    lambda: server.replace_library(file.name),
+                    says,
+                    guid=guid,
+                    dispid=None if dispid == -1 else dispid,
+                    lost=lost,
+                )
                 self.same(f"{lost}: the library stays", server.library is LIBRARY, True)
-            self.tell("it is an InvalidArg and a ValueError", issubclass(oaut.NotKept, oaut.InvalidArg) and issubclass(oaut.NotKept, ValueError))
+            self.tell(
+                "it is an InvalidArg and a ValueError",
+                issubclass(oaut.IncompatibleLibrary, oaut.InvalidArg) and issubclass(oaut.IncompatibleLibrary, ValueError),
+            )
             server = scripted(answer(code=0x8007_06F7))
             says = f"replace the library by {file.name}: bad stub data (0x800706f7): the text is no library, or the server does not know this request"
             self.raises("a text that is no library", oaut.BadStub, lambda: server.replace_library(file.name), says)

@@ -58,7 +58,7 @@ class MadeUp:
 
 class Streams(ClientCases):
     def test_streams(self):
-        with MadeUp(timeout=30) as server:
+        with MadeUp(timeout=300) as server:
             shared = server.shared
             one, two = shared.stream(), shared.stream(5)
             self.same("the lowest number that is free", one.client, 0)
@@ -90,12 +90,13 @@ class Streams(ClientCases):
         self.same("what the server is told", took, [(0, b"ab"), (5, b"c"), (0, b"d"), (5, b""), (5, b"e"), (frames.ALL, b"")])
 
     def test_a_timeout(self):
-        with MadeUp(timeout=0.2) as server:
+        with MadeUp(timeout=300) as server, server.shared.session() as session:
+            self.same("a session over it", session.exchange([b"12345678"]), [struct.pack("<I", 1) + b"12345678"])
+        with MadeUp(timeout=1) as server:
             stream = server.shared.stream()
             stream.write(b"?")
             self.raises("nothing comes", TimeoutError, lambda: stream.read(1))
             with server.shared.session() as session:
-                self.same("a session over it", session.exchange([b"12345678"]), [struct.pack("<I", 1) + b"12345678"])
                 error = self.raises("nothing comes for a session", oaut.TimedOut, lambda: session.exchange([b"12345?78"]))
                 self.same("it may have been done", error.may_stand, True)
 
@@ -166,12 +167,12 @@ class Sessions(ClientCases):
         with shared.session() as one:
             one.objects()
             shared.child.kill()
-            error = self.raises("the server is killed", oaut.Stopped, lambda: [one.objects() for _ in range(3)])
+            error = self.raises("the server is killed", oaut.SessionEnded, lambda: [one.objects() for _ in range(3)])
             self.same("it may have been done", error.may_stand, True)
-        error = self.raises("how the program has ended", oaut.Stopped, shared.close)
+        error = self.raises("how the program has ended", oaut.SessionEnded, shared.close)
         self.same("its status", error.status, -9)
         shared = frames.play("/nowhere.idl", PROGRAM)
-        error = self.raises("a library that is not there", oaut.Stopped, shared.close, status=1, fault="oaut: cannot read /nowhere.idl")
+        error = self.raises("a library that is not there", oaut.NoSuchFile, shared.close, status=1, fault="oaut: cannot read /nowhere.idl")
         self.raises("no such program", oaut.ProgramNotFound, lambda: frames.play(FULL, "/nowhere/oaut"))
         with tempfile.TemporaryDirectory() as room:
-            self.raises("no such store", FileNotFoundError, lambda: frames.serve(f"{room}/it.store", program=PROGRAM))
+            self.raises("no such store", oaut.NoSuchFile, lambda: frames.serve(f"{room}/it.store", program=PROGRAM))

@@ -1,4 +1,4 @@
-"""Copies of a store that is written meanwhile: by a writer that makes the writes of docs/store.md
+"""Copies of a store that is written meanwhile: by a writer that makes the writes of docs/reference/store.md
 between any two reads of a copy, and by the program under load.
 
 OAUT_COPIES says how many copies are taken under load (12 where nothing is said), OAUT_SEED from

@@ -1,4 +1,5 @@
 """The client as a package: it installs without a network, says what it gives, and passes a type checker where one is there."""
+import ast
 import glob
 import os
 import re
@@ -54,6 +55,23 @@ def limit(name):
         return int(re.search(rf"^pub const {name}: \w+ = ([\d_]+);", file.read(), re.MULTILINE)[1])
 
 
+def branches(function):
+    """How many branches a function has: of each `if` the ways that are written, each loop, each handler of a `try`."""
+    count, left = 0, list(ast.iter_child_nodes(function))
+    while left:
+        it = left.pop()
+        if isinstance(it, (ast.FunctionDef, ast.AsyncFunctionDef, ast.Lambda, ast.ClassDef)):
+            continue
+        if isinstance(it, ast.If):
+            count += 1 + bool(it.orelse and not (len(it.orelse) == 1 and isinstance(it.orelse[0], ast.If)))
+        elif isinstance(it, (ast.For, ast.AsyncFor, ast.While)):
+            count += 1 + bool(it.orelse)
+        elif isinstance(it, ast.Try):
+            count += len(it.handlers) + bool(it.orelse) + bool(it.finalbody)
+        left += ast.iter_child_nodes(it)
+    return count
+
+
 def checked(room, *words):
     """What a type checker says, run in a folder."""
     return subprocess.run([CHECKER, *words], cwd=room, env={**os.environ, "MYPYPATH": PACKAGE, "PYTHONPATH": PACKAGE}, capture_output=True, text=True)
@@ -73,6 +91,24 @@ class Package(ClientCases):
         ]
         self.same("lines of more than 100 columns", long, [])
         self.tell("the package has a type of its own for checkers", os.path.exists(f"{os.path.dirname(oaut.__file__)}/py.typed"))
+
+    def test_no_function_has_more_than_15_branches(self):
+        found = []
+        for path in glob.glob(f"{PACKAGE}/**/*.py", recursive=True):
+            with open(path, encoding="utf-8") as file:
+                tree = ast.parse(file.read())
+            functions = [it for it in ast.walk(tree) if isinstance(it, (ast.FunctionDef, ast.AsyncFunctionDef))]
+            self.tell(f"{path}: the file is read", tree.body or path.endswith("__init__.py"))
+            found += [f"{os.path.relpath(path, PACKAGE)}: {it.name} {branches(it)}" for it in functions if branches(it) > 15]
+        self.same("functions with more", found, [])
+
+    def test_few_types_are_any(self):
+        """Each stands with its reason: an alias of a name, or a line with a comment."""
+        found = []
+        for path in glob.glob(f"{PACKAGE}/oaut/**/*.py", recursive=True):
+            with open(path, encoding="utf-8") as file:
+                found += [f"{os.path.relpath(path, PACKAGE)}:{at}" for at, line in enumerate(file, 1) if re.search(r"\btyping\.Any\b", line)]
+        self.tell("there are 15 at most", len(found) <= 15, found)
 
     def test_limits_are_those_of_the_server(self):
         for name, of in (("MAX_REQUEST_BYTES", oaut.BODY_LIMIT), ("MAX_TEXT_BYTES", oaut.TEXT_LIMIT), ("MAX_CELLS", oaut.CELL_LIMIT)):
@@ -95,6 +131,8 @@ class Package(ClientCases):
             self.same("it is imported", (said[:2], said[2:][0].startswith(f"{room}/venv/")), ([oaut.__version__, "7"], True))
             done = subprocess.run([python, "-m", "oaut", "--version"], cwd=room, env={"PATH": ""}, capture_output=True, text=True)
             self.same("its command line", done.stdout, f"oaut {oaut.__version__}\n")
+            done = subprocess.run([f"{room}/venv/bin/oaut-tools", "--version"], cwd=room, env={"PATH": ""}, capture_output=True, text=True)
+            self.same("its console script", done.stdout, f"oaut {oaut.__version__}\n")
             parts = ["client_values", "client_records", "client_faults", *(["client_program"] if os.path.exists(PROGRAM) else [])]
             done = subprocess.run([python, f"{ROOT}/tools/cases.py", *parts], env={**os.environ, "OAUT_INSTALLED": "1"}, capture_output=True, text=True)
             self.same("its cases pass there", (done.returncode, done.stderr), (0, ""))
@@ -132,11 +170,49 @@ class Package(ClientCases):
                 self.tell(f"it refuses {line}", re.search(rf"wrong\.py:{number}:.*error", done.stdout), done.stdout)
 
 
+def branches(function):
+    """How many branches a function has: conditions, loops, handlers, and those within expressions."""
+    count, left = 0, list(ast.iter_child_nodes(function))
+    while left:
+        node = left.pop()
+        if not isinstance(node, (ast.FunctionDef, ast.AsyncFunctionDef, ast.ClassDef, ast.Lambda)):
+            count += isinstance(node, BRANCHES) + len(getattr(node, "ifs", ()))
+            left += ast.iter_child_nodes(node)
+    return count
+
+
+BRANCHES = ast.If, ast.IfExp, ast.For, ast.AsyncFor, ast.While, ast.ExceptHandler, ast.comprehension
+
+
+class Size(ClientCases):
+    def test_branches_of_a_function(self):
+        found = {}
+        for path in glob.glob(f"{PACKAGE}/**/*.py", recursive=True):
+            with open(path, encoding="utf-8") as file:
+                for node in ast.walk(ast.parse(file.read())):
+                    if isinstance(node, (ast.FunctionDef, ast.AsyncFunctionDef)):
+                        found[f"{os.path.relpath(path, PACKAGE)}:{node.lineno} {node.name}"] = branches(node)
+        self.same("functions of more than 15", {name: count for name, count in found.items() if count > 15}, {})
+
+    def test_hints_are_those_of_python_3_9(self):
+        """No name of typing that the builtin type or `X | None` has taken the place of, in an annotation."""
+        found = []
+        for path in glob.glob(f"{PACKAGE}/**/*.py", recursive=True):
+            with open(path, encoding="utf-8") as file:
+                tree = ast.parse(file.read())
+            for node in ast.walk(tree):
+                function = isinstance(node, (ast.FunctionDef, ast.AsyncFunctionDef))
+                notes = [node.returns, *(it.annotation for it in node.args.args)] if function else [getattr(node, "annotation", None)]
+                said = " ".join(ast.unparse(it) for it in notes if it is not None)
+                found += [f"{path}:{node.lineno}" for _ in re.findall(r"typing\.(?:List|Dict|Tuple|Set|FrozenSet|Type|Optional|Union)\b", said)]
+        self.same("older ones", found, [])
+
+
 class Stubs(ClientCases):
     def test_what_is_written(self):
         text = stubs.text_of(LIBRARY, "full", "full.idl")
         for line in (
-            "class Item(_oaut.Object):",
+            "class Item(_oaut.BaseObject):",
             "    Count: _Property[_oaut.I4, _oaut.NumberLike]",
             "    Grid: _Property[_oaut.ArrayProperty, _oaut.ArrayLike]",
             "    def Version(self) -> _oaut.I4: ...",

@@ -7,7 +7,7 @@ import tempfile
 from decimal import Decimal
 
 from clients import ARRAYS, ENVIRONMENT, FULL, HI, LIBRARY, PROGRAM, ROOT, TABLES, ClientCases, library_of, oaut, play
-from oaut import EMPTY, I1, I2, I4, I8, INT, NULL_BSTR, UI1, UI2, UI4, UI8, UINT, VT, Array, Currency, Error, Field
+from oaut import EMPTY, I1, I2, I4, I8, INT, NULL_BSTR, UI1, UI2, UI4, UI8, UINT, VT, Array, Currency, SCode, Field
 
 TYPES = {
     "char": (I1(0), [-128, 127]),
@@ -22,12 +22,12 @@ TYPES = {
     "unsigned hyper": (UI8(0), [2**64 - 1]),
     "CURRENCY": (Currency(0), [Currency("2.5"), Currency.of_units(-(2**63)), Currency.of_units(2**63 - 1)]),
     "VARIANT_BOOL": (False, [True, False]),
-    "SCODE": (Error(0), [Error(0x8000_4005)]),
+    "SCODE": (SCode(0), [SCode(0x8000_4005)]),
     "DECIMAL": (Decimal(0), [Decimal("-2.50"), Decimal(2**96 - 1), Decimal("1E-28")]),
     "BSTR": (None, ["Hi", "", "\U0001f600", "a\0b", b"abc", "a" * 131_072, None]),
     "VARIANT": (
         EMPTY,
-        [None, "x", b"y", True, I1(-1), UI8(2**64 - 1), INT(5), Currency(1), Decimal("0.10"), Error(5), NULL_BSTR, Array(I2, [(1, 5)], [7]), EMPTY],
+        [None, "x", b"y", True, I1(-1), UI8(2**64 - 1), INT(5), Currency(1), Decimal("0.10"), SCode(5), NULL_BSTR, Array(I2, [(1, 5)], [7]), EMPTY],
     ),
 }
 CELLS = [
@@ -194,7 +194,11 @@ class Program(ClientCases):
             self.same("all columns", list(server.to_rows("Item")[0]), "number Count Name Price Exact Flag Version Any Grid".split())
             self.raises("no such column", AttributeError, lambda: server.to_rows("Item", "Cuont"), "Item has no member Cuont: did you mean Count?")
             shown = item._repr_html_()
-            self.tell("an object in a notebook", "<caption>&lt;Item 3&gt;</caption>" in shown and "<td>Version</td><td>long readonly</td>" in shown, shown)
+            self.tell(
+                "an object in a notebook",
+                "<caption>&lt;Item 3&gt;</caption>" in shown and "<td>Version</td><td>I4(0)</td><td>long readonly</td>" in shown,
+                shown,
+            )
             try:
                 import pandas
             except ImportError:
@@ -278,7 +282,7 @@ class Program(ClientCases):
             self.raises("a parameter that is none", oaut.ParamNotFound, lambda: server.ask(request, bytes), index=0)
             self.same("elements", [item.Grid[-1, 5], item.Grid[0, 7]], [I2(1), I2(6)])
             self.raises("an index outside", oaut.BadIndex, lambda: item.Grid[1, 7])
-            self.raises("an index too few", oaut.BadIndex, lambda: item.Grid[0])
+            self.raises("an index too few", oaut.BadIndex, lambda: item.Grid.__setitem__(0, 1))
             self.raises("an element of no array", oaut.TypeMismatch, lambda: item.array("Count")[0])
             item.Grid[0, 7] = 60
             self.same("a put element", list(item.Grid), [[1, 2, 3], [4, 5, 60]])

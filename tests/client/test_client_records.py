@@ -13,7 +13,7 @@ E_OUTOFMEMORY 8007000E E_INVALIDARG 80070057 RPC_E_DISCONNECTED 80010108 REGDB_E
 STG_E_READFAULT 8003001E STG_E_MEDIUMFULL 80030070""".split()
 NAMED = {int(code, 16): name for name, code in zip(STANDARD[::2], STANDARD[1::2])}
 PUT, GET = oaut.ask_invoke(1, 1, 4, (-3,), (oaut.spell(I4(7)),)), oaut.ask_invoke(1, 7, 2, (), ())
-# what ends a group, and what it is answered (docs/records.md)
+# what ends a group, and what it is answered (docs/reference/records.md)
 END = hexed("ffffffff 0c00 0000")
 ENDED = hexed("ffffffff f7060780 ffffffff 00000000")
 
@@ -42,25 +42,25 @@ class Records(ClientCases):
     def test_streams_that_are_none(self):
         other = oaut.connect(io.BytesIO(oaut.Lines.pack([b"\7\0\0\0" + DONE, b"\7\0\0\0" + DONE])), Kept(), "lines", 1)
         other.described = LIBRARY
-        self.raises("a reply of another tag", oaut.Malformed, lambda: item_of(other).release())
-        self.raises("a session after it", oaut.Stopped, lambda: item_of(other).release())
+        self.raises("a reply of another tag", oaut.ProtocolError, lambda: item_of(other).release())
+        self.raises("a session after it", oaut.SessionEnded, lambda: item_of(other).release())
         ended = oaut.connect(io.BytesIO(oaut.Lines.pack([bytes(4) + answer(code=0x8007_06F7)])), Kept(), "lines", 1)
         ended.described = LIBRARY
-        self.raises("a stream that is refused", oaut.Stopped, lambda: item_of(ended).release(), status=None, fault=None)
-        self.raises("a stream that ends", oaut.Stopped, lambda: item_of(scripted()).release())
-        self.raises("fields too many", oaut.Malformed, lambda: item_of(scripted(answer(SEVEN))).release())
-        self.raises("fields behind a value", oaut.Malformed, lambda: item_of(scripted(answer(SEVEN + "00000000 00000000"))).Count)
-        self.raises("fields behind a number", oaut.Malformed, lambda: scripted(answer("01000000 00000000 00000000")).create("Item"))
-        self.raises("a value cut off", oaut.Malformed, lambda: item_of(scripted(answer(SEVEN[:-2]))).Count)
-        self.raises("fields too few", oaut.Malformed, lambda: item_of(scripted(DONE)).Count)
+        self.raises("a stream that is refused", oaut.SessionEnded, lambda: item_of(ended).release(), status=None, fault=None)
+        self.raises("a stream that ends", oaut.SessionEnded, lambda: item_of(scripted()).release())
+        self.raises("fields too many", oaut.ProtocolError, lambda: item_of(scripted(answer(SEVEN))).release())
+        self.raises("fields behind a value", oaut.ProtocolError, lambda: item_of(scripted(answer(SEVEN + "00000000 00000000"))).Count)
+        self.raises("fields behind a number", oaut.ProtocolError, lambda: scripted(answer("01000000 00000000 00000000")).create("Item"))
+        self.raises("a value cut off", oaut.ProtocolError, lambda: item_of(scripted(answer(SEVEN[:-2]))).Count)
+        self.raises("fields too few", oaut.ProtocolError, lambda: item_of(scripted(DONE)).Count)
         for cut in range(1, 20):
             whole = oaut.Raw.pack([b"\1\0\0\0" + DONE])
             short = oaut.connect(io.BytesIO(whole[:cut]), Kept(), "raw", 1)
             short.described = LIBRARY
-            self.raises(f"a raw stream that ends after {cut} bytes", oaut.Malformed, lambda: item_of(short).release())
+            self.raises(f"a raw stream that ends after {cut} bytes", oaut.ProtocolError, lambda: item_of(short).release())
         not_hex = oaut.connect(io.BytesIO(b"0g\n"), Kept(), "lines", 1)
         not_hex.described = LIBRARY
-        self.raises("a line that is no digits", oaut.Malformed, lambda: item_of(not_hex).release())
+        self.raises("a line that is no digits", oaut.ProtocolError, lambda: item_of(not_hex).release())
         self.raises("a body too long", ValueError, lambda: setattr(item_of(scripted()), "Any", ["a" * (oaut.TEXT_LIMIT // 2)] * 16))
 
     def test_records_of_any_lengths(self):
@@ -92,8 +92,8 @@ class Records(ClientCases):
                 for body in (bytes(4) + b"\xff" * 4, bytes(8)):
                     reply = body + bytes(4) + fields
                     self.same(f"{of.__name__} {number}", item_of(scripted(reply)).Any, of(number))
-                self.raises(f"{of.__name__} {number} where nothing stands", oaut.Malformed, lambda: item_of(scripted(DONE[:12] + fields)).release())
-                self.raises(f"{of.__name__} {number}, cut", oaut.Malformed, lambda: item_of(scripted(DONE + fields[:-1])).Any)
+                self.raises(f"{of.__name__} {number} where nothing stands", oaut.ProtocolError, lambda: item_of(scripted(DONE[:12] + fields)).release())
+                self.raises(f"{of.__name__} {number}, cut", oaut.ProtocolError, lambda: item_of(scripted(DONE + fields[:-1])).Any)
 
     def test_tags(self):
         rising = scripted(DONE, DONE, answer(SEVEN))
@@ -115,7 +115,7 @@ class Records(ClientCases):
                     for number in range(4):
                         item_of(last).Count = number
                 self.tell("a batch over the last tag", right)
-            except oaut.Malformed:
+            except oaut.ProtocolError:
                 self.tell("a reply of another tag in a batch", not right)
 
     def test_groups(self):

@@ -45,7 +45,7 @@ NO_OTHER = (stores.HEADS[0], bytes(32)), (OTHER, bytes(8))
 CASES = [
     # name, what is changed, what is there, whether anything was lost, what is told
     ("nothing is damaged", [], ALL, False, []),
-    ("an event", [(GATES[3] + 5, b"\9")], left_by(3), True, [f"at {GATES[3]}: the group there is damaged: it and 1 behind it, as far as {FOUND.gate}"]),
+    ("an event", [(GATES[3] + 5, b"\9")], left_by(3), True, [f"at {GATES[3]}: the group there is damaged: it and 1 after it, as far as {FOUND.gate}"]),
     ("an event that does not apply", [(GATES[3] + 6, struct.pack("<I", 9))], left_by(3), True, [f"at {GATES[3]}: the group there is damaged"]),
     ("a gate", [(GATES[2], b"\7")], left_by(2), True, [f"at {GATES[2]}: the closed gate is 7, which none writes"]),
     ("the objects' number", [(TABLE + 4, b"\xff")], ALL, False, [f"at {TABLE}: the snapshot is damaged: bank 0 has all of it"]),
@@ -64,7 +64,7 @@ CASES = [
         [(cell(2, COUNT) + 22, b"\xee"), *NO_OTHER],
         ALL.replace(next(it for it in ALL.splitlines(True) if it.endswith("030002000000\n")), "", 1),
         True,
-        [f"at {cell(2, COUNT)}: 28 bytes of the snapshot, behind object 2"],
+        [f"at {cell(2, COUNT)}: 28 bytes of the snapshot, after object 2"],
     ),
     (
         "an object, and the other bank",
@@ -82,7 +82,7 @@ CASES = [
         False,
         [f"at {stores.HEADS[1]}: the head says 77 bytes of snapshot: they are {FIRST - TABLE}"],
     ),
-    ("the selector", [(stores.SELECTOR, b"\0")], ALL, False, [f"at {stores.SELECTOR}: bank 1 goes on where bank 0 ends: it is the one in use"]),
+    ("the selector", [(stores.SELECTOR, b"\0")], ALL, False, [f"at {stores.SELECTOR}: bank 1 continues bank 0: it is the one in use"]),
     ("the first byte", [(0, b"\0")], ALL, True, ["at 0: the first byte is not 1"]),
     (
         "the bank in use",
@@ -91,7 +91,7 @@ CASES = [
         True,
         [f"at {stores.HEADS[1]}: nothing of bank 1; bank 0 has what was there before it"],
     ),
-    ("the library", [(BODY + 100, b"\xff")], ALL, True, [f"at {BODY}: the library of bank 0 stands for it"]),
+    ("the library", [(BODY + 100, b"\xff")], ALL, True, [f"at {BODY}: the library of bank 0 is used instead"]),
 ]
 
 
@@ -134,7 +134,7 @@ class Salvage(ClientCases):
             fill(room, {"it.store": changed((GATES[4] + 5, b"\9"))})
             status, out, err = command("salvage", path, f"{room}/new", *program)
             told = f"at {GATES[4]}: the group there is damaged: "
-            told += f"it and 0 behind it, as far as {FOUND.gate}\n"
+            told += f"it and 0 after it, as far as {FOUND.gate}\n"
             wanted = "next 7, objects 5, cells 7, groups 4\nnot all of it: see above\n"
             self.tell("what it says", (status, out.startswith(told), out.endswith(wanted), err) == (1, True, True, ""), (status, out, err))
             self.same("never over a file", (command("salvage", path, f"{room}/new", *program)[0], command("salvage", path, path, *program)[0]), (1, 1))

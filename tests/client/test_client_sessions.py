@@ -1,18 +1,22 @@
 """How the client keeps a session: interrupts, sessions that are dropped, threads, connections that are dialled again, groups, and stores
 that open by themselves."""
 import contextlib
+import fcntl
 import gc
 import json
 import os
 import random
 import signal
 import socket
+import struct
 import subprocess
 import sys
 import tempfile
+import termios
 import threading
 import time
 import unittest
+from unittest import mock
 
 from clients import ENVIRONMENT, FULL, PROGRAM, ROOT, ClientCases, oaut, play
 from oaut import I4
@@ -95,26 +99,26 @@ class Sessions(ClientCases):
                         kind, count = draw.randrange(4), 0
                         armed = True
                         try:
-                            signal.setitimer(signal.ITIMER_REAL, draw.uniform(0.0001, 0.01), 0.2)
-                            while True:
-                                count += 1
-                                if kind == 0:
-                                    item.Count = count
-                                elif kind == 1:
-                                    item.Count
-                                elif kind == 2:
-                                    with server.batch():
-                                        for _ in range(700):
-                                            item.Count = count
-                                            item.Count
-                                else:
-                                    item.Name = "n" * draw.choice([1, 50_000])
+                            try:
+                                signal.setitimer(signal.ITIMER_REAL, draw.uniform(0.0001, 0.01), 2)
+                                while True:
+                                    count += 1
+                                    if kind == 0:
+                                        item.Count = count
+                                    elif kind == 1:
+                                        item.Count
+                                    elif kind == 2:
+                                        with server.batch():
+                                            for _ in range(700):
+                                                item.Count = count
+                                                item.Count
+                                    else:
+                                        item.Name = "n" * draw.choice([1, 50_000])
+                            finally:  # (where a busy machine is late, the alarm may have come again by now)
+                                armed = False
                         except Interrupted:
-                            hits += 1
-                        finally:
                             armed = False
-                        # (an interrupt at the very end of a block may leave its batch open)
-                        server.begin(None)
+                            hits += 1
                         item.Count = turn
                         wrong += item.Count != turn
                     self.same(f"interrupted requests, {framing}", (wrong, hits), (0, 60))
@@ -141,14 +145,14 @@ class Sessions(ClientCases):
 
             before = signal.signal(signal.SIGALRM, interrupt)
             try:
-                signal.setitimer(signal.ITIMER_REAL, 0.2, 5)
+                signal.setitimer(signal.ITIMER_REAL, 1, 5)
                 self.raises("an interrupt", Interrupted, lambda: setattr(server.object(1, "Item"), "Name", "n" * 131_072))
             finally:
                 signal.setitimer(signal.ITIMER_REAL, 0)
                 signal.signal(signal.SIGALRM, before)
             del server
             gc.collect()
-            self.tell("one that is stuck is killed", child.returncode == -signal.SIGKILL and time.monotonic() - begun < 30, child.returncode)
+            self.tell("one that is stuck is killed", child.returncode == -signal.SIGKILL and time.monotonic() - begun < 120, child.returncode)
 
     def test_a_session_that_is_dropped_while_a_reply_is_late(self):
         """The program writes each reply a while behind the one before: what ended the group finds a reader, and so its end is no fault."""
@@ -207,7 +211,8 @@ class Sessions(ClientCases):
             answering.start()
             server = oaut.connect(ours)
             server.exchange([oaut.records.ask_list()])
-            server.close()
+            with mock.patch.object(oaut.connection, "WAIT_FOR_LAST", 60):  # (a busy machine's answer may take more than a second)
+                server.close()
             answering.join(300)
             theirs.sendall(b"next")
             self.same("what is read next", ours.recv(100), b"next")
@@ -271,6 +276,13 @@ class Dialled(ClientCases):
             time.sleep(0.01)
         return seen[count - 1]
 
+    def kill_once_asked(self, sock, child):
+        """Kills what serves a client, and is stopped, once something was sent to it."""
+        until = time.monotonic() + 60
+        while not struct.unpack("i", fcntl.ioctl(sock, termios.TIOCOUTQ, bytes(4)))[0] and time.monotonic() < until:
+            time.sleep(0.01)
+        child.kill()
+
     def let_go(self, seen, count):
         child = self.server(seen, count)
         child.kill()
@@ -291,19 +303,19 @@ class Dialled(ClientCases):
                     item.Grid = [1, 2]
                     item.Grid.lock()
                     self.let_go(seen, 3)
-                    self.raises("locks go with a connection", oaut.Stopped, lambda: item.Count, may_stand=False)
+                    self.raises("locks go with a connection", oaut.SessionEnded, lambda: item.Count, may_stand=False)
                     self.same("no other is made", len(seen), 3)
                 server = oaut.connect(f"{room}/socket", timeout=60)
                 item = server.object(1, "Item")
                 fourth = self.server(seen, 4)
                 server._connection.drop()
                 os.kill(fourth.pid, signal.SIGSTOP)
-                threading.Timer(0.2, fourth.kill).start()
+                threading.Thread(target=self.kill_once_asked, args=(server._connection.reader, fourth), daemon=True).start()
                 self.raises(
                     "nothing is behind a request that was sent and not answered",
-                    oaut.Stopped,
+                    oaut.SessionEnded,
                     lambda: setattr(item, "Count", 9),
-                    "the server has ended; what was asked is done or not, wholly",
+                    "the server has ended; a request without a reply was executed completely or not at all",
                     may_stand=True,
                 )
                 self.same("no connection is made for it", len(seen), 4)
@@ -445,7 +457,7 @@ class Atomic(ClientCases):
                             for item in items:
                                 item.Count = last + 1
                         last += 1
-                except oaut.Stopped:
+                except oaut.SessionEnded:
                     server.close()
                 with serve(path) as server:
                     items = server.objects()
@@ -468,10 +480,10 @@ class Opening(ClientCases):
             with serve(path) as server:
                 self.same("a store that is opened by its own library", server.object(1, "Item").Count, I4(7))
             self.raises("another library", oaut.LibraryDiffers, lambda: serve(path, SMALL), status=3, fault="oaut: library differs")
-            self.raises("no store", FileNotFoundError, lambda: serve(f"{path}.none"))
-            self.raises("no store, and no library", FileNotFoundError, lambda: open_(f"{path}.none"))
-            self.raises("what is no store", oaut.Stopped, lambda: serve(FULL), fault="oaut: not a store")
-            self.raises("no library, so nothing was asked", oaut.Stopped, lambda: play(f"{path}.none"), cause="No such file or directory", may_stand=False)
+            self.raises("no store", oaut.NoSuchFile, lambda: serve(f"{path}.none"))
+            self.raises("no store, and no library", oaut.NoSuchFile, lambda: open_(f"{path}.none"))
+            self.raises("what is no store", oaut.SessionEnded, lambda: serve(FULL), fault="oaut: not a store")
+            self.raises("no library, so nothing was asked", oaut.NoSuchFile, lambda: play(f"{path}.none"), cause="No such file or directory", may_stand=False)
 
     def test_opening(self):
         with tempfile.TemporaryDirectory() as room:
@@ -486,7 +498,9 @@ class Opening(ClientCases):
                     )
                     server.create("Item").Count = count + 1
             self.same("members of the new library", "Cell" in dir(items[0]), True)
-            lost = self.raises("a library that loses something", oaut.NotKept, lambda: open_(path, SMALL), lost="Item.Name of DItem, DISPID 2", dispid=2)
+            lost = self.raises(
+                "a library that loses something", oaut.IncompatibleLibrary, lambda: open_(path, SMALL), lost="Item.Name of DItem, DISPID 2", dispid=2
+            )
             self.same("what it says", "the new library does not keep Item.Name of DItem" in str(lost), True)
             with serve(path, FULL) as server:
                 self.same("nothing was changed", len(server.objects()), 5)
@@ -533,7 +547,7 @@ class Opening(ClientCases):
             old = stores.formatted_before(canonical)
             with open(path, "wb") as file:
                 file.write(old)
-            self.raises("one that loses something", oaut.NotKept, lambda: open_(path, other, upgrade=True), lost="Item.Name of DItem, DISPID 2")
+            self.raises("one that loses something", oaut.IncompatibleLibrary, lambda: open_(path, other, upgrade=True), lost="Item.Name of DItem, DISPID 2")
             with open(path, "rb") as file:
                 self.tell("the file is as it was", file.read() == old)
 
@@ -549,10 +563,10 @@ class Opening(ClientCases):
             wanted = {"fault": fault, "line": int(place[0]), "column": int(place[1])}
             with stores_of() as path, serve(path) as server:
                 for name, act, kind in (
-                    ("play", lambda: play(wrong), oaut.Stopped),
-                    ("serve", lambda: serve(path, wrong), oaut.Stopped),
-                    ("make_store", lambda: oaut.make_store(f"{room}/no.store", wrong, program=PROGRAM), oaut.Stopped),
-                    ("open", lambda: open_(f"{room}/no.store", wrong), oaut.Stopped),
+                    ("play", lambda: play(wrong), oaut.SessionEnded),
+                    ("serve", lambda: serve(path, wrong), oaut.SessionEnded),
+                    ("make_store", lambda: oaut.make_store(f"{room}/no.store", wrong, program=PROGRAM), oaut.SessionEnded),
+                    ("open", lambda: open_(f"{room}/no.store", wrong), oaut.SessionEnded),
                     ("replace_library", lambda: server.replace_library(wrong), oaut.BadStub),
                 ):
                     try:

@@ -20,10 +20,10 @@ class Stores(ClientCases):
         with tempfile.TemporaryDirectory() as room:
             STORE = f"{room}/it.store"
             serve = lambda **how: oaut.serve(STORE, FULL, program=PROGRAM, **how)
-            self.raises("a store that is not there", oaut.Stopped, serve, status=1, fault=f"oaut: cannot read {STORE}", cause="No such file or directory")
+            self.raises("a store that is not there", oaut.NoSuchFile, serve, status=1, fault=f"oaut: cannot read {STORE}", cause="No such file or directory")
             self.raises(
                 "no store for a library that is not there",
-                oaut.Stopped,
+                oaut.NoSuchFile,
                 lambda: oaut.make_store(STORE, "/none.idl", program=PROGRAM),
                 status=1,
                 fault="oaut: cannot read /none.idl",
@@ -102,7 +102,7 @@ class Stores(ClientCases):
             item.Count = 8
             os.kill(server._connection.child.pid, signal.SIGKILL)
             server._connection.child.wait()
-            self.raises("a server that was killed", oaut.Stopped, lambda: item.Count, status=-signal.SIGKILL)
+            self.raises("a server that was killed", oaut.SessionEnded, lambda: item.Count, status=-signal.SIGKILL)
             with serve() as server:
                 self.same("what was put before a kill", server.object(1, "Item").Count, I4(8))
                 server.object(1, "Item").release()
@@ -120,10 +120,35 @@ class Stores(ClientCases):
                 bank = 8_192 + 16_777_216 * (file.read(1)[0] % 2)
                 file.seek(bank)
                 file.write(b"X")
-            self.raises("a store that is damaged", oaut.Stopped, serve, status=3, fault=f"oaut: damaged at {bank}")
+            self.raises("a store that is damaged", oaut.SessionEnded, serve, status=3, fault=f"oaut: damaged at {bank}")
             oaut.make_store(STORE, FULL, program=PROGRAM, replace=True)
             with serve() as server:
                 self.same("a store that begins anew", [server.objects(), server.create("Item").number], [[], 1])
+
+    def test_a_program_elsewhere(self):
+        """A program that words start sees files that this process may not see: it runs in another folder here. No store there begins anew without being asked to."""
+        with tempfile.TemporaryDirectory() as room:
+            words, path = ["env", "-C", room, PROGRAM], "elsewhere.store"
+            store = f"{room}/{path}"
+            make = lambda **how: oaut.make_store(path, FULL, program=words, **how)
+            make()
+            with oaut.serve(path, FULL, program=words) as server:
+                server.create("Item").Count = 7
+            self.raises("a store that is there", FileExistsError, make)
+            for turn in (1, 2):
+                with oaut.open(path, FULL, program=words) as server:
+                    self.same(f"what is opened for the {turn}. time has its objects", [it.Count for it in server.objects()], [7])
+            with oaut.serve(path, FULL, program=words) as server:
+                self.raises("a store in use", FileExistsError, make)
+                self.same("which goes on", [it.Count for it in server.objects()], [7])
+            with open(store, "r+b") as file:
+                file.write(b"\2")
+            self.raises("what is no store", FileExistsError, make)
+            self.raises("a program that does not start", oaut.SessionEnded, lambda: oaut.make_store("other", FULL, program=["false"]), status=1)
+            self.raises("a folder that is not there", oaut.NoSuchFile, lambda: oaut.make_store("none/it.store", FULL, program=words))
+            make(replace=True)
+            with oaut.open(path, FULL, program=words) as server:
+                self.same("one that begins anew, as was asked", server.objects(), [])
 
     def test_more_than_a_store_holds(self):
         with play(FULL) as server:
@@ -168,17 +193,17 @@ class Stores(ClientCases):
                         item = server.create("Item")
                         item.Count = 7
                         self.raises(f"a device that fails, groups of {group}", oaut.WriteFault, lambda: setattr(item, "Count", 8))
-                        self.raises(f"a read behind it, groups of {group}", oaut.Failed, lambda: item.Count)
+                        self.raises(f"a read behind it, groups of {group}", oaut.StoreFailed, lambda: item.Count)
                         try:
                             with server.batch() as batch:
                                 item.Count = 9
                                 later = item.Count
                             self.tell("a batch behind a device that fails", False, "no exception")
-                        except oaut.Failed:
+                        except oaut.StoreFailed:
                             self.same(
                                 f"a batch behind it, groups of {group}",
                                 [(place, type(it)) for place, it in batch.failures],
-                                [(0, oaut.Failed), (1, oaut.Failed)],
+                                [(0, oaut.StoreFailed), (1, oaut.StoreFailed)],
                             )
                     with oaut.serve(store, FULL, program=PROGRAM) as server:
                         self.tell(f"what the store holds then, groups of {group}", server.object(1, "Item").Count in (7, 8))
@@ -208,7 +233,7 @@ class Renewed(ClientCases):
                 item.Name = "x"
                 self.same("attributes follow the new library", [item.Name, item.Count], ["x", I4(7)])
                 lost = raised_by(lambda: server.replace_library(small))
-                self.same("what is not kept", (type(lost), lost.lost, lost.dispid), (oaut.NotKept, "Item.Name of DItem, DISPID 2", 2))
+                self.same("what is not kept", (type(lost), lost.lost, lost.dispid), (oaut.IncompatibleLibrary, "Item.Name of DItem, DISPID 2", 2))
                 self.raises("no library", oaut.faults.LibraryNotTaken, lambda: server.replace_library(f"{ROOT}/README.md"))
                 item.Count = 8
             told = dumps.dump(path)
@@ -223,7 +248,7 @@ class Renewed(ClientCases):
             dumps.restore(told, f"{room}/under", f"{room}/more.idl", program=PROGRAM)
             with oaut.serve(f"{room}/under", f"{room}/more.idl", program=PROGRAM) as server:
                 self.same("what is restored under another library", [server.object(1, "Item").More, server.object(1, "Item").Count], [I4(0), I4(8)])
-            self.raises("under one that does not keep it", oaut.NotKept, lambda: dumps.restore(told, f"{room}/lost", small, program=PROGRAM))
+            self.raises("under one that does not keep it", oaut.IncompatibleLibrary, lambda: dumps.restore(told, f"{room}/lost", small, program=PROGRAM))
             self.same("no store is left of it", os.path.exists(f"{room}/lost"), False)
 
     def test_upgrades_and_banks(self):
@@ -249,5 +274,5 @@ def raised_by(act):
     """The fault that an act raises, or what it gives."""
     try:
         return act()
-    except oaut.Fault as fault:
+    except oaut.Error as fault:
         return fault

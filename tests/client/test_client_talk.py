@@ -6,8 +6,12 @@ import subprocess
 import sys
 import tempfile
 import time
+from decimal import Decimal
 
-from clients import ASKED, ENVIRONMENT, FULL, PROGRAM, ROOT, ClientCases, hexed, oaut
+from clients import ASKED, ENVIRONMENT, FULL, PROGRAM, ROOT, ClientCases, hexed, oaut, play
+from oaut.paths import text_file
+from oaut.talk import Talk
+from oaut.words import value_of
 
 with open(f"{ROOT}/examples/first.hex") as asked, open(f"{ROOT}/examples/first.out") as answered:
     FIRST, REPLIES = asked.read(), answered.read()
@@ -119,6 +123,13 @@ UP, END = "\x10", "\x04"
 
 
 class Talking(ClientCases):
+    def test_what_stands_after_a_whole_command_is_refused(self):
+        """It would else be passed over: `release 1 2` released one object."""
+        for line, more in (("release 1 2", "2"), ("lock 1 Grid 5", "5"), ("unlock 1 Grid 5", "5"), ("call 1 Clear() 7", "7")):
+            given = f"create Item\ncreate Item\nput 1 Grid [1]\n{line}\n"
+            status, out, said = command(["talk", FULL, "--program", PROGRAM], given)
+            self.same(line, (status, out, said), (1, "<Item 1>\n<Item 2>\n", f"line 4: not expected: {more}\n"))
+
     def test_commands(self):
         status, out, err = command(["talk", FULL, "--program", PROGRAM], COMMANDS)
         self.tell("commands of the prompt", (status, out[: len(SAID)], err) == (0, SAID, ""), (status, out, err))
@@ -141,7 +152,9 @@ class Talking(ClientCases):
             ):
                 self.same(f"a prompt over a store, library {library}", command(["talk", *library, *over], given), (0, said, ""))
         status, out, err = command(["talk", "--program", PROGRAM], "")
-        self.tell("a prompt over nothing", (status, out) == (2, "") and err.endswith("talk takes LIB, or --store STORE\n"), (status, out, err))
+        self.tell(
+            "a prompt over nothing", (status, out) == (2, "") and err.endswith("talk takes LIB, --store STORE or --connect ADDRESS\n"), (status, out, err)
+        )
         for line in ("nothing", "get 5 Count", "get 1 none", "put 1 Count", "put 1 Count )", "get 1 Cell[", "create None", "get x", "get 1"):
             status, out, err = command(["talk", FULL, "--program", PROGRAM], f"create Item\n{line}\n")
             self.tell(
@@ -149,6 +162,21 @@ class Talking(ClientCases):
                 (status, out) == (1, "<Item 1>\n") and err.startswith("line 2: ") and "Traceback" not in err,
                 (status, out, err),
             )
+
+    def test_arguments_keep_their_digits(self):
+        """A number in brackets is the one that was typed, as one behind them is: with all of its digits, and its zeros."""
+        said, keyed = [], "    methods:\n      [id(2), propget] BSTR At([in] VARIANT Key);\n"
+        keyed += "      [id(2), propput] void At([in] VARIANT Key, [in] BSTR Value);\n  };\n\n  [uuid"
+        with open(f"{ROOT}/examples/small.idl") as file, text_file(file.read().replace("  };\n\n  [uuid", keyed).encode()) as library, play(library) as server:
+            item, prompt = server.create("Item"), Talk(server, said.append)
+            prompt.onecmd('put 1 At[0.1234567890123456789] "long"')
+            prompt.onecmd('put 1 At(Key=2.50) "zero"')
+            item.At[Decimal("2.5")] = "none"
+            keys = [Decimal(it) for it in ("0.1234567890123456789", "2.50", "2.5")]
+            self.same("what is put", [item.At[it] for it in keys], ["long", "zero", "none"])
+            prompt.onecmd("get 1 At(2.50)")
+            self.same("what is got", said, ["'zero'"])
+        self.same("blanks in front", (value_of("  12.75"), value_of("\t 2.50 ")), (Decimal("12.75"), Decimal("2.50")))
 
     def test_a_prompt_on_a_terminal(self):
         status, said = typed_at_a_prompt("cre\t it\t\n", "put 1 Cou\t 7\n", "get 1 cOUN\t\n", "nothing\n", UP + UP + "\n", END)

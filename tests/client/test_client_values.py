@@ -4,7 +4,7 @@ import struct
 from decimal import Decimal
 
 from clients import GRID, HI, LIBRARY, NULL_TEXT, TABLES, VARIANTS, ClientCases, hexed, oaut
-from oaut import EMPTY, I1, I2, I4, I8, INT, NULL_BSTR, UI1, UI2, UI4, UI8, UINT, VT, Array, Currency, Error
+from oaut import EMPTY, I1, I2, I4, I8, INT, NULL_BSTR, UI1, UI2, UI4, UI8, UINT, VT, Array, Currency, SCode
 
 SPELLED = [
     (I4(7), hexed("03000000 00000000 0300 0000 0000 0000 03000000 07000000")),
@@ -16,7 +16,7 @@ SPELLED = [
     ("Hi", HI),
     (b"\x41\x00\x42", hexed("05000000 00000000 0800 0000 0000 0000 08000000 00000200 02000000 03000000 02000000 41004200")),
     (Currency("2.5"), hexed("04000000 00000000 0600 0000 0000 0000 06000000 00000000 a861000000000000")),
-    (Error(0x8000_4005), hexed("03000000 00000000 0a00 0000 0000 0000 0a000000 05400080")),
+    (SCode(0x8000_4005), hexed("03000000 00000000 0a00 0000 0000 0000 0a000000 05400080")),
     (Decimal(f"{2**96 - 1}E-28"), hexed("05000000 00000000 0e00 0000 0000 0000 0e000000 00000000 0000 1c 00 ffffffff ffffffffffffffff")),
     (Decimal("-0.00"), hexed("05000000 00000000 0e00 0000 0000 0000 0e000000 00000000 0000 02 80 00000000 0000000000000000")),
     (Array(I2, [(2, -1), (3, 5)], range(1, 7)), GRID),
@@ -34,7 +34,7 @@ PLAIN = [
     (Decimal("2.5"), VT.CY, Currency("2.5")),
     (Decimal("0.00005"), VT.CY, Decimal("0.00005")),
     (-5, VT.DECIMAL, Decimal(-5)),
-    (5, VT.ERROR, Error(5)),
+    (5, VT.ERROR, SCode(5)),
     (True, VT.I4, True),
     (I8(5), VT.I4, I8(5)),
     (None, VT.BSTR, NULL_BSTR),
@@ -76,7 +76,7 @@ WORDS = [
     b"abc",
     Currency("2.5"),
     Decimal("-2.50"),
-    Error(0x8002_0004),
+    SCode(0x8002_0004),
     SHEET,
     Array(object, [(2, 0)], [None, "x"]),
 ]
@@ -91,7 +91,7 @@ class Values(ClientCases):
         self.same("a negative zero of a DECIMAL", str(oaut.read_field(oaut.spell(Decimal("-0.00")))), "-0.00")
         self.same("units of a Currency", Currency("-3.5").units, -35_000)
         self.same("an amount and its type", (Currency(2) + Decimal("0.5"), type(oaut.read_field(oaut.spell(Currency(2))))), (Decimal("2.5"), Currency))
-        for of in (I1, UI1, I2, UI2, I4, UI4, I8, UI8, INT, UINT, Error):
+        for of in (I1, UI1, I2, UI2, I4, UI4, I8, UI8, INT, UINT, SCode):
             for number in (of.low, of.high):
                 self.same(f"{of.__name__} {number}", oaut.read_field(oaut.spell(of(number))), of(number))
             self.raises(f"a number above {of.__name__}", OverflowError, lambda: of(of.high + 1))
@@ -103,7 +103,7 @@ class Values(ClientCases):
         for value, told, said in (
             (I4(-7), "I4(-7)", "-7"),
             (UI8(5), "UI8(5)", "5"),
-            (Error(0x8000_4005), "Error(0x80004005)", "2147500037"),
+            (SCode(0x8000_4005), "SCode(0x80004005)", "2147500037"),
             (Currency("2.5"), "Currency('2.5000')", "2.5000"),
         ):
             self.same(f"{told} in texts", (repr(value), str(value), f"{value}"), (told, said, said))
@@ -144,6 +144,12 @@ class Values(ClientCases):
         self.raises("a ten-thousandth's half", ValueError, lambda: Currency("0.00005"))
         self.raises("an amount too large", OverflowError, lambda: Currency(2**63 // 10_000 + 1))
 
+    def test_cells_that_are_true_or_false(self):
+        given = [True, False, 1, 0, I2(7), UI8(0)]
+        self.same("what is a number", oaut.read_field(oaut.spell(given, oaut.ARRAY + VT.BOOL)), Array(bool, [(6, 0)], [True, False] * 3))
+        for wrong in ("False", "", None, EMPTY, Decimal(0), 0.0, [False], b"\0"):
+            self.raises(f"{wrong!r}", TypeError, lambda: oaut.spell([True, wrong], oaut.ARRAY + VT.BOOL))
+
     def test_texts_with_half_a_surrogate_pair(self):
         for code in range(0xD7FF, 0xE001):
             text = chr(code) + "x" + chr(code)
@@ -162,10 +168,10 @@ class Values(ClientCases):
         for good, at, form, number, of_type in SPOILED:
             bad = bytearray(good)
             struct.pack_into("<" + form, bad, at, number)
-            self.raises(f"a field with {number} at {at}", oaut.Malformed, lambda: oaut.read_field(bytes(bad)), unknown_type=of_type)
+            self.raises(f"a field with {number} at {at}", oaut.ProtocolError, lambda: oaut.read_field(bytes(bad)), unknown_type=of_type)
         for good in (HI, GRID, VARIANTS, *(field for _, field in SPELLED)):
             for cut in (good[:-1], good[:19], good + b"\0"):
-                self.raises("a field of another length", oaut.Malformed, lambda: oaut.read_field(cut))
+                self.raises("a field of another length", oaut.ProtocolError, lambda: oaut.read_field(cut))
 
     def test_bytes_that_are_read_anyhow(self):
         for good, at, form, number in READ_ANYHOW:
@@ -186,7 +192,7 @@ class Values(ClientCases):
         for of in (I1, UI1, I2, UI2, I4, UI4, I8, UI8, INT, UINT, Currency, bool, str, object):
             self.same(f"the array of no cells of {of.__name__}", len(oaut.spell(Array(of, [(0, 0)]))), 68)
         self.raises("an index outside", IndexError, lambda: grid[1, 5])
-        self.raises("an index too few", IndexError, lambda: grid[0])
+        self.raises("an index too few, outside", IndexError, lambda: grid[2], "1 indices for 2 bounds, -1 to 0 and 5 to 7")
         self.raises("lists of several lengths", ValueError, lambda: Array.of([[1], [2, 3]]))
         self.raises("a number for a list", ValueError, lambda: Array.of([[1], 2]))
         self.raises("a cell too large", OverflowError, lambda: oaut.spell([40_000], oaut.ARRAY + VT.I2))

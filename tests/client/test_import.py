@@ -1,4 +1,4 @@
-"""What an automation server has brought in: MIDL text by the client, type libraries by clients/com/tlb2idl.c, each by the rules of docs/import.md, and
+"""What an automation server has brought in: MIDL text by the client, type libraries by clients/com/tlb2idl.c, each by the rules of docs/guide/import.md, and
 both the same of one source. What is not installed leaves its tests out, each by its name."""
 import functools
 import glob
@@ -6,6 +6,7 @@ import os
 import random
 import re
 import shutil
+import struct
 import subprocess
 import sys
 import tempfile
@@ -15,11 +16,11 @@ import unittest.mock
 import imported
 from clients import ENVIRONMENT, PROGRAM, ROOT, ClientCases, oaut
 from oaut import importing, midl
-from under_wine import COM, TESTS, TIMEOUT, Wine, built, left_out, needs_wine, plain, text, windows, write
+from under_wine import COM, TESTS, TIMEOUT, Wine, built, left_out, needs_wine, text, windows, write
 
 WIDL = shutil.which("x86_64-w64-mingw32-widl") or shutil.which("widl")
 GUID = "11223344-5566-7788-99aa-bbccddeeff"
-SECONDS = 60
+SECONDS = 300
 
 
 def library(items, before=""):
@@ -211,7 +212,9 @@ class Text(ClientCases):
         )
         self.same("members", members_of(made.text), ["[id(2)] void A();", "[id(3)] void B();"])
         self.same("no number", made.lines, ["I.C, DISPID none, method: no DISPID"])
-        self.tell("what is not read", len(made._reader.notes) == 1 and made._reader.notes[0].endswith("not read: `*` where `(` should be"), made._reader.notes)
+        *words, last = made._reader.notes
+        self.same("words that are no constants of the library", words, [f"#define {it}: a library has no constants" for it in ("ONE", "TWO", "MEMBER")])
+        self.tell("what is not read", last.endswith("not read: `*` instead of `(`"), last)
 
     def test_limits(self):
         many = "".join(
@@ -366,11 +369,8 @@ class Libraries(ClientCases):
         out = f"{self.room}/out.idl"
         if os.path.exists(out):
             os.remove(out)
-        words = ["wine", f"{self.room}/tlb2idl.exe", windows(path), "-o", windows(out), *words]
-        done = subprocess.run(
-            words, env=self.wine.env, cwd=self.room, stdin=subprocess.DEVNULL, stdout=subprocess.DEVNULL, stderr=subprocess.PIPE, timeout=TIMEOUT
-        )
-        return done.returncode, text(out) if os.path.exists(out) else "", plain(done.stderr)
+        status, said = self.wine.said(f"{self.room}/tlb2idl.exe", windows(path), "-o", windows(out), *words)
+        return status, text(out) if os.path.exists(out) else "", said
 
     def compiled(self, source, *words):
         """A type library of MIDL text; None where widl makes none of it."""
@@ -434,6 +434,25 @@ class Libraries(ClientCases):
         self.same("no file", (status, got), (1, ""))
         for words in (["--double=BSTR"], ["--what"], ["second"]):
             self.same(f"words: {words}", self.run_it(f"{self.room}/none.tlb", *words)[0], 2)
+
+    @unittest.skipUnless(os.path.exists(f"{imported.TYPELIBS}/stdole2.tlb"), "libwine is not there")
+    def test_interfaces_that_are_their_own_bases(self):
+        """The system's reader has no end of them: its stack overflows, and Wine ends that thread without a word."""
+        with open(f"{imported.TYPELIBS}/stdole2.tlb", "rb") as file:
+            made = bytearray(file.read().partition(b"MSFT")[2])
+        made[:0] = b"MSFT"
+        flags, count = struct.unpack_from("<I", made, 20)[0], struct.unpack_from("<I", made, 32)[0]
+        first = struct.unpack_from("<I", made, 84 + (4 if flags & 0x100 else 0) + 4 * count)[0]
+        interfaces = [it for it in range(first, first + 100 * count, 100) if made[it] & 15 in (3, 4)]
+        for it in interfaces:
+            made[it + 0x30] |= 0x40  # dual
+            struct.pack_into("<H", made, it + 0x4C, 1)  # how many bases it has
+            struct.pack_into("<I", made, it + 0x54, it - first)  # and which
+        with open(f"{self.room}/spoiled.tlb", "wb") as file:
+            file.write(made)
+        self.tell("interfaces", len(interfaces) > 5, interfaces)
+        line = f"tlb2idl: {windows(self.room)}\\spoiled.tlb: the system's reader crashed\n"
+        self.same("its end", self.run_it(f"{self.room}/spoiled.tlb"), (1, "", line))
 
 
 @left_out("gcc")

@@ -1,133 +1,41 @@
 """The page of `python3 -m oaut view`: who is let in, what it answers, and what a person sees of it in a browser."""
 import contextlib
-import functools
 import http.client
 import json
 import os
-import shutil
-import struct
 import subprocess
-import sys
 import tempfile
 import time
 import unittest
 
 from clients import ARRAYS, ENVIRONMENT, ClientCases, oaut
 from gateways import Gateway, built, left_out
-from oaut import store as stores
-from running import FULL_TEXT, PROGRAM, TESTS
-
-TOKEN = "word-of-a-test"
-SCRIPT = "<script>document.title = 'taken'</script><img src=x onerror=\"document.title = 'taken'\">"
-# the time that a page has for what is to be seen
-SOON = 20
+from running import FULL_TEXT, PROGRAM
+from viewing import OBJECTS, SOON, TOKEN, Browsed, Page, long_value, needs_browser, needs_page, python_with, store_with, text_content
 
 
-@functools.lru_cache(maxsize=None)
-def python_with(*modules):
-    """A Python that has these modules, this one or the system's."""
-    for it in (sys.executable, "/usr/bin/python3"):
-        words = [it, "-c", "".join(f"import {name}\n" for name in modules)]
-        if os.path.exists(it) and not subprocess.run(words, capture_output=True).returncode:
-            return it
-    return None
-
-
-class Page:
-    """The page over a store, or over a session behind a socket, with its port."""
-
-    def __init__(self, *words):
-        environment = {**ENVIRONMENT, "OAUT_VIEW_TOKEN": TOKEN}
-        words = [python_with("aiohttp"), "-m", "oaut", "view", "--listen", "127.0.0.1:0", "--program", PROGRAM, *words]
-        self.child = subprocess.Popen(words, env=environment, stdout=subprocess.PIPE, stderr=subprocess.PIPE, text=True)
-        self.address = self.child.stdout.readline().strip()
-        if not self.address:
-            raise AssertionError(self.child.communicate()[1])
-        self.host = self.address.split("/")[2]
-        self.cookie = self.ask("GET", f"/?token={TOKEN}").headers["Set-Cookie"].split(";")[0]
-
-    def __enter__(self):
-        return self
-
-    def __exit__(self, *_):
-        self.child.terminate()
-        try:
-            self.child.communicate(timeout=30)
-        finally:
-            self.child.kill()
-
-    def ask(self, method, path, body=None, **headers):
-        """An answer with its status, headers and text."""
-        link = http.client.HTTPConnection(self.host, timeout=30)
-        given = {it.replace("_", "-"): word for it, word in headers.items()}
-        link.putrequest(method, path, skip_host="Host" in given)
-        data = None if body is None else json.dumps(body).encode()
-        for name, word in {**given, **({} if data is None else {"Content-Length": str(len(data))})}.items():
-            link.putheader(name, word)
-        link.endheaders(data)
-        answer = link.getresponse()
-        answer.text = answer.read().decode()
-        link.close()
-        return answer
-
-    def told(self, path, body=None):
-        """What the page's own script is told."""
-        own = {"Cookie": self.cookie, "Origin": f"http://{self.host}", "Content_Type": "application/json"}
-        return json.loads(self.ask("GET" if body is None else "POST", f"/api/{path}", body, **own).text)
-
-
-def text_content(text):
-    data = text.encode("utf-16-le")
-    return stores.BSTR, struct.pack("<I", len(data)) + data
-
-
-def store_with(path, objects):
-    """A store of the full library, whose objects have these cells by DISPID and key."""
-    coclass, face = (bytes.fromhex("443322116655887799aabbccddeeff0" + it) for it in "32")
-    table = {number: (coclass, {(face, dispid, key): value for (dispid, key), value in cells.items()}) for number, cells in objects.items()}
-    image = stores.table_image(max(table, default=0) + 1, table)
-    with open(path, "wb") as file:
-        file.write(stores.laid(stores.formatted(FULL_TEXT), 2, 0, FULL_TEXT, image, stores.BANK))
-    return path
-
-
-def long_value(number):
-    return stores.I4, struct.pack("<i", number)
-
-
-GRID = stores.Array(stores.I2, [(2, -1), (3, 5)], [struct.pack("<h", it) for it in range(1, 7)])
-CUBE = stores.Array(stores.I2, [(2, 0), (2, 0), (2, 7)], [struct.pack("<h", it) for it in range(8)])
-KEY = (long_value(5), text_content("k"), (stores.I2, struct.pack("<h", 1)))
-OBJECTS = {
-    1: {(1, ()): long_value(7), (2, ()): text_content(SCRIPT), (8, ()): GRID, (9, KEY): text_content("x")},
-    2: {(1, ()): long_value(9), (2, ()): text_content("long " * 1_000), (8, ()): CUBE},
-    3: {(1, ()): long_value(-3), (2, ()): (stores.BSTR, struct.pack("<I", 3) + b"abc")},
-}
-
-
-@unittest.skipUnless(os.path.exists(PROGRAM), "the program is not there")
-@unittest.skipIf(python_with("aiohttp") is None, "no Python has aiohttp")
+@needs_page
 class Served(ClientCases):
     """What the page's server answers, without a browser."""
 
     def test_who_is_let_in(self):
         with tempfile.TemporaryDirectory() as room, Page(store_with(f"{room}/it.store", OBJECTS), "--write") as page:
-            own, rows = f"http://{page.host}", "/api/rows?coclass=Item"
+            own, rows, token = f"http://{page.host}", "/api/rows?coclass=Item", {"Authorization": f"Bearer {TOKEN}"}
             put = {"object": "1", "member": "Count", "words": "8"}
             json_type = {"Content_Type": "application/json"}
             for name, status, method, path, body, headers in (
-                ("the page's own question", 200, "GET", rows, None, {"Cookie": page.cookie, "Origin": own}),
-                ("without a cookie", 403, "GET", rows, None, {}),
-                ("with another one", 403, "GET", rows, None, {"Cookie": page.cookie[:-1] + "x"}),
-                ("the page without a token", 403, "GET", "/", None, {}),
-                ("with a wrong token", 403, "GET", "/?token=x", None, {}),
-                ("under another name", 403, "GET", rows, None, {"Cookie": page.cookie, "Host": "evil.example:80"}),
-                ("from another page", 403, "GET", rows, None, {"Cookie": page.cookie, "Origin": "http://evil.example"}),
-                ("a change from another page", 403, "POST", "/api/put", put, {"Cookie": page.cookie, "Origin": "null", **json_type}),
-                ("a change from nowhere", 403, "POST", "/api/put", put, {"Cookie": page.cookie, **json_type}),
-                ("a change as a form", 403, "POST", "/api/put", put, {"Cookie": page.cookie, "Origin": own, "Content_Type": "text/plain"}),
-                ("a change of the page", 200, "POST", "/api/put", put, {"Cookie": page.cookie, "Origin": own, **json_type}),
-                ("another path", 404, "GET", "/api/../etc/passwd", None, {"Cookie": page.cookie}),
+                ("the page's own question", 200, "GET", rows, None, {**token, "Origin": own}),
+                ("without a token", 403, "GET", rows, None, {}),
+                ("with another one", 403, "GET", rows, None, {"Authorization": f"Bearer {TOKEN[:-1]}x"}),
+                ("the page, which holds nothing of the store", 200, "GET", "/", None, {}),
+                ("the page under another name", 403, "GET", "/", None, {"Host": "evil.example:80"}),
+                ("under another name", 403, "GET", rows, None, {**token, "Host": "evil.example:80"}),
+                ("from another page", 403, "GET", rows, None, {**token, "Origin": "http://evil.example"}),
+                ("a change from another page", 403, "POST", "/api/put", put, {**token, "Origin": "null", **json_type}),
+                ("a change from nowhere", 403, "POST", "/api/put", put, {**token, **json_type}),
+                ("a change as a form", 403, "POST", "/api/put", put, {**token, "Origin": own, "Content_Type": "text/plain"}),
+                ("a change of the page", 200, "POST", "/api/put", put, {**token, "Origin": own, **json_type}),
+                ("another path", 404, "GET", "/api/../etc/passwd", None, token),
             ):
                 answer = page.ask(method, path, body, **headers)
                 self.same(name, answer.status, status)
@@ -137,9 +45,79 @@ class Served(ClientCases):
 
     def test_nothing_is_changed_unless_told(self):
         with tempfile.TemporaryDirectory() as room, Page(store_with(f"{room}/it.store", OBJECTS)) as page:
-            for path, body in (("put", {"object": "1", "member": "Count", "words": "8"}), ("undo", {}), ("replace", {"text": FULL_TEXT.decode()})):
+            for path, body in (
+                ("put", {"object": "1", "member": "Count", "words": "8"}),
+                ("put", {"object": "1", "member": "Grid", "cell": "-1,5", "words": "8"}),
+                ("put", {"object": "1", "member": "Cell", "keys": '["5", "new", ""]', "words": "8"}),
+                ("undo", {}),
+                ("create", {"coclass": "Item"}),
+                ("release", {"object": "1"}),
+                ("replace", {"text": FULL_TEXT.decode()}),
+            ):
                 self.tell(path, "error" in page.told(path, body))
             self.same("the value", page.told("value?object=1&member=Count")["text"], "7")
+            self.same("the objects", page.told("rows?coclass=Item")["of"], 3)
+
+    def test_cells_of_an_array(self):
+        """An element is changed alone, and taken back; what is wrong with it is said in words."""
+        with tempfile.TemporaryDirectory() as room, Page(store_with(f"{room}/it.store", OBJECTS), "--write") as page:
+
+            def cells():
+                return [[it["text"] for it in row] for row in page.told("array?object=1&member=Grid")["cells"]]
+
+            place = {"object": "1", "member": "Grid", "cell": "0,6"}
+            self.same("the words of a cell", page.told("words?object=1&member=Grid&cell=0%2C6"), {"words": "5", "exact": True})
+            done = page.told("put", {**place, "words": "0x10"})
+            self.same("a cell is put", done, {"value": {"type": "short", "text": "16", "number": True}, "undo": "Item 1, Grid[0,6]"})
+            self.same("and no other", cells(), [["1", "2", "3"], ["4", "16", "6"]])
+            self.same("it is taken back", page.told("undo", {}), {"object": 1, "member": "Grid"})
+            self.same("as it was", cells(), [["1", "2", "3"], ["4", "5", "6"]])
+            for name, given, says in (
+                ("no number", {**place, "words": "many"}, "Grid is declared short: the value is of another type (DISP_E_TYPEMISMATCH)"),
+                ("too large", {**place, "words": "70000"}, "Grid is declared short: the number is too large or too small (DISP_E_OVERFLOW)"),
+                ("outside", {**place, "cell": "1,6", "words": "1"}, "Grid is declared short: nothing has this index (DISP_E_BADINDEX)"),
+                ("one index of two", {**place, "cell": "0", "words": "1"}, "Grid is declared short: nothing has this index (DISP_E_BADINDEX)"),
+                ("no index", {**place, "cell": "a", "words": "1"}, "cell is no list of indices"),
+            ):
+                self.same(name, page.told("put", given), {"error": says})
+            self.same("nothing is changed", cells(), [["1", "2", "3"], ["4", "5", "6"]])
+
+    def test_a_key_that_is_typed(self):
+        with tempfile.TemporaryDirectory() as room, Page(store_with(f"{room}/it.store", OBJECTS), "--write") as page:
+
+            def keys(count):
+                """The keys, once there are so many: the store's file is read for a part of the time alone."""
+                until = time.monotonic() + SOON
+                while True:
+                    [table] = [it for it in page.told("object?object=1")["interfaces"][0]["tables"] if it["name"] == "Cell"]
+                    if len(table["rows"]) == count or time.monotonic() > until:
+                        return [([one["text"] for one in it["keys"]], it["value"]["text"]) for it in table["rows"]]
+                    time.sleep(0.1)
+
+            place = {"object": "1", "member": "Cell"}
+            self.same("its keys", keys(1), [(["5", "k", "1"], "x")])
+            self.same("a key is put", page.told("put", {**place, "keys": '["6", "new", ""]', "words": "y"})["undo"], "Item 1, Cell")
+            self.same("it is there, the default filled in", keys(2), [(["5", "k", "1"], "x"), (["6", "new", "1"], "y")])
+            self.same("with all of its arguments", page.told("put", {**place, "keys": '["6", "new", "2"]', "words": "z"})["undo"], "Item 1, Cell")
+            self.same("it is another one", keys(3)[-1], (["6", "new", "2"], "z"))
+            for name, given, says in (
+                ("a text for a number", '["many", "new", ""]', "Cell is declared BSTR: the value is of another type (DISP_E_TYPEMISMATCH)"),
+                ("too few", '["6"]', "keys is no list with a text for each parameter"),
+                ("no list", "6", "keys is no list with a text for each parameter"),
+                ("no texts", "[6, 7, 8]", "keys is no list with a text for each parameter"),
+            ):
+                self.same(name, page.told("put", {**place, "keys": given, "words": "y"}), {"error": says})
+
+    def test_objects_are_made_and_released(self):
+        with tempfile.TemporaryDirectory() as room, Page(store_with(f"{room}/it.store", OBJECTS), "--write") as page:
+            self.same("one is made", page.told("create", {"coclass": "Item"}), {"number": 4, "coclass": "Item"})
+            self.same("it is there", [it["number"] for it in page.told("rows?coclass=Item")["rows"]], [1, 2, 3, 4])
+            page.told("put", {"object": "4", "member": "Count", "words": "8"})
+            self.same("it is released", page.told("release", {"object": "4"}), {"number": 4, "coclass": "Item"})
+            self.same("it is gone", [it["number"] for it in page.told("rows?coclass=Item")["rows"]], [1, 2, 3])
+            self.same("with what could be taken back", page.told("undo", {}), {"error": "there is nothing to take back"})
+            self.same("it is not released twice", page.told("release", {"object": "4"}), {"error": "there is no object 4, or no more"})
+            self.same("no coclass", page.told("create", {"coclass": "Nobody"}), {"error": "no coclass Nobody; there are: Item"})
 
     def test_questions(self):
         """What is asked wrongly gets a reason, and the page goes on."""
@@ -204,23 +182,51 @@ class Served(ClientCases):
         variables = {**ENVIRONMENT, "OAUT_VIEW_TOKEN": TOKEN, "PATH": f"{os.path.dirname(python)}:{os.environ['PATH']}", "ASAN_OPTIONS": "detect_leaks=0"}
         with tempfile.TemporaryDirectory() as room:
             store = store_with(f"{room}/it.store", OBJECTS)
-            words = [built()[0], "--program", PROGRAM, "--listen", f"{room}/shared", "--view", "127.0.0.1:0", store]
+            words = [built()[0], "--program", PROGRAM, "--listen", f"{room}/shared", "--watch", f"{room}/watch", "--view", "127.0.0.1:0", store]
             child = subprocess.Popen(words, env=variables, stdout=subprocess.PIPE, stderr=subprocess.PIPE, text=True)
             page = Page.__new__(Page)
             page.host = child.stdout.readline().strip().split("/")[2]
-            self.same("who has no token", page.ask("GET", "/").status, 403)
-            page.cookie = page.ask("GET", f"/?token={TOKEN}").headers["Set-Cookie"].split(";")[0]
+            self.same("who has no token", page.ask("GET", "/api/library").status, 403)
             self.same("its objects", page.told("rows?coclass=Item")["of"], 3)
+            self.tell("it is told of changes", Gateway.wait_for(lambda: page.told("wait?after=")["count"], "it is not"))
             child.terminate()
-            self.same("the gateway's end", (child.wait(30), child.communicate(timeout=30)[1]), (0, ""))
-            until = time.monotonic() + 30
+            self.same("the gateway's end", (child.wait(120), child.communicate(timeout=120)[1]), (0, ""))
+            until = time.monotonic() + 120
             while time.monotonic() < until:
                 try:
                     page.ask("GET", "/")
-                except OSError:
+                except (OSError, http.client.HTTPException):
                     break
                 time.sleep(0.05)
             self.tell("the page ends with it", time.monotonic() < until)
+
+    @left_out("cc")
+    def test_changes_are_counted(self):
+        """By the gateway's --watch, which may come and go. Without one there is no count, and no wait."""
+        with tempfile.TemporaryDirectory() as room:
+            store_with(f"{room}/it.store", OBJECTS)
+            with Page(f"{room}/it.store") as page:
+                self.same("no count", page.told("wait?after=5"), {"count": None})
+            with Gateway(room=room, sockets=("listen", "watch")) as gateway, Page("--connect", f"{room}/listen", "--watch", f"{room}/watch") as page:
+                count = Gateway.wait_for(lambda: page.told("wait?after=")["count"], "it does not watch")
+                self.same("nothing has changed", page.told(f"wait?after={count}"), {"count": count})
+                with gateway.session() as other:
+                    other.object(1, "Item").Count = 78
+                    now = Gateway.wait_for(lambda: self.another(page, count), "the put is not told")
+                    self.tell("a put", now is not None, now)
+                    self.same("once", page.told(f"wait?after={now}"), {"count": now})
+                for odd in ("x", "-1", "9" * 30):
+                    self.same(f"after {odd}", page.told(f"wait?after={odd}"), {"count": now})
+                gateway.end()
+                self.tell("without the gateway", Gateway.wait_for(lambda: page.told(f"wait?after={now}")["count"] is None, "there is a count still"))
+                gateway.start()
+                self.tell("it watches again", Gateway.wait_for(lambda: page.told("wait?after=")["count"], "it does not"))
+
+    @staticmethod
+    def another(page, count):
+        """A count that is another one, or nothing."""
+        now = page.told(f"wait?after={count}")["count"]
+        return now if now != count else None
 
     def test_what_is_no_store(self):
         for name, words, says in (
@@ -230,77 +236,19 @@ class Served(ClientCases):
             ("neither store nor socket", [], "name a STORE"),
         ):
             done = subprocess.run(
-                [python_with("aiohttp"), "-m", "oaut", "view", "--program", PROGRAM, *words], env=ENVIRONMENT, capture_output=True, text=True, timeout=60
+                [python_with("aiohttp"), "-m", "oaut", "view", "--program", PROGRAM, *words], env=ENVIRONMENT, capture_output=True, text=True, timeout=300
             )
             self.tell(name, done.returncode == 1 and (says in done.stderr or "No such file" in done.stderr) and done.stderr.count("\n") == 1, done.stderr)
 
 
-BROWSER = python_with("selenium") if shutil.which("chromium") and shutil.which("chromedriver") else None
-
-
-@unittest.skipUnless(os.path.exists(PROGRAM), "the program is not there")
-@unittest.skipIf(python_with("aiohttp") is None, "no Python has aiohttp")
-@unittest.skipIf(BROWSER is None, "chromium, chromedriver or selenium is not there")
-class Seen(ClientCases):
-    """What a person sees, in a browser without a window."""
-
-    @classmethod
-    def setUpClass(cls):
-        cls.child = subprocess.Popen([BROWSER, f"{TESTS}/client/browser.py"], stdin=subprocess.PIPE, stdout=subprocess.PIPE, text=True)
-        cls.answer()
-
-    @classmethod
-    def tearDownClass(cls):
-        cls.child.communicate(timeout=30)
-
-    @classmethod
-    def answer(cls):
-        found = json.loads(cls.child.stdout.readline() or '{"error": "the browser ended"}')
-        if "error" in found:
-            raise AssertionError(found["error"])
-        return found["well"]
-
-    @classmethod
-    def do(cls, *words):
-        print(json.dumps(words), file=cls.child.stdin, flush=True)
-        return cls.answer()
-
-    def look(self, expression):
-        """The value of an expression of the page's script."""
-        return self.do("script", f"return {expression}")
-
-    def seen(self, name, expression, wanted=True, within=SOON):
-        """What becomes so within a time, in seconds; gives how long it took."""
-        begun = time.monotonic()
-        while True:
-            got = self.look(expression)
-            took = time.monotonic() - begun
-            if got == wanted or took > within:
-                break
-            time.sleep(0.02)
-        self.tell(name, got == wanted, f"wanted {wanted!r}, got {got!r} after {took:.1f} s")
-        return took
-
-    def press(self, selector, words=""):
-        """Clicks the first element of a selector that has these words, once it is there."""
-        found = f"[...document.querySelectorAll({json.dumps(selector)})].find(it => it.textContent.includes({json.dumps(words)}))"
-        self.seen(f"{selector} {words}", f"Boolean({found})")
-        self.do("script", f"{found}.click()")
-
-    def opened(self, page):
-        self.do("open", page.address)
-        self.seen("rows are shown", "document.querySelectorAll('.lines .row').length > 0")
-
-    def clean(self, but="nothing"):
-        """Nothing was refused by the policy, and no script failed. The page is left, so that it asks no more."""
-        said = [it[:300] for it in self.do("log") if but not in it]
-        self.same("the browser's log", said[:3], [])
-        self.do("open", "about:blank")
+@needs_browser
+class Seen(Browsed):
+    """What a person sees."""
 
     def test_a_store(self):
         with tempfile.TemporaryDirectory() as room, Page(store_with(f"{room}/it.store", OBJECTS), "--write") as page:
             self.opened(page)
-            self.same("the token has left the address", self.look("location.search"), "")
+            self.same("the token has left the address", self.look("location.href.replace(location.origin, '')"), "/")
             tree = "[...document.querySelectorAll('#tree [role=treeitem]')].filter(it => !it.hidden).map(it => it.dataset.name)"
             self.same("the tree", self.look(tree)[:3], ["ITEM", "DITEM", "COUNT"])
             self.do("type", "#search", "gri")
@@ -327,14 +275,63 @@ class Seen(ClientCases):
             self.looks()
             self.clean("status of 409")
 
+    def test_cells_keys_and_objects(self):
+        """What --write lets a person do beside changing a value."""
+        with tempfile.TemporaryDirectory() as room, Page(store_with(f"{room}/it.store", OBJECTS), "--write") as page:
+            self.opened(page)
+            self.press("#create")
+            self.seen("a new object is shown", "document.querySelector('h2').textContent", "Item 4")
+            form = "document.querySelector('.tools form')"
+            self.press("button.release")
+            self.same("it is asked once more", self.look(f"{form}.textContent.startsWith('Item 4 is then gone for ever')"), True)
+            self.press(".tools form button", "Leave")
+            self.same("or not", self.look(f"{form}.hidden"), True)
+            self.press("button.release")
+            self.press(".tools form button", "Release it")
+            self.seen("it is gone", "document.querySelectorAll('.lines .row').length", 3)
+            self.seen("the page says so", "document.querySelector('#said').textContent", "Item 4 is released")
+            self.press(".lines .row")
+            self.press("button.add[aria-label='add a key of Cell']")
+            adder = "document.querySelector('button.add[aria-label=\"add a key of Cell\"]').nextElementSibling"
+            fill = f"const form = {adder}; [...form.querySelectorAll('textarea')].forEach((it, at) => {{ it.value = arguments[0][at]; }}); form.requestSubmit()"
+            self.do("script", fill, ["many", "new", "", "y"])
+            self.seen(
+                "a key that is refused", f"{adder}.querySelector('[role=alert]').textContent.startsWith('Cell is declared BSTR: the value is of another')"
+            )
+            self.do("script", fill, ["6", "new", "", "y"])
+            self.seen("a key is added", "[...document.querySelectorAll('tbody tr')].some(it => it.textContent.startsWith('6new1y'))")
+            self.press("button", "Show cells")
+            cell = "document.querySelector('table.grid tbody').rows[1].cells[2]"
+            self.seen("a cell", f"{cell}?.textContent", "5")
+            self.do("script", "document.querySelector('table.grid td').focus()")
+            self.do("keys", "ARROW_DOWN", "ARROW_RIGHT", "ENTER")
+            self.seen("by the keyboard to its field", "document.querySelector('form.cell .kind').textContent", "Grid[0,6]")
+            area = "document.querySelector('form.cell textarea')"
+            self.do("script", f"{area}.value = 'many'; {area}.form.requestSubmit()")
+            self.seen("a cell that is refused", "document.querySelector('form.cell [role=alert]').textContent.startsWith('Grid is declared short')")
+            self.do("script", f"{area}.value = '77'; {area}.form.requestSubmit()")
+            self.seen("a cell is changed", f"{cell}.textContent", "77")
+            self.seen("and its form closed", f"{area}.form.hidden")
+            self.press("#said button", "Undo")
+            self.seen("and taken back", f"{cell}.textContent", "5")
+            self.do("script", "document.querySelector('table.grid td').click()")
+            self.seen("by a click too", f"!{area}.form.hidden && {area}.value", "1")
+            self.press("form.cell button", "Leave")
+            self.same("it is left as it was", self.look("document.querySelector('table.grid td').textContent"), "1")
+            self.clean("status of 409")
+
     def changes(self):
         """A change that is refused, one that is taken, and its undoing."""
         row = "[...document.querySelectorAll('tbody tr')].find(it => it.firstChild.textContent === 'Count')"
         self.do("script", f"{row}.querySelector('button.plain').click()")
-        for words, wanted in (("many", "put Item.Count = 'many': DISP_E_TYPEMISMATCH"), ("5000000000", "put Item.Count = 5000000000: DISP_E_OVERFLOW")):
-            self.do("script", f"const row = {row}; row.querySelector('input').value = arguments[0]; row.querySelector('form').requestSubmit()", words)
+        self.seen("the field is open", f"Boolean({row}.querySelector('form:not([hidden])'))")
+        for words, wanted in (
+            ("many", "Count is declared long: the value is of another type (DISP_E_TYPEMISMATCH)"),
+            ("5000000000", "Count is declared long: the number is too large or too small (DISP_E_OVERFLOW)"),
+        ):
+            self.do("script", f"const row = {row}; row.querySelector('textarea').value = arguments[0]; row.querySelector('form').requestSubmit()", words)
             self.seen(f"{words} is refused beside the field", f"{row}.querySelector('[role=alert]').textContent.startsWith({json.dumps(wanted)})")
-        self.do("script", f"const row = {row}; row.querySelector('input').value = '0x10'; row.querySelector('form').requestSubmit()")
+        self.do("script", f"const row = {row}; row.querySelector('textarea').value = '0x10'; row.querySelector('form').requestSubmit()")
         self.seen("a change is taken", f"{row}.querySelector('.value > div').textContent", "16")
         self.press("#said button", "Undo")
         self.seen("and taken back", f"{row}.querySelector('.value > div').textContent", "7")
@@ -378,40 +375,52 @@ class Seen(ClientCases):
     def test_as_many_objects_as_there_may_be(self):
         objects = {it: {(1, ()): long_value(it * 7_919 % 65_536), (2, ()): text_content(f"item {it}")} for it in range(1, 65_537)}
         with tempfile.TemporaryDirectory() as room, Page(store_with(f"{room}/it.store", objects)) as page:
-            took = []
-            while len(took) < 3 and min(took, default=1_000) >= 1_000:
-                self.opened(page)
-                self.seen("it is painted", "Boolean(document.documentElement.dataset.painted)")
-                took.append(int(self.look("document.documentElement.dataset.painted")))
-            self.tell("within a second of the page's own time, of three tries", min(took) < 1_000, took)
+            self.opened(page)
+            self.seen("it is painted", "Boolean(document.documentElement.dataset.painted)")
+            read = (
+                "performance.getEntriesByType('resource').filter(it => it.name.includes('/api/') && it.responseEnd <= document.documentElement.dataset.painted)"
+            )
+            # (a time would say more of the machine than of the page)
+            self.tell("by two readings", self.look(f"{read}.length") <= 3, self.look(f"{read}.map(it => it.name)"))
+            size = self.look(f"{read}.reduce((sum, it) => sum + it.encodedBodySize, 0)")
+            self.tell("of the rows that are in sight", 1_000 < size < 60_000, size)
             self.same("it says how many", self.look("document.querySelector('#count').textContent"), "65,536 objects")
             self.do("script", "document.querySelector('[role=grid]').scrollTop = 1e9")
-            self.seen("the last one", "[...document.querySelectorAll('.lines .row')].at(-1)?.dataset.number", "65536")
+            self.seen("the last one", "[...document.querySelectorAll('.lines .row')].at(-1)?.dataset.number", "65536", 600)
             self.tell("rows that are not in sight are not there", self.look("document.querySelectorAll('.lines .row').length") < 80)
             self.do("script", "document.querySelector('[role=grid]').scrollTop = 0; document.querySelector('[data-name=Count] button').click()")
             first = "document.querySelector('.lines .row[aria-rowindex=\"3\"]')?.dataset.number"
-            self.seen("the least", first, "65536", 30)
+            self.seen("the least", first, "65536", 600)
             self.do("script", "document.querySelector('[data-name=Count] button').click()")
-            self.seen("the greatest", first, str(next(it for it in objects if it * 7_919 % 65_536 == 65_535)), 30)
+            self.seen("the greatest", first, str(next(it for it in objects if it * 7_919 % 65_536 == 65_535)), 600)
             self.clean()
 
     @left_out("cc")
     def test_a_session_that_others_have_too(self):
-        """Beside another client of a gateway: what that one puts is seen within a second, and nothing is asked while nobody looks."""
+        """Beside another client of a gateway: what that one puts is seen with the next reading, and nothing is asked while nobody looks."""
         with tempfile.TemporaryDirectory() as room:
             store_with(f"{room}/it.store", OBJECTS)
             with Gateway(room=room, sockets=("listen", "control", "metrics")) as gateway:
-                with Page("--connect", f"{room}/listen", "--metrics", f"{room}/metrics", f"{room}/it.store") as page, gateway.session() as other:
+                with Page("--connect", f"{room}/listen", "--metrics", f"oaut+unix://{room}/metrics", f"{room}/it.store") as page, gateway.session() as other:
                     self.opened(page)
                     item = other.object(1, "Item")
-                    item.Count = 77
                     cell = "document.querySelector('.lines .row').children[1]"
-                    took = [self.seen("what another client puts", f"{cell}.textContent", "77")]
-                    self.same("it is marked", self.look(f"{cell}.classList.contains('changed')"), True)
+                    # (the mark goes by itself, perhaps before it is asked for)
+                    marks = f"window.marked = false; new MutationObserver(() => {{ window.marked ||= {cell}.classList.contains('changed'); }})"
+                    self.do("script", f"{marks}.observe({cell}, {{attributes: true}})")
+                    item.Count = 77
+                    self.seen("what another client puts", f"{cell}.textContent", "77")
+                    self.seen("it is marked", "window.marked")
+                    watch = f"window.shownAt = {{}}; new MutationObserver(() => {{ window.shownAt[{cell}.textContent] ??= performance.timeOrigin + performance.now(); }})"
+                    self.do("script", f"{watch}.observe({cell}, {{childList: true, subtree: true, characterData: true}})")
                     for it in ("78", "79"):
                         item.Count = int(it)
-                        took.append(self.seen("and once more", f"{cell}.textContent", it))
-                    self.tell("within a second, of three tries", min(took) < 1, took)
+                        put = time.time() * 1_000
+                        self.seen("and once more", f"{cell}.textContent", it)
+                        begun = "performance.timeOrigin + it.startTime"
+                        later = f"it.name.includes('/api/rows') && {begun} > {put} && {begun} <= window.shownAt['{it}']"
+                        count = self.look(f"performance.getEntriesByType('resource').filter(it => {later}).length")
+                        self.tell("by the first reading that begins behind the put", count <= 2, count)
                     item.Cell[6, "new"] = "y"
                     self.press(".lines .row")
                     self.seen("a key that another client puts", "[...document.querySelectorAll('tbody tr')].some(it => it.textContent === '6new1y')")
@@ -430,11 +439,47 @@ class Seen(ClientCases):
                     self.seen("a chart of requests", f"[...document.querySelectorAll('figure svg')].some(it => {most})")
                     self.press("#tab-objects")
                     self.press("#pause")
-                    time.sleep(0.3)
-                    before = gateway.counters()["oaut_gateway_requests_total"]
-                    time.sleep(1.2)
-                    self.same("nothing is asked for where nobody looks", gateway.counters()["oaut_gateway_requests_total"], before)
+
+                    def asked():
+                        """How much is asked for in two and a half seconds, in which a page that goes on asks some times."""
+                        before = gateway.counters()["oaut_gateway_requests_total"]
+                        time.sleep(2.5)
+                        return gateway.counters()["oaut_gateway_requests_total"] - before
+
+                    # (what was on its way comes first, on a busy machine late)
+                    until = time.monotonic() + SOON
+                    while (count := asked()) and time.monotonic() < until:
+                        pass
+                    self.tell("nothing is asked for where nobody looks", count == 0, count)
                 self.clean()
+                gateway.end()
+
+    @left_out("cc")
+    def test_where_changes_are_told(self):
+        """The store is asked after a change alone."""
+        with tempfile.TemporaryDirectory() as room:
+            store_with(f"{room}/it.store", OBJECTS)
+            with Gateway(room=room, sockets=("listen", "control", "watch")) as gateway:
+                words = ("--connect", f"{room}/listen", "--watch", f"{room}/watch", f"{room}/it.store")
+                with Page(*words) as page, gateway.session() as other:
+                    self.opened(page)
+                    item = other.object(1, "Item")
+
+                    def asked():
+                        """How much the store is asked for in a second."""
+                        before = gateway.counters()["oaut_gateway_requests_total"]
+                        time.sleep(1.2)
+                        return gateway.counters()["oaut_gateway_requests_total"] - before
+
+                    for it in ("77", "78"):
+                        Gateway.wait_for(lambda: asked() == 0, "the store is asked though nothing changes")
+                        item.Count = int(it)
+                        self.seen("what another client puts", "document.querySelector('.lines .row').children[1].textContent", it)
+                    Gateway.wait_for(lambda: asked() == 0, "the store is asked though nothing changes")
+                    self.tell("what is shown is new all the same", self.look("performance.now() - read < 20000"))
+                    self.press("#tab-status")
+                    self.seen("how it runs is read", "document.querySelectorAll('#main dl').length", 1)
+                    self.clean()
                 gateway.end()
 
 

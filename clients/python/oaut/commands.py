@@ -11,20 +11,24 @@ import typing
 from . import store as stores
 from .contents import count_of_events, groups, lines, table
 from .copies import backup, copy
-from .dumps import NoJson, counted, restore, write_dump
+from .dumps import NoJson, counted, restore, verified, write_dump
 from .faults import StoreInUse
-from .files import Unusable, info, named, opened, pieces
+from .files import Json, Unusable, info, named, opened, pieces
 from .programs import PROGRAM
 from .salvage import salvage
 
-# what may be read of a store that is served
+# the commands that can read a store that is served
 READ = {
-    "info": "format, sizes, room, library, groups",
-    "library": "the canonical text of its library",
-    "groups": "the place of each group, and its events",
-    "dump": "what `oaut dump` prints",
-    "copy": "a copy, read back before it gets its name",
+    "info": "Prints format, sizes, used and free space, library and groups",
+    "library": "Prints the canonical text of its library",
+    "groups": "Prints the place of each group, and its events",
+    "dump": "Prints what `oaut dump` prints, read without the program",
+    "verify": "Reads all of it, and prints a digest of its objects",
+    "copy": "Makes a copy, which is read back before it gets its name",
 }
+# the commands that print what they read
+DATA = ("library", "groups", "dump")
+PROGRAM_HELP = "Program. Default: the wheel's own, or `oaut` on the path"
 
 
 def add_words(parser: argparse.ArgumentParser) -> None:
@@ -33,50 +37,63 @@ def add_words(parser: argparse.ArgumentParser) -> None:
     made = {}
     for name, does in READ.items():
         command = made[name] = commands.add_parser(name, help=does, description=does)
-        command.add_argument("store", metavar="STORE")
+        command.add_argument("store", metavar="STORE", help="File of the store")
         command.add_argument(
-            "--live", action="store_true", help="of a store that may be served meanwhile"
+            "--live", action="store_true", help="Read a store that may be served meanwhile"
         )
-    made["info"].add_argument("--json", action="store_true", help="for programs")
+    for name in ("info", "verify"):
+        made[name].add_argument("--json", action="store_true", help="Print JSON, for programs")
     made["info"].add_argument(
-        "--objects", action="store_true", help="reads all of it, and counts objects and cells too"
+        "--objects", action="store_true", help="Read all of it, and count objects and cells too"
+    )
+    made["verify"].add_argument(
+        "digest", metavar="SHA256", nargs="?", help="Digest to compare: another one is status 1"
     )
     made["dump"].add_argument(
-        "--json", action="store_true", help="library, objects and values, as `restore` reads them"
+        "--json", action="store_true", help="Print library, objects and values, for `restore`"
     )
-    made["copy"].add_argument("copy", metavar="COPY")
-    does = "a new store of a dump; the objects keep their numbers"
+    made["copy"].add_argument("copy", metavar="COPY", help="File to make")
+    does = "Makes a new store of a dump; the objects keep their numbers"
     restored = commands.add_parser("restore", help=does, description=does)
     restored.add_argument(
-        "dump", metavar="FILE", help="what `dump --json` printed; - is standard input"
+        "dump", metavar="FILE", help="Output of `dump --json`; - is standard input"
     )
-    restored.add_argument("store", metavar="STORE")
+    restored.add_argument("store", metavar="STORE", help="File to make")
     restored.add_argument(
-        "--library", metavar="LIB", help="another library, which keeps what the dump's has"
+        "--library",
+        metavar="LIB",
+        help="Another library, which keeps what the dump's has. Default: the dump's",
     )
     restored.add_argument(
         "--bank",
         type=int,
         default=stores.BANK,
         metavar="B",
-        help="the bytes of each of its two banks",
+        help=f"Bytes of each of its two banks. Default: {stores.BANK}",
     )
-    restored.add_argument("--program", default=PROGRAM, help="the program, for another library")
-    does = "a new store of what a damaged one has, and what was left out"
+    restored.add_argument("--program", default=PROGRAM, help=PROGRAM_HELP)
+    does = "Makes a new store of what a damaged one has, and prints what was left out"
     salvaged = commands.add_parser("salvage", help=does, description=does)
-    salvaged.add_argument("store", metavar="STORE")
-    salvaged.add_argument("new", metavar="NEW")
-    salvaged.add_argument("--library", metavar="LIB", help="in the place of one that is damaged")
-    salvaged.add_argument("--bank", type=int, metavar="B", help="the bytes of each of its banks")
-    salvaged.add_argument("--program", default=PROGRAM, help="the program, which judges both")
+    salvaged.add_argument("store", metavar="STORE", help="File of the damaged store")
+    salvaged.add_argument("new", metavar="NEW", help="File to make")
+    salvaged.add_argument(
+        "--library", metavar="LIB", help="Library to use. Default: the store's own"
+    )
+    salvaged.add_argument(
+        "--bank", type=int, metavar="B", help="Bytes of each of its banks. Default: the store's"
+    )
+    salvaged.add_argument("--program", default=PROGRAM, help=PROGRAM_HELP)
 
 
 class Bar:
-    """How far a long work is, on standard error where that is a terminal."""
+    """How far a long work is, on standard error if that is a terminal, and standard output is none
+    to which a command prints what it reads."""
 
     def __init__(self, what: str) -> None:
         self.what, self.begun, self.last = what, time.monotonic(), 0.0
         self.shown = sys.stderr is not None and sys.stderr.isatty()
+        if what in DATA and sys.stdout is not None and sys.stdout.isatty():
+            self.shown = False
 
     def __call__(self, done: int, whole: int) -> None:
         now = time.monotonic()
@@ -94,7 +111,12 @@ class Bar:
         return self
 
     def __exit__(self, *_: object) -> None:
+        self.clear()
+
+    def clear(self) -> None:
+        """Takes the bar away."""
         if self.last:
+            self.last = 0.0
             sys.stderr.write("\r\x1b[K")
             sys.stderr.flush()
 
@@ -112,10 +134,47 @@ def run(given: argparse.Namespace) -> int:
     return status
 
 
-def _info(given: argparse.Namespace, _: Bar) -> int:
-    found = (counted if given.objects else info)(given.store, given.live)
-    told = json.dumps(found) if given.json else "\n".join(f"{it} {found[it]}" for it in found)
-    print(told)
+# the fields of `info` that are in bytes
+_BYTES = (
+    "size bank_size library_size snapshot_size groups_size room log_free limit used free".split()
+    + ["image_size"]
+)
+
+
+def info_lines(found: Json) -> typing.Iterator[str]:
+    """The lines that `info` prints, with units."""
+    for name, it in found.items():
+        if name == "exact":
+            continue
+        line = f"{name} {it}"
+        if name in _BYTES:
+            line += f" bytes ({it / (1 << 20):.1f} MiB)"
+        elif name == "percent":
+            line += " %"
+        if name in ("used", "free", "percent") and not found["exact"]:
+            line += ", about: --objects counts"
+        yield line
+
+
+def _info(given: argparse.Namespace, bar: Bar) -> int:
+    if given.objects:
+        found = counted(given.store, given.live, bar)
+    else:
+        found = info(given.store, given.live)
+    bar.clear()
+    print(json.dumps(found) if given.json else "\n".join(info_lines(found)))
+    return 0
+
+
+def _verify(given: argparse.Namespace, bar: Bar) -> int:
+    found = verified(given.store, given.live, bar)
+    bar.clear()
+    if given.json:
+        print(json.dumps(found))
+    else:
+        print("\n".join(f"{name} {it}" for name, it in found.items()))
+    if given.digest is not None and given.digest.lower() != found["sha256"]:
+        raise Unusable(f"{given.store}: its objects have another digest than {given.digest}")
     return 0
 
 
@@ -169,7 +228,8 @@ def _restore(given: argparse.Namespace, bar: Bar) -> int:
 
 
 def _salvage(given: argparse.Namespace, bar: Bar) -> int:
-    found = salvage(given.store, given.new, given.library, given.bank, given.program)
+    found = salvage(given.store, given.new, given.library, given.bank, given.program, bar)
+    bar.clear()
     for line in found.lines:
         print(line)
     print(", ".join(f"{name} {it}" for name, it in found.counts.items()))
@@ -177,11 +237,12 @@ def _salvage(given: argparse.Namespace, bar: Bar) -> int:
     return int(found.lost)
 
 
-COMMANDS: typing.Dict[str, typing.Callable[[argparse.Namespace, Bar], int]] = {
+COMMANDS: dict[str, typing.Callable[[argparse.Namespace, Bar], int]] = {
     "info": _info,
     "library": _library,
     "groups": _groups,
     "dump": _dump,
+    "verify": _verify,
     "copy": _copy,
     "restore": _restore,
     "salvage": _salvage,

@@ -1,6 +1,6 @@
-"""What a bank holds, object by object and cell by cell in their order, in memory that does not
-grow with it: the snapshot is read in a stream, the events of the groups are sorted by the cells
-that they change, on disk where they are many, and one goes into the other."""
+"""The contents of a bank, object by object and cell by cell in order, in memory that does not grow
+with it. The snapshot is read as a stream. The log records of the groups are sorted by the cells
+that they change, on disk if they are many, and merged into it."""
 from __future__ import annotations
 
 import contextlib
@@ -18,8 +18,6 @@ from .files import Bank, Unusable, put, runs
 
 # how much is read and written at once, and how many bytes of entries are sorted in memory
 READ, WRITTEN, SORTED = 262_144, 1_048_576, 20_971_520
-# how many bytes of a bank are kept free of the table's image
-KEPT_FREE = 5_242_880
 # how many entries of a run are read at once, and what each takes beside its key
 CHUNK, ENTRY = 64, 280
 CREATE, RELEASE, PUT, PUT_ELEMENT, REDIM = 1, 2, 3, 4, 5
@@ -31,11 +29,11 @@ _PLAIN = {vt: size for vt, size in stores.SIZES.items() if vt not in (stores.BOO
 
 # Of an object its number, nothing, its coclass and None; of a cell the object's number, bytes that
 # sort as its place does, and the images of its place and of its value.
-Row = typing.Tuple[int, bytes, bytes, typing.Optional[bytes]]
+Row = tuple[int, bytes, bytes, typing.Optional[bytes]]
 Rows = typing.Iterator[Row]
-# An event of a cell: the object's number and the sorting bytes of its place, where in the file the
-# place stands, the kind, and how many bytes the place and what is behind it have.
-Entry = typing.Tuple[bytes, int, int, int, int]
+# A log record of a cell: the object's number and the sorting bytes of its place, the offset of the
+# place in the file, the kind, and the number of bytes of the place and after it.
+Entry = tuple[bytes, int, int, int, int]
 
 
 class Source(stores.Bytes):
@@ -95,7 +93,7 @@ def scalar_key(it: stores.Scalar) -> bytes:
     return struct.pack(">H", vt) + told
 
 
-def place_of(source: Source) -> typing.Tuple[bytes, bytes]:
+def place_of(source: Source) -> tuple[bytes, bytes]:
     """The image of the next place, and bytes that sort as it does."""
     image = source.take(22)
     key = _member_key(image[:20])
@@ -124,9 +122,9 @@ def value_of(source: Source) -> bytes:
 # --- the snapshot
 
 
-def snapshot(file: int, bank: Bank, given: typing.Optional[Source] = None) -> Rows:
-    """The rows of a bank's snapshot. Raises Damaged where it is no image of a table. A cursor that
-    is given may have more bytes than the image."""
+def snapshot(file: int, bank: Bank, given: Source | None = None) -> Rows:
+    """The rows of a bank's snapshot. Raises Damaged if it is no image of a table. A cursor that is
+    given may have more bytes than the image."""
     try:
         source = given or Source(file, bank.table, bank.gates)
         next_number, count = source.numbers("II")
@@ -155,10 +153,10 @@ class Sorted:
     """Entries in their order, which are added in any."""
 
     def __init__(self) -> None:
-        self.held: typing.List[Entry] = []
+        self.held: list[Entry] = []
         self.size = 0
-        self.runs: typing.List[typing.Tuple[int, int]] = []
-        self.file: typing.Optional[typing.BinaryIO] = None
+        self.runs: list[tuple[int, int]] = []
+        self.file: typing.BinaryIO | None = None
 
     def add(self, entry: Entry) -> None:
         self.held.append(entry)
@@ -200,22 +198,22 @@ class Sorted:
 
 
 class Groups:
-    """What the groups of a bank do to its snapshot, up to a gate. `first` is the snapshot's next
-    number where the snapshot does not tell it."""
+    """The effect of a bank's groups on its snapshot, up to a gate. `first` is the snapshot's next
+    number if the snapshot does not contain it."""
 
     def __init__(
         self,
         file: int,
         bank: Bank,
-        until: typing.Optional[int] = None,
-        first: typing.Optional[int] = None,
+        until: int | None = None,
+        first: int | None = None,
     ) -> None:
         self.file, self.bank = file, bank
         self.count = self.events = self.size = 0
         # the objects that were created and are there, and of those of the snapshot that were
         # released each with the gate of its group
-        self.created: typing.Dict[int, bytes] = {}
-        self.released: typing.Dict[int, int] = {}
+        self.created: dict[int, bytes] = {}
+        self.released: dict[int, int] = {}
         self.changes = Sorted()
         if first is None:
             (first,) = struct.unpack("<I", os.pread(file, 4, bank.table))
@@ -232,7 +230,8 @@ class Groups:
         self.size = self.gate - bank.table
 
     def take(self, gate: int, source: Source) -> None:
-        """The next event. What it needs of the snapshot is looked at once that is read."""
+        """Adds the next log record. Its conditions on the snapshot are checked after that is
+        read."""
         kind = source.take(1)[0]
         (number,) = struct.unpack("<I", source.take(4))
         if kind == CREATE:
@@ -255,7 +254,7 @@ class Groups:
         self.changes.add((NUMBER.pack(number) + key, at, kind, size, source.place - at - size))
 
     def gate_of(self, at: int) -> int:
-        """The gate of the group whose events stand at a place."""
+        """The gate of the group whose log records are at a place."""
         for run in runs(self.file, self.bank):
             if run.place < at < run.end:
                 return run.place + (at - run.place) // (run.events + 5) * (run.events + 5)
@@ -265,9 +264,7 @@ class Groups:
         self.changes.close()
 
 
-def groups(
-    file: int, bank: Bank, until: typing.Optional[int] = None
-) -> typing.Iterator[typing.Tuple[int, Source]]:
+def groups(file: int, bank: Bank, until: int | None = None) -> typing.Iterator[tuple[int, Source]]:
     """The gate of each group, and a cursor over its events."""
     source = Source(file, bank.gates, bank.gates, bank.end)
     for run in runs(file, bank, until):
@@ -277,7 +274,7 @@ def groups(
 
 
 def skip_content(kind: int, source: Source) -> None:
-    """Passes what an event of a cell has behind the place."""
+    """Skips the part of a cell's log record after the place."""
     stores.need(kind in (PUT, PUT_ELEMENT, REDIM))
     if kind == PUT:
         value_of(source)
@@ -289,7 +286,7 @@ def skip_content(kind: int, source: Source) -> None:
 
 
 def count_of_events(gate: int, source: Source) -> int:
-    """How many events a group has. Raises Damaged where some bytes are none."""
+    """How many events a group has. Raises Damaged if some bytes are none."""
     count = 0
     try:
         while source.place < source.end:
@@ -312,15 +309,15 @@ def count_of_events(gate: int, source: Source) -> int:
 Left = typing.Callable[[int, str], None]
 
 
-def merged(rows: Rows, told: Groups, left: typing.Optional[Left] = None) -> Rows:
-    """The rows of a table behind some groups. Where an event does not apply `left` is told, or
-    Damaged is raised where there is none."""
+def merged(rows: Rows, told: Groups, left: Left | None = None) -> Rows:
+    """The rows of a table after some groups. If a log record does not apply, `left` gets it, or
+    Damaged is raised if there is none."""
     changes = iter(told.changes)
     entry = next(changes, None)
     created = ((number, b"", coclass, None) for number, coclass in told.created.items())
     here, gone, missing = 0, False, dict(told.released)
 
-    def of(key: bytes) -> typing.List[Entry]:
+    def of(key: bytes) -> list[Entry]:
         """The entries of a cell, in the order of the events."""
         nonlocal entry
         found = []
@@ -329,7 +326,7 @@ def merged(rows: Rows, told: Groups, left: typing.Optional[Left] = None) -> Rows
             entry = next(changes, None)
         return found
 
-    def new_cells(below: typing.Optional[bytes]) -> Rows:
+    def new_cells(below: bytes | None) -> Rows:
         """The cells below a row that the snapshot has not."""
         while entry is not None and (below is None or entry[0] < below):
             key, at, _, size, _ = entry
@@ -365,15 +362,15 @@ def merged(rows: Rows, told: Groups, left: typing.Optional[Left] = None) -> Rows
 
 def value_behind(
     told: Groups,
-    value: typing.Optional[bytes],
-    entries: typing.List[Entry],
-    left: typing.Optional[Left] = None,
-) -> typing.Optional[bytes]:
-    """The image of a cell's value behind the events of its entries, or None where it has none."""
-    array: typing.Optional[stores.Array] = None
-    last: typing.Optional[Entry] = None
+    value: bytes | None,
+    entries: list[Entry],
+    left: Left | None = None,
+) -> bytes | None:
+    """The image of a cell's value after the events of its entries, or None if it has none."""
+    array: stores.Array | None = None
+    last: Entry | None = None
 
-    def image() -> typing.Optional[bytes]:
+    def image() -> bytes | None:
         return value if last is None else os.pread(told.file, last[4], last[1] + last[3])
 
     for it in entries:
@@ -404,8 +401,8 @@ class Table(typing.NamedTuple):
 
 
 @contextlib.contextmanager
-def table(file: int, bank: Bank, until: typing.Optional[int] = None) -> typing.Iterator[Table]:
-    """The table of a bank behind its groups, or those before a gate. Raises Damaged, also while its
+def table(file: int, bank: Bank, until: int | None = None) -> typing.Iterator[Table]:
+    """The table of a bank after its groups, or those before a gate. Raises Damaged, also while its
     rows are read, with the first place that is damaged."""
     try:
         with contextlib.closing(Groups(file, bank, until)) as told:
@@ -415,8 +412,8 @@ def table(file: int, bank: Bank, until: typing.Optional[int] = None) -> typing.I
 
 
 def first_damage(file: int, bank: Bank, place: int) -> int:
-    """The first place of a bank that is damaged, where one is: an event that does not apply is met
-    in the order of the cells."""
+    """The first place of a bank that is damaged, if one is: an event that does not apply is met in
+    the order of the cells."""
     while place > bank.table:
         try:
             with contextlib.closing(Groups(file, bank, place)) as told:
@@ -429,7 +426,7 @@ def first_damage(file: int, bank: Bank, place: int) -> int:
 
 
 def lines(found: Table) -> typing.Iterator[str]:
-    """What `oaut dump` prints of a table."""
+    """The lines that `oaut dump` prints for a table."""
     yield f"next {found.next}\n"
     for number, _, image, value in found.rows:
         if value is None:
@@ -452,7 +449,7 @@ class Image:
         self.held = bytearray()
 
     def add(self, some: bytes) -> int:
-        """Where these bytes stand, behind those of before."""
+        """Appends bytes, and returns their offset."""
         place = self.place + len(self.held)
         if place + len(some) - self.begun > self.room:
             raise Unusable(self.fault)
@@ -462,7 +459,7 @@ class Image:
         return place
 
     def mend(self, place: int, some: bytes) -> None:
-        """Other bytes where some stand."""
+        """Replaces bytes."""
         if place < self.place:
             self.flush()
             put(self.file, place, some)
@@ -475,7 +472,7 @@ class Image:
         self.place += len(self.held)
         self.held = bytearray()
 
-    def lay(self, next_number: int, rows: Rows) -> typing.Tuple[int, int]:
+    def lay(self, next_number: int, rows: Rows) -> tuple[int, int]:
         """Writes a table, and gives how many objects and cells it has."""
         begun = self.add(bytes(8))
         objects = cells = 0
@@ -499,9 +496,9 @@ class Image:
 
 
 def image_of(file: int, library: bytes, bank: int) -> Image:
-    """The image of a table in bank 0 of a new store, whose banks have so many bytes, behind this
+    """The image of a table in bank 0 of a new store, whose banks have so many bytes, after this
     text of a library."""
-    room = min(bank - KEPT_FREE, bank - len(library) - 1)
+    room = min(bank - stores.KEPT_FREE, bank - len(library) - 1)
     fault = f"the objects do not fit banks of {bank} bytes"
     return Image(file, stores.body_of(2, 0, bank) + len(library), room, fault)
 

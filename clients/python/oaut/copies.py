@@ -3,6 +3,7 @@ from __future__ import annotations
 
 import os
 
+from .faults import system_failures
 from .files import (
     PIECE,
     Bank,
@@ -22,10 +23,11 @@ from .programs import Path
 ZEROS = bytes(PIECE)
 
 
+@system_failures()
 def copy(path: Path, to: Path, progress: Progress = quiet) -> None:
     """A copy of a store's file, byte for byte, which gets its name once it was read back. Raises
-    StoreInUse where a process has the store, FileExistsError where the copy's name is taken."""
-    with locked(path) as (file, _), new_file(to) as (new, _):
+    StoreInUse if a process has the store, FileExistsError if the copy's name is taken."""
+    with locked(path) as (file, _), new_file(to, path) as (new, _):
         length = os.fstat(file).st_size
         set_aside(new, length)
         for place, some in pieces(file, 0, length):
@@ -39,12 +41,13 @@ def copy(path: Path, to: Path, progress: Progress = quiet) -> None:
             progress((length + place + len(some)) // 2, length)
 
 
+@system_failures()
 def backup(path: Path, to: Path, progress: Progress = quiet) -> None:
     """A copy of a store that may be served meanwhile: all that was acknowledged before it began,
     and perhaps more, in whole groups. It takes no lock, and the server waits for nothing. Of the
-    two banks it has the one in use. Raises FileExistsError where the copy's name is taken, Unusable
-    where the file is no store."""
-    with new_file(to) as (new, _):
+    two banks it has the one in use. Raises FileExistsError if the copy's name is taken, Unusable if
+    the file is no store."""
+    with new_file(to, path) as (new, _):
 
         def take(file: int, bank: Bank) -> None:
             os.truncate(new, 0)

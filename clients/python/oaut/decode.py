@@ -6,7 +6,7 @@ import sys
 import typing
 import uuid
 
-from .faults import CODES, Fault, Malformed
+from .faults import CODES, Error, ProtocolError
 from .framing import Raw
 from .library import (
     DEFAULT_INTERFACE,
@@ -60,11 +60,11 @@ _FLAG_WORDS = (
 
 
 def request_words(body: bytes) -> str:
-    """A request in words. Raises Malformed where the body is none."""
+    """A request in words. Raises ProtocolError if the body is none."""
     at = Fields(body)
     tag, opcode, _ = at.take("IHH")
     if opcode not in OPCODES:
-        raise Malformed(f"no request has the opcode {opcode}")
+        raise ProtocolError(f"no request has the opcode {opcode}")
     told = f"request {tag}: {OPCODES[opcode]}"
     if opcode == CREATE:
         told += f" coclass {at.guid()}"
@@ -116,13 +116,11 @@ def _call_words(at: Fields, opcode: int) -> str:
 def _field_words(field: bytes) -> str:
     try:
         return words_of(read_field(field))
-    except Malformed as error:
+    except ProtocolError as error:
         return f"no value ({error}) {field.hex()}"
 
 
-def description_words(
-    found: Description, interfaces: typing.Sequence[Interface] = ()
-) -> typing.List[str]:
+def description_words(found: Description, interfaces: typing.Sequence[Interface] = ()) -> list[str]:
     """A description in lines of words, much as a library's text."""
     if isinstance(found, Coclass):
         lines = [f"coclass {found.name} {found.guid}"]
@@ -150,7 +148,7 @@ def _parameter_words(it: Parameter) -> str:
     return (f"[{', '.join(words)}] " if words else "") + f"{type_word(it.vt)} {it.name}"
 
 
-_REPLY_WORDS: typing.Dict[int, typing.Callable[[bytes], str]] = {
+_REPLY_WORDS: dict[int, typing.Callable[[bytes], str]] = {
     CREATE: lambda it: f"object {read_number(it)}",
     GETIDS: lambda it: f"dispids {read_ids(it)}",
     INVOKE: lambda it: words_of(read_value(it)) if it else "",
@@ -163,8 +161,8 @@ _REPLY_WORDS: typing.Dict[int, typing.Callable[[bytes], str]] = {
 }
 
 
-def reply_words(body: bytes, opcode: typing.Optional[int] = None) -> str:
-    """A reply in words. Where the request's opcode is not known, its fields are taken for what they
+def reply_words(body: bytes, opcode: int | None = None) -> str:
+    """A reply in words. If the request's opcode is unknown, its fields are printed as what they
     look like."""
     tag, code, index, fields = read_reply(body)
     name = "S_OK" if code == 0 else CODES[code].name if code in CODES else f"0x{code:08x}"
@@ -174,33 +172,32 @@ def reply_words(body: bytes, opcode: typing.Optional[int] = None) -> str:
         for it in likely:
             try:
                 return f"{told}: {_REPLY_WORDS[it](fields)}"
-            except (Fault, LookupError, ValueError):
+            except (Error, LookupError, ValueError):
                 continue
         told += f": {fields.hex()}"
     return told
 
 
 def decode(bodies: typing.Iterable[bytes]) -> typing.Iterator[str]:
-    """Records in words, one after another. A reply of a tag is told by the last request that had
-    it."""
-    asked: typing.Dict[int, int] = {}
+    """Records in words, one after another. A reply is matched to the last request with its tag."""
+    asked: dict[int, int] = {}
     for body in bodies:
         try:
             if len(body) < 8:
-                raise Malformed("a record has at least 8 bytes")
+                raise ProtocolError("a record has at least 8 bytes")
             tag, what = TWO.unpack_from(body)
             if 0 < what < 0x8000_0000:
                 asked[tag] = what & 0xFFFF
                 yield request_words(body)
             else:
                 yield reply_words(body, asked.get(tag) if asked.get(tag) in _REPLY_WORDS else None)
-        except (Malformed, UnicodeError) as error:
+        except (ProtocolError, UnicodeError) as error:
             yield f"no record ({error}): {body.hex()}"
 
 
 def bodies_of(stream: typing.BinaryIO, framing: str) -> typing.Iterator[bytes]:
-    """The bodies of a file; a line may begin with > or <, as `-v` of `talk` prints them. What is no
-    line of digits is told."""
+    """The bodies of a file; a line may begin with > or <, as `-v` of `talk` prints them. Reports
+    lines that are not digits."""
     if framing == "raw":
         while True:
             body = Raw.read(stream)
@@ -217,7 +214,7 @@ def bodies_of(stream: typing.BinaryIO, framing: str) -> typing.Iterator[bytes]:
 
 
 def run(files: typing.Sequence[str], framing: str) -> int:
-    """Prints the records of some files, of standard input where none is named."""
+    """Prints the records of some files, of standard input if none is named."""
     for name in files or ("-",):
         if name == "-":
             for line in decode(bodies_of(sys.stdin.buffer, framing)):

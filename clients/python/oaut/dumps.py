@@ -4,6 +4,8 @@ from __future__ import annotations
 
 import contextlib
 import decimal
+import hashlib
+import io
 import json
 import os
 import re
@@ -13,17 +15,32 @@ import typing
 import uuid
 
 from . import store as stores
-from .contents import OBJECT, Image, Rows, Table, image_of, lay_bank, table
-from .files import Json, Progress, Unusable, info_of, named, new_file, opened, quiet, set_aside
+from .contents import OBJECT, Image, Rows, Table, image_of, lay_bank, lines, table
+from .faults import WrongValue, system_failures
+from .files import (
+    Json,
+    JsonValue,
+    Progress,
+    Unusable,
+    info_of,
+    named,
+    new_file,
+    opened,
+    quiet,
+    set_aside,
+    used_of,
+)
 from .idl import Names, names_of
 from .programs import PROGRAM, Path, Program, serve
-from .values import VT, text_of
+from .values import VT, scaled, text_of
 
 # the number of the form of a dump
 FORM = 1
-# how many characters of JSON are read at once, and between how many bytes it is told how far it is
+# how many characters of JSON are read at once, and after how many bytes progress is reported
 READ, STEP = 262_144, 1_048_576
-# what a dump raises that tells no table
+# the context of all computations, whatever context a program has set for its own decimals
+_EXACT = decimal.Context(prec=60)
+# the exceptions that a dump raises if it is not that of a table
 NO_TABLE = (
     KeyError,
     TypeError,
@@ -39,11 +56,11 @@ NO_TABLE = (
 # --- values as JSON: exact, and to be read by people
 
 
-def told_content(vt: int, content: bytes) -> typing.Any:
+def told_content(vt: int, content: bytes) -> object:
     """The content of a scalar: numbers, which of 64 bits and amounts are texts, as JSON's readers
     may round them."""
     if vt == stores.BSTR:
-        if content == stores.zero(stores.BSTR):
+        if content == stores.NULL_TEXT:
             return None
         text = text_of(content[4:])
         # (a text with half a character is none that JSON's readers agree on)
@@ -53,35 +70,44 @@ def told_content(vt: int, content: bytes) -> typing.Any:
         return content == b"\1"
     if vt == stores.DECIMAL:
         scale, minus, high, low = struct.unpack("<BBIQ", content)
-        number = decimal.Decimal(high << 64 | low).scaleb(-scale, decimal.Context(prec=60))
+        number = decimal.Decimal(high << 64 | low).scaleb(-scale, _EXACT)
         return f"{'-' if minus else ''}{number:f}"
     if vt not in stores.NUMBERS:
         return None
     (found,) = struct.unpack("<" + stores.NUMBERS[vt], content)
     if vt == stores.CY:
-        return f"{decimal.Decimal(found).scaleb(-4):f}"
+        return f"{decimal.Decimal(found).scaleb(-4, _EXACT):f}"
     return str(found) if vt in (stores.I8, stores.UI8) else found
 
 
-def content_of(vt: int, told: typing.Any) -> bytes:
-    """The content that `told_content` tells."""
+def content_of(vt: int, told: JsonValue) -> bytes:
+    """Returns the content for the result of `told_content`, or raises an exception: no other form
+    is accepted."""
     if vt == stores.BSTR:
         if told is None:
-            return bytes(stores.zero(stores.BSTR))
+            return stores.NULL_TEXT
         hexed = isinstance(told, dict)
         text = bytes.fromhex(told["hex"]) if hexed else typing.cast(bytes, told.encode("utf-16-le"))
         return struct.pack("<I", len(text)) + text
     if vt == stores.BOOL:
-        return b"\1" if told is True else b"\0"
+        if not isinstance(told, bool):
+            raise WrongValue(f"{told!r} is neither true nor false")
+        return b"\1" if told else b"\0"
     if vt == stores.DECIMAL:
-        sign, digits, exponent = decimal.Decimal(told).as_tuple()
+        sign, digits, exponent = decimal.Decimal(str(told)).as_tuple()
         number = int("".join(map(str, digits)))
         low = number & 0xFFFF_FFFF_FFFF_FFFF
         return struct.pack("<BBIQ", -int(exponent), sign, number >> 64, low)
     if vt not in stores.NUMBERS:
+        if told is not None:
+            raise WrongValue(f"{told!r} is no value here")
         return b""
-    number = int(decimal.Decimal(told).scaleb(4)) if vt == stores.CY else int(told)
-    return struct.pack("<" + stores.NUMBERS[vt], number)
+    if type(told) is int and vt != stores.CY:
+        return struct.pack("<" + stores.NUMBERS[vt], told)
+    units = scaled(decimal.Decimal(str(told)), 4 if vt == stores.CY else 0)
+    if units is None:
+        raise WrongValue(f"{told!r} is no {VT(vt).name}")
+    return struct.pack("<" + stores.NUMBERS[vt], units)
 
 
 def told_scalar(it: stores.Scalar) -> Json:
@@ -92,7 +118,7 @@ def told_scalar(it: stores.Scalar) -> Json:
 
 
 def scalar_of(told: Json) -> stores.Scalar:
-    """The scalar that `told_scalar` tells."""
+    """Returns the scalar for the result of `told_scalar`."""
     vt = int(VT[told["type"]])
     return vt, content_of(vt, told.get("value"))
 
@@ -101,18 +127,21 @@ def told_value(it: stores.Value) -> Json:
     """A scalar or an array as JSON."""
     if not isinstance(it, stores.Array):
         return told_scalar(it)
-    mixed = it.vt == stores.VARIANT
-    cells = [told_scalar(cell) if mixed else told_content(it.vt, cell) for cell in it.cells]
+    cells = [
+        told_scalar(cell) if isinstance(cell, tuple) else told_content(it.vt, cell)
+        for cell in it.cells
+    ]
     return {"array": VT(it.vt).name, "bounds": [list(bound) for bound in it.bounds], "cells": cells}
 
 
 def value_of(told: Json) -> stores.Value:
-    """The value that `told_value` tells."""
+    """Returns the value for the result of `told_value`."""
     if "array" not in told:
         return scalar_of(told)
     vt = int(VT[told["array"]])
-    mixed = vt == stores.VARIANT
-    cells = [scalar_of(cell) if mixed else content_of(vt, cell) for cell in told["cells"]]
+    cells: list[stores.Cell] = [
+        scalar_of(cell) if vt == stores.VARIANT else content_of(vt, cell) for cell in told["cells"]
+    ]
     return stores.Array(vt, [(count, lower) for count, lower in told["bounds"]], cells)
 
 
@@ -153,8 +182,8 @@ def parts(library: str, found: Table) -> typing.Iterator[str]:
 def write_dump(
     path: Path, out: typing.TextIO, live: bool = False, progress: Progress = quiet
 ) -> None:
-    """Writes a store's library and its objects as JSON, in a form that `restore` reads. What was
-    written before an exception is no dump."""
+    """Writes a store's library and its objects as JSON, in a form that `restore` reads. Output
+    before an exception is not a dump."""
     with opened(path, live) as (file, bank), named(path), table(file, bank) as found:
         try:
             library = os.pread(file, bank.library, bank.body).decode()
@@ -165,7 +194,7 @@ def write_dump(
 
 
 def watched(found: Table, progress: Progress) -> Table:
-    """The same table, whose reading is told."""
+    """Returns the same table, and reports progress when its rows are read."""
     whole = found.groups.size
 
     def rows() -> Rows:
@@ -181,32 +210,52 @@ def watched(found: Table, progress: Progress) -> Table:
     return found._replace(rows=rows())
 
 
+@system_failures()
 def dump(path: Path, live: bool = False) -> Json:
-    """The same as a dictionary, in memory."""
+    """Returns the dump of a store as a dictionary."""
     with typing.cast(typing.TextIO, tempfile.TemporaryFile("w+", encoding="utf-8")) as held:
         write_dump(path, held, live)
         held.seek(0)
         return typing.cast(Json, json.load(held))
 
 
-def counted(path: Path, live: bool = False) -> Json:
-    """What `info` tells, and what only reading all of it tells: how many events, objects and cells
-    there are, the next number, and how many bytes the table has as an image."""
+@system_failures()
+def counted(path: Path, live: bool = False, progress: Progress = quiet) -> Json:
+    """The results of `info`, and those that need reading everything: the numbers of log records,
+    objects and cells, the next number, and the bytes of the serialized table."""
     with opened(path, live) as (file, bank), named(path), table(file, bank) as found:
         objects, cells, size = 0, 0, 8
-        for _, _, image, value in found.rows:
+        for _, _, image, value in watched(found, progress).rows:
             if value is None:
                 objects, size = objects + 1, size + OBJECT.size
             else:
                 cells, size = cells + 1, size + len(image) + len(value)
         return {
             **info_of(file, bank),
+            **used_of(bank, size, True),
             "events": found.groups.events,
             "next": found.next,
             "objects": objects,
             "cells": cells,
             "image_size": size,
         }
+
+
+@system_failures()
+def verified(path: Path, live: bool = False, progress: Progress = quiet) -> Json:
+    """Reads all of a store. Returns the numbers of its objects and cells, and the SHA-256 of what
+    `oaut dump` prints, which is the same for each store with the same objects. Raises Unusable if
+    something is damaged."""
+    with opened(path, live) as (file, bank), named(path), table(file, bank) as found:
+        objects = cells = 0
+        digest = hashlib.sha256()
+        for line in lines(watched(found, progress)):
+            digest.update(line.encode())
+            objects += line.startswith("object")
+            cells += line.startswith("cell")
+        library = hashlib.sha256(os.pread(file, bank.library, bank.body)).hexdigest()
+        told = {"objects": objects, "cells": cells, "sha256": digest.hexdigest()}
+        return {**told, "library_sha256": library}
 
 
 # --- JSON in a stream
@@ -217,12 +266,16 @@ class NoJson(Unusable, ValueError):
 
 
 class Reader:
-    """JSON that is read part by part. Raises NoJson where it is none."""
+    """JSON that is read part by part. Raises NoJson if it is none."""
 
     def __init__(self, stream: typing.TextIO, progress: Progress = quiet) -> None:
         self.stream, self.decoder, self.progress = stream, json.JSONDecoder(), progress
         self.text, self.place, self.passed, self.ended = "", 0, 0, False
-        self.size = os.fstat(stream.fileno()).st_size
+        self.size = 0
+        with contextlib.suppress(
+            io.UnsupportedOperation
+        ):  # (no progress is reported for a StringIO)
+            self.size = os.fstat(stream.fileno()).st_size
 
     def more(self) -> bool:
         """Reads on: as much as was not taken yet, and some. Whether there was more."""
@@ -256,9 +309,9 @@ class Reader:
         """Passes this character."""
         if not self.take(sign):
             found = self.sign() or "the end"
-            raise NoJson(f"{found} stands for {sign} at character {self.passed + self.place}")
+            raise NoJson(f"{found} instead of {sign} at character {self.passed + self.place}")
 
-    def value(self) -> typing.Any:
+    def value(self) -> JsonValue:
         """The next value, whole."""
         self.sign()
         while True:
@@ -285,7 +338,7 @@ class Reader:
                 self.need(",")
 
     def name(self) -> str:
-        """The name of a member, and the colon behind it."""
+        """The name of a member, and the colon after it."""
         if self.sign() != '"':
             self.need('"')
         found = self.value()
@@ -304,21 +357,22 @@ class Reader:
 # --- new stores
 
 
+@system_failures()
 def restore(
-    told: typing.Union[Json, typing.TextIO],
+    told: Json | typing.TextIO,
     path: Path,
-    library: typing.Optional[Path] = None,
+    library: Path | None = None,
     bank: int = stores.BANK,
     program: Program = PROGRAM,
     progress: Progress = quiet,
 ) -> None:
     """Makes a new store of a dump, a dictionary or the stream of a text: the objects keep their
-    numbers, and the next one gets the number that it would have got. Under `library`, a file, where
-    one is given: it has to keep what the dump's library has, else NotKept is raised and no store is
-    left. In a stream the library stands first, and objects and cells in the order that `dump` gives
-    them."""
+    numbers, and the next one gets the number that it would have got. With `library`, a file, uses
+    another library: it has to be compatible with the dump's, else IncompatibleLibrary is raised and
+    no store is left. In a stream the library comes first, then objects and cells in the order of
+    `dump`."""
     if not stores.BANK <= bank <= stores.MOST_BANK:
-        raise ValueError(f"a bank has from {stores.BANK} to {stores.MOST_BANK} bytes")
+        raise WrongValue(f"a bank has from {stores.BANK} to {stores.MOST_BANK} bytes")
     with contextlib.ExitStack() as stack:
         if isinstance(told, (dict, list)):
             told = stack.enter_context(streamed(told))
@@ -354,13 +408,13 @@ def streamed(told: Json) -> typing.TextIO:
 
 
 def told_place(told: Json) -> stores.Place:
-    """The place of a cell that JSON tells."""
+    """Returns the place of a cell from its JSON."""
     key = tuple(scalar_of(it) for it in told.get("key", []))
     return uuid.UUID(told["interface"]).bytes_le, told["dispid"], key
 
 
-def told_order(told: Json) -> typing.Tuple[typing.Any, ...]:
-    """What a cell that JSON tells is ordered by."""
+def told_order(told: Json) -> tuple[object, ...]:
+    """The sort key of a cell in JSON."""
     return stores.place_order(told_place(told))
 
 
@@ -382,7 +436,7 @@ def laid(reader: Reader, file: int, bank: int) -> bytes:
         for _ in reader.items():
             number = laid_object(reader, image)
             if number <= last:
-                raise Unusable(f"the dump tells no table: object {number} stands behind {last}")
+                raise Unusable(f"the dump is no table: object {number} comes after {last}")
             last, count = number, count + 1
     if reader.sign():
         raise NoJson(f"there is more at character {reader.passed + reader.place}")
@@ -409,7 +463,7 @@ def laid_object(reader: Reader, image: Image) -> int:
             order = stores.place_order(place)
             if before is not None and order <= before:
                 where = f"{cell['interface']} {cell['dispid']}"
-                raise Unusable(f"the dump tells no table: cell {where} stands behind its place")
+                raise Unusable(f"the dump is no table: cell {where} comes too late")
             before, count = order, count + 1
             image.add(place_image(place) + value_image(cell))
     number, coclass = told["number"], uuid.UUID(told["coclass"]).bytes_le
@@ -418,18 +472,19 @@ def laid_object(reader: Reader, image: Image) -> int:
     return typing.cast(int, number)
 
 
-# (what is written has to be read as the same: JSON may tell more cells than the bounds have)
+# (decoding the encoded value has to return the same value: JSON may have more cells than the
+# bounds)
 
 
 def place_image(place: stores.Place) -> bytes:
-    """The image of a place that JSON tells."""
+    """Returns the encoding of a place from its JSON."""
     image = stores.place_image(place)
     stores.need(stores.place(stores.Bytes(image)) == place)
     return image
 
 
 def value_image(told: Json) -> bytes:
-    """The image of a value that JSON tells."""
+    """Returns the encoding of a value from its JSON."""
     value = value_of(told)
     image = stores.value_image(value)
     read = stores.Bytes(image)

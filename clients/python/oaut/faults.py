@@ -1,52 +1,222 @@
-"""What a session may raise: a refusal (Refused, a class for each code), its end (Stopped), or bytes
-that are none of the protocol's (Malformed). All of them are a Fault."""
+"""The exceptions of this package. Each of them is an Error, so `except oaut.Error` catches all. A
+refusal by the server is Refused, with a class for each code. The end of a session is SessionEnded,
+bytes that are not of the protocol are ProtocolError. A wrong use of the package is WrongType and
+the like, a failed system call SystemFailed."""
 from __future__ import annotations
 
+import contextlib
+import errno
+import os
 import typing
 import uuid
+import warnings
 
 # the name of a file, line and column, and the line as it is shown
-Place = typing.Tuple[str, int, int, str]
+Place = tuple[str, int, int, str]
 
 
-class Fault(Exception):
-    """What a session may raise: a refusal (Refused), its end (Stopped), or bytes that are none of
-    the protocol's (Malformed)."""
+class _OfNumbers(type):
+    """The former meaning of `Error`: a class of numbers, which is SCode now."""
+
+    def __instancecheck__(cls, instance: object) -> bool:
+        if type.__instancecheck__(cls, instance):
+            return True
+        if cls.__name__ == "Error" and isinstance(instance, int):
+            from .values import SCode
+
+            if isinstance(instance, SCode):
+                _is_a_number_no_more()
+                return True
+        return False
+
+    # (Any, so that a checker takes the class's own type for what its call gives)
+    def __call__(cls, *values: typing.Any, **named: object) -> typing.Any:
+        if cls.__name__ == "Error" and len(values) == 1 and hasattr(values[0], "__index__"):
+            from .values import SCode
+
+            _is_a_number_no_more()
+            return SCode(values[0])
+        return super().__call__(*values, **named)
 
 
-class SessionInUse(Fault, RuntimeError):
-    """Another thread uses the session, or a request of it is under way: one at a time may. Nothing
-    was sent."""
+def _is_a_number_no_more() -> None:
+    told = "oaut.Error is the base of the client's exceptions: a number of VT_ERROR is oaut.SCode"
+    warnings.warn(told, DeprecationWarning, stacklevel=3)
 
 
-class Malformed(Fault, ValueError):
-    """Bytes that spell no value, or no reply. `unknown_type` tells that it is the value's type
-    which is outside the profile."""
+class Error(Exception, metaclass=_OfNumbers):
+    """The base of all exceptions of this package. `Error(0x80020004)`, as a number of VT_ERROR was
+    written before, gives an SCode and a DeprecationWarning."""
+
+    def __reduce__(self) -> tuple[typing.Any, ...]:
+        # (by its words, as they are: what it was made of are others)
+        system = (self.errno, self.strerror, self.filename) if isinstance(self, OSError) else ()
+        return _unpickled, (type(self), self.args, self.__dict__, system)
+
+
+def _unpickled(
+    kind: type[Error],
+    words: tuple[object, ...],
+    state: dict[str, object],
+    system: tuple[typing.Any, ...],
+) -> Error:
+    """An exception of another process, as `multiprocessing` passes them on."""
+    base = OSError if issubclass(kind, OSError) else BaseException
+    made = base.__new__(kind, *words)
+    made.args = words
+    made.__dict__.update(state)
+    if isinstance(made, OSError) and system != (None, None, None):
+        made.errno, made.strerror, made.filename = system
+    return made
+
+
+class WrongType(Error, TypeError):
+    """A value, or a call, of a type that is none of those that the package takes."""
+
+
+class WrongValue(Error, ValueError):
+    """A value outside of what the call takes, or a text that cannot be read."""
+
+
+class OutOfRange(Error, OverflowError):
+    """A number outside the range of its type."""
+
+
+class NoSuchMember(Error, AttributeError):
+    """An object's coclass has no member of that name."""
+
+
+class NoSuchName(Error, LookupError):
+    """The library has no coclass or interface of that name."""
+
+
+class NoSuchIndex(Error, IndexError):
+    """Indices outside the bounds of an array that is in this process."""
+
+
+class WrongUse(Error, RuntimeError):
+    """A call that is not possible now: within a batch, or with what a batch has not sent yet."""
+
+
+class NotInTime(Error, TimeoutError):
+    """The lock of an array, or a reply, did not come within the time that was given."""
+
+
+class SystemFailed(Error, OSError):
+    """A system call failed. The exception is also of the system's kind: FileExistsError,
+    ConnectionRefusedError, PermissionError and so on."""
+
+
+# the former names of exceptions, which warn
+RENAMED = {
+    "Failed": "StoreFailed",
+    "Fault": "Error",
+    "Malformed": "ProtocolError",
+    "NotKept": "IncompatibleLibrary",
+    "Stopped": "SessionEnded",
+}
+
+if not typing.TYPE_CHECKING:  # (a checker is to report a former name)
+
+    def __getattr__(name: str) -> object:
+        if name not in RENAMED:
+            raise AttributeError(f"module {__name__!r} has no attribute {name!r}")
+        told = f"oaut.{name} is oaut.{RENAMED[name]} now"
+        warnings.warn(told, DeprecationWarning, stacklevel=2)
+        return globals()[RENAMED[name]]
+
+
+_FAILED: dict[type[OSError], type[SystemFailed]] = {OSError: SystemFailed}
+
+
+def _failed_of(kind: type[OSError]) -> type[SystemFailed]:
+    """The class of the system's failures that are also of a kind of OSError."""
+    if kind not in _FAILED:
+        methods = {
+            "__module__": __name__,
+            "__doc__": f"A {kind.__name__} that is an oaut.Error too.",
+            # (so that it can be pickled, by its kind)
+            "__reduce__": lambda self: (_again, (kind, self.args, self.filename)),
+        }
+        _FAILED[kind] = type(kind.__name__, (SystemFailed, kind), methods)
+    return _FAILED[kind]
+
+
+def _again(kind: type[OSError], values: tuple[object, ...], filename: str | None) -> SystemFailed:
+    made = _failed_of(kind)(*values)
+    made.filename = filename
+    return made
+
+
+def system_failed(kind: type[OSError], number: int, told: str, name: str | None = None) -> OSError:
+    """An exception of a kind of OSError that is an Error too."""
+    return _failed_of(kind)(number, told, name)
+
+
+@contextlib.contextmanager
+def system_failures() -> typing.Iterator[None]:
+    """Raises an OSError of its block as one that is an Error too."""
+    try:
+        yield
+    except Error:
+        raise
+    except OSError as error:
+        failed = _failed_of(type(error))(*error.args)
+        if error.filename is not None:
+            failed.filename = error.filename
+        raise failed.with_traceback(error.__traceback__) from error.__cause__
+
+
+class SessionInUse(Error, RuntimeError):
+    """Another thread uses the session, a request of it is under way, or another process began it:
+    then `process` is that one's number. Nothing was sent."""
+
+    def __init__(self, what: str, process: int | None = None) -> None:
+        super().__init__(what)
+        self.process = process
+
+
+class NotSent(Error, RuntimeError):
+    """Requests of a batch were not sent, or had no reply, because of an interrupt (Ctrl-C) or a
+    `close()` within the batch. `count` is how many they are."""
+
+    def __init__(self, count: int, what: str) -> None:
+        super().__init__(what)
+        self.count = count
+
+
+class ProtocolError(Error, ValueError):
+    """Bytes that encode no value, or no reply. `unknown_type` is true if the type of the value
+    is outside the profile."""
 
     def __init__(self, what: str, unknown_type: bool = False) -> None:
         super().__init__(what)
         self.unknown_type = unknown_type
 
 
-class Stopped(Fault):
-    """The session has ended. `fault` is the line that the program left on standard error, `cause`
-    what the system said of a file that cannot be read or written, `status` the program's exit
-    status (negative for a signal). All are None where no program was started here, `fault` where
-    it wrote none, and `cause` where it told of no file. `may_stand` says that a request was sent
-    and not answered: what it asked is done or not, wholly, which a get in another session tells."""
+class SessionEnded(Error):
+    """The session has ended. `fault` is the program's line on standard error, `cause` the system's
+    message for a file that cannot be read or written, `status` the program's exit status (negative
+    for a signal). All are None if no program was started here, `fault` if it wrote none, and
+    `cause` if no file was at fault. If `may_stand` is true, a request was sent and has no reply: it
+    was executed completely or not at all; check with a get in another session."""
 
     may_stand = False
 
     def __str__(self) -> str:
         told = super().__str__()
-        return f"{told}; what was asked is done or not, wholly" if self.may_stand else told
+        return (
+            f"{told}; a request without a reply was executed completely or not at all"
+            if self.may_stand
+            else told
+        )
 
     def __init__(
         self,
         what: str,
-        fault: typing.Optional[str] = None,
-        status: typing.Optional[int] = None,
-        cause: typing.Optional[str] = None,
+        fault: str | None = None,
+        status: int | None = None,
+        cause: str | None = None,
     ) -> None:
         said = f"{fault}: {cause}" if cause else fault
         told = [it for it in (said, None if status is None else f"status {status}") if it]
@@ -56,77 +226,121 @@ class Stopped(Fault):
         self.cause = cause
 
 
-class StoreInUse(Stopped):
+class StoreInUse(SessionEnded):
     """Another process has the store open."""
 
 
-class LibraryDiffers(Stopped):
+class LibraryDiffers(SessionEnded):
     """The store is that of another library than the one that was named, or that was there
     before."""
 
 
-class OldFormat(Stopped):
+class NoSuchFile(SessionEnded, FileNotFoundError):
+    """The library or the store that a session was to begin with is not there: `filename` names
+    it."""
+
+    def __init__(self, path: str, fault: str | None = None, status: int | None = None) -> None:
+        cause = os.strerror(errno.ENOENT)
+        super().__init__(f"{path}: {cause}")
+        self.fault, self.status, self.cause = fault, status, cause
+        self.errno, self.strerror, self.filename = errno.ENOENT, cause, path
+
+    def __str__(self) -> str:
+        return str(self.args[0])
+
+
+class OldFormat(SessionEnded):
     """The store is of a format that is upgraded before it is served."""
 
 
-class NotALibrary(Fault, ValueError):
-    """A text that is no library. `fault` is what is wrong, in the program's words, `line` and
-    `column` are its place in the text, both from 1 on, and `shown` is that line with a caret under
-    the place: None, None and an empty text where the fault has no place."""
+class NotALibrary(Error, ValueError):
+    """A text that is not a library. `fault` is the program's message. `line` and `column` are its
+    place in the text, both from 1, and `shown` is that line with a caret under the place. They are
+    None, None and an empty text if the error has no place. `note` is the program's hint about a
+    word that other compilers have. The message contains all of them."""
 
-    fault: typing.Optional[str]
-    line: typing.Optional[int] = None
-    column: typing.Optional[int] = None
+    fault: str | None
+    note: str = ""
+    line: int | None = None
+    column: int | None = None
     shown: str = ""
 
 
-class LibraryRefused(NotALibrary, Stopped):
+class LibraryRefused(NotALibrary, SessionEnded):
     """A text that is no library, so that no session began with it, and no store was made."""
 
     def __init__(
         self,
-        fault: typing.Optional[str],
-        status: typing.Optional[int],
-        place: typing.Optional[Place] = None,
+        fault: str | None,
+        status: int | None,
+        place: Place | None = None,
+        note: str = "",
     ) -> None:
-        Stopped.__init__(self, f"no library{_where(place)}", fault, status)
-        self.fault, self.status = fault, status
+        SessionEnded.__init__(self, f"no library{_where(place)}", fault, status)
+        self.fault, self.status, self.note = fault, status, note
         if place is not None:
             _, self.line, self.column, self.shown = place
 
-
-class TimedOut(Stopped, TimeoutError):
-    """The server did not answer, or did not read, within the time that was given. The session is
-    over: a program that was started for it is killed, and a later session sees what was
-    acknowledged."""
+    def __str__(self) -> str:
+        return _with_place(super().__str__(), self)
 
 
-class ProgramNotFound(Stopped, FileNotFoundError):
+class TimedOut(SessionEnded, TimeoutError):
+    """The server sent no reply, or did not read, within the given time. The session is over: a
+    program that was started for it is killed, and a later session reads all acknowledged
+    changes."""
+
+
+class TlsFailed(Error, ConnectionError):
+    """No session over TLS: what a URL `oauts://..` names is no certificate or key, or one of the
+    faults below."""
+
+
+class CertificateRefused(TlsFailed):
+    """The server's certificate is signed by nobody that this client trusts, or is refused
+    otherwise."""
+
+
+class CertificateExpired(CertificateRefused):
+    """The server's certificate is not valid any more, or not yet."""
+
+
+class WrongHostName(CertificateRefused):
+    """The server's certificate has another name, or the server knows no such name."""
+
+
+class ClientCertificateRefused(TlsFailed):
+    """The server refuses the client's certificate, or asks for one."""
+
+
+class NoTls(TlsFailed):
+    """The server has no TLS, or does not reply in time."""
+
+
+class ProgramNotFound(SessionEnded, FileNotFoundError):
     """The program that was to be started is not there, or not on the path."""
 
 
-class Refused(Fault):
+class Refused(Error):
     """A reply with another code than S_OK. `name` and `code` are those of the HRESULT (MS-ERREF
-    section 2.1), `index` is the place in rgvarg of the argument at fault or None, `argument` what
-    stands there in words, `fields` the reply's fields, `act` what was refused in words, `hint` what
-    the library says of it."""
+    section 2.1). `index` is the position in rgvarg of the wrong argument or None, and `argument`
+    describes it. `fields` are the reply's fields, `act` describes the request, `hint` is what the
+    library says about it."""
 
     code: int = 0
     name: str = "a code without a name"
 
-    def __init_subclass__(
-        cls, code: typing.Optional[int] = None, hresult: typing.Optional[str] = None
-    ) -> None:
+    def __init_subclass__(cls, code: int | None = None, hresult: str | None = None) -> None:
         if code is not None and hresult is not None:
             cls.code, cls.name = code, hresult
             CODES[code] = cls
 
     def __init__(
         self,
-        index: typing.Optional[int] = None,
-        argument: typing.Optional[str] = None,
+        index: int | None = None,
+        argument: str | None = None,
         fields: bytes = b"",
-        code: typing.Optional[int] = None,
+        code: int | None = None,
         act: str = "",
         hint: str = "",
     ) -> None:
@@ -148,7 +362,7 @@ class Refused(Fault):
 
 
 # of each code its exception
-CODES: typing.Dict[int, typing.Type[Refused]] = {}
+CODES: dict[int, type[Refused]] = {}
 
 
 class UnknownInterface(Refused, code=0x8002_0001, hresult="DISP_E_UNKNOWNINTERFACE"):
@@ -204,8 +418,8 @@ class NoInterface(Refused, code=0x8000_4002, hresult="E_NOINTERFACE"):
     """E_NOINTERFACE: an interface that the object's coclass has not."""
 
 
-class Failed(Refused, code=0x8000_4005, hresult="E_FAIL"):
-    """E_FAIL: the store has stopped behind a fault of its device."""
+class StoreFailed(Refused, code=0x8000_4005, hresult="E_FAIL"):
+    """E_FAIL: the store has stopped after a fault of its device."""
 
 
 class Unexpected(Refused, code=0x8000_FFFF, hresult="E_UNEXPECTED"):
@@ -233,8 +447,8 @@ class ClassNotRegistered(Refused, code=0x8004_0154, hresult="REGDB_E_CLASSNOTREG
 
 
 class WriteFault(Refused, code=0x8003_001D, hresult="STG_E_WRITEFAULT"):
-    """STG_E_WRITEFAULT: the store's device failed. What its group changed is there wholly, or not
-    at all."""
+    """STG_E_WRITEFAULT: the store's device failed. The store has all changes of the group, or
+    none."""
 
 
 class ReadFault(Refused, code=0x8003_001E, hresult="STG_E_READFAULT"):
@@ -245,14 +459,12 @@ class MediumFull(Refused, code=0x8003_0070, hresult="STG_E_MEDIUMFULL"):
     """STG_E_MEDIUMFULL: the objects would be larger than a store may hold."""
 
 
-class NotKept(InvalidArg):
-    """The new library does not keep what the old one has. `guid` is that of the interface or the
-    coclass which is lost or changed, `dispid` the member's, or None where it is the whole interface
-    or coclass, `lost` says it in words."""
+class IncompatibleLibrary(InvalidArg):
+    """The new library is incompatible with the old one. `guid` is that of the interface or the
+    coclass that is lost or changed, `dispid` the member's, or None if it is the whole interface or
+    coclass. `lost` describes it."""
 
-    def __init__(
-        self, refusal: Refused, guid: uuid.UUID, dispid: typing.Optional[int], lost: str
-    ) -> None:
+    def __init__(self, refusal: Refused, guid: uuid.UUID, dispid: int | None, lost: str) -> None:
         super().__init__(
             None, None, refusal.fields, None, refusal.act, f"the new library does not keep {lost}"
         )
@@ -265,23 +477,35 @@ class LibraryNotTaken(NotALibrary, BadStub):
     """A text that is no library, so that it took no other one's place."""
 
     def __init__(
-        self, refusal: Refused, fault: typing.Optional[str], place: typing.Optional[Place]
+        self,
+        refusal: Refused,
+        fault: str | None,
+        place: Place | None,
+        note: str = "",
     ) -> None:
         hint = f"no library{_where(place)}: {(fault or '').removeprefix('oaut: ')}"
         BadStub.__init__(self, None, None, b"", None, refusal.act, hint)
-        self.fault = fault
+        self.fault, self.note = fault, note
         if place is not None:
             _, self.line, self.column, self.shown = place
 
+    def __str__(self) -> str:
+        return _with_place(super().__str__(), self)
 
-def _where(place: typing.Optional[Place]) -> str:
+
+def _with_place(told: str, fault: NotALibrary) -> str:
+    """A message, and below it the line with its caret, and the note."""
+    return "\n".join(it for it in (told, fault.shown, fault.note) if it)
+
+
+def _where(place: Place | None) -> str:
     return "" if place is None else f" at {place[0]}:{place[1]}:{place[2]}"
 
 
 def refused(
     code: int,
-    index: typing.Optional[int] = None,
-    argument: typing.Optional[str] = None,
+    index: int | None = None,
+    argument: str | None = None,
     fields: bytes = b"",
     act: str = "",
     hint: str = "",

@@ -1,5 +1,5 @@
-"""A store's file as docs/store.md has it: under its lock, or while a server writes it; and new
-files, which get their name once they are whole."""
+"""A store's file as docs/reference/store.md has it: under its lock, or while a server writes it;
+and new files, which get their name once they are whole."""
 from __future__ import annotations
 
 import contextlib
@@ -14,39 +14,42 @@ import time
 import typing
 
 from . import store as stores
-from .faults import Fault, StoreInUse
+from .faults import Error, StoreInUse, system_failed, system_failures
+from .paths import named as give_name
 from .programs import Path
 
 T = typing.TypeVar("T")
-Json = typing.Dict[str, typing.Any]
-# what is told of a long work, now and then: how many bytes are done, and of how many
+# a value of JSON, whose type is checked when it is used
+JsonValue = typing.Any
+Json = dict[str, JsonValue]
+# reports the progress of long work: the number of bytes done, and the number of all bytes
 Progress = typing.Callable[[int, int], None]
-# how many bytes are read at once, and how many where gates alone are looked at
+# how many bytes are read at once, and how many if only gate bytes are read
 PIECE, WINDOW = 1_048_576, 65_536
-# a gate, and how many bytes of events stand behind it
+# a gate byte, and the number of bytes of log records after it
 HEAD_OF_GROUP = struct.Struct("<BI")
 # how often a store that is served is looked at anew, and how often for one and the same fault
 TRIES, SAME_FAULT = 200, 6
 
 
-class Unusable(Fault):
-    """A file that is no store, or no dump of one, or a store that cannot be used as was asked."""
+class Unusable(Error):
+    """A file that is no store or no dump of one, or a store that this command cannot use."""
 
 
 class Moved(Exception):
-    """A bank was written over, or let go, while it was read."""
+    """A bank was overwritten or released while it was read."""
 
 
 def quiet(done: int, whole: int) -> None:
-    """Tells nobody."""
+    """Reports nothing."""
 
 
 # --- the bank in use
 
 
 class Bank(typing.NamedTuple):
-    """What the first byte, the selector and the head say: the format, the bank in use, and the
-    bytes of its library, of its snapshot and of its body."""
+    """The contents of the first byte, the selector and the head: the format, the bank in use, and
+    the bytes of its library, of its snapshot and of its body."""
 
     form: int
     chosen: int
@@ -56,7 +59,7 @@ class Bank(typing.NamedTuple):
 
     @property
     def body(self) -> int:
-        """Where its body begins: the library's place."""
+        """The offset of its body, which begins with the library."""
         return stores.body_of(self.form, self.chosen, self.size)
 
     @property
@@ -71,7 +74,7 @@ class Bank(typing.NamedTuple):
 
     @property
     def end(self) -> int:
-        """Where its body ends."""
+        """The offset of the end of its body."""
         return self.body + self.size
 
     @property
@@ -81,7 +84,7 @@ class Bank(typing.NamedTuple):
 
 
 class Run(typing.NamedTuple):
-    """Groups one behind the other whose events have the same length: the place of the first gate,
+    """Groups one after the other whose events have the same length: the place of the first gate,
     that length, and how many they are."""
 
     place: int
@@ -90,11 +93,11 @@ class Run(typing.NamedTuple):
 
     @property
     def end(self) -> int:
-        """The place of the gate behind them."""
+        """The place of the gate after them."""
         return self.place + self.times * (self.events + 5)
 
 
-def pieces(file: int, place: int, end: int) -> typing.Iterator[typing.Tuple[int, bytes]]:
+def pieces(file: int, place: int, end: int) -> typing.Iterator[tuple[int, bytes]]:
     """The bytes of a file from one place to another, some at a time, each with its place."""
     while place < end:
         some = os.pread(file, min(PIECE, end - place), place)
@@ -129,9 +132,9 @@ def chosen_of(file: int) -> int:
     return (os.pread(file, 1, stores.SELECTOR) or b"\0")[0] % 2
 
 
-def runs(file: int, bank: Bank, until: typing.Optional[int] = None) -> typing.Iterator[Run]:
-    """The groups of a bank in turn, by their gates alone, or those before a gate. Raises Damaged
-    where one has no events, or leaves no room for a gate behind it."""
+def runs(file: int, bank: Bank, until: int | None = None) -> typing.Iterator[Run]:
+    """The groups of a bank in turn, by their gates alone, or those before a gate. Raises Damaged if
+    one has no events, or leaves no room for a gate after it."""
     gate, at, window = bank.gates, bank.gates, b""
     while until is None or gate < until:
         if gate + 5 > at + len(window):
@@ -155,7 +158,7 @@ def runs(file: int, bank: Bank, until: typing.Optional[int] = None) -> typing.It
 
 
 def alike(window: bytes, place: int, stride: int, head: bytes) -> int:
-    """How many groups have this gate and length, one behind the other from a place on, as far as a
+    """How many groups have this gate and length, one after the other from a place on, as far as a
     window goes. They are counted many at a time."""
     count, step = 0, 1
     while step:
@@ -169,7 +172,7 @@ def alike(window: bytes, place: int, stride: int, head: bytes) -> int:
     return count
 
 
-def walked(file: int, bank: Bank) -> typing.Tuple[int, int]:
+def walked(file: int, bank: Bank) -> tuple[int, int]:
     """How many groups a bank has, and the place of its closed gate. Raises Damaged as `runs` does,
     and takes less time."""
     count, gate, read = 0, bank.gates, HEAD_OF_GROUP.unpack_from
@@ -208,16 +211,16 @@ def closed_gate(file: int, bank: Bank) -> int:
 
 
 @contextlib.contextmanager
-def locked(path: Path) -> typing.Iterator[typing.Tuple[int, Bank]]:
-    """A store's file and its bank in use, while no other process may have it. Raises StoreInUse
-    where one has, Unusable where it is no store."""
+def locked(path: Path) -> typing.Iterator[tuple[int, Bank]]:
+    """A store's file and its bank in use, while no other process may have it. Raises StoreInUse if
+    one has, Unusable if it is no store."""
     with kept_still(path) as file, named(path):
         yield file, bank_of(file)
 
 
 @contextlib.contextmanager
 def kept_still(path: Path) -> typing.Iterator[int]:
-    """A file, while no other process may have it as a store. Raises StoreInUse where one has."""
+    """A file, while no other process may have it as a store. Raises StoreInUse if one has."""
     with open(path, "rb", buffering=0) as file:
         try:
             import fcntl
@@ -243,9 +246,9 @@ def named(path: Path) -> typing.Iterator[None]:
 
 
 def while_served(path: Path, act: typing.Callable[[int, Bank], T]) -> T:
-    """What an act makes of a store's file and its bank in use, without the lock. It is made again
-    until the bank is in use behind it as it was before, with the same head, and no Moved was
-    raised. A fault that stays is one of the file."""
+    """The result of an act on a store's file and its bank in use, without the lock. It is repeated
+    until the same bank with the same head is in use after it as before, and no Moved was raised. A
+    fault that stays is one of the file."""
     last, same = "", 0
     with open(path, "rb", buffering=0) as file, named(path):
         for turn in range(TRIES):
@@ -267,7 +270,7 @@ def while_served(path: Path, act: typing.Callable[[int, Bank], T]) -> T:
 def taken(file: int, bank: Bank, to: int, progress: Progress = quiet) -> int:
     """Copies a bank that may be written meanwhile to the same places of an empty file, with first
     byte, selector and head, and reads all of it a second time. Gives the place of its closed gate.
-    Raises Moved where the two readings differ, or another bank was in use between them."""
+    Raises Moved if the two readings differ, or another bank was in use between them."""
 
     def still() -> None:
         if chosen_of(file) != bank.chosen:
@@ -295,9 +298,10 @@ def taken(file: int, bank: Bank, to: int, progress: Progress = quiet) -> int:
 
 
 @contextlib.contextmanager
-def opened(path: Path, live: bool = False) -> typing.Iterator[typing.Tuple[int, Bank]]:
-    """A store's file and its bank in use, to be read: itself, under its lock, or where it may be
-    served meanwhile what `taken` takes of it, at the same places of a file that has no name."""
+def opened(path: Path, live: bool = False) -> typing.Iterator[tuple[int, Bank]]:
+    """A store's file and its bank in use, for reading. It is the file itself, under its lock. If
+    the store may be served meanwhile, it is the copy that `taken` makes, at the same offsets of a
+    file without a name."""
     if not live:
         with locked(path) as it:
             yield it
@@ -318,8 +322,9 @@ def opened(path: Path, live: bool = False) -> typing.Iterator[typing.Tuple[int, 
 # --- what a monitor asks
 
 
+@system_failures()
 def info(path: Path, live: bool = False) -> Json:
-    """What a store's heads and gates say, by names; sizes in bytes. It reads no object."""
+    """The contents of a store's heads and gates, by names; sizes in bytes. Reads no object."""
     if live:
         return while_served(path, info_of)
     with locked(path) as (file, bank):
@@ -327,12 +332,13 @@ def info(path: Path, live: bool = False) -> Json:
 
 
 def info_of(file: int, bank: Bank) -> Json:
-    """The same of a bank."""
+    """Returns the same information about one bank."""
     groups, gate = walked(file, bank)
     digest = hashlib.sha256()
     for _, some in pieces(file, bank.body, bank.table):
         digest.update(some)
     name = re.search(rb"^library (\w+) ", os.pread(file, min(bank.library, 4_096), bank.body), re.M)
+    size = gate - bank.gates
     return {
         "format": bank.form,
         "size": os.fstat(file).st_size,
@@ -343,50 +349,62 @@ def info_of(file: int, bank: Bank) -> Json:
         "library_size": bank.library,
         "snapshot_size": bank.snapshot,
         "groups": groups,
-        "groups_size": gate - bank.gates,
+        "groups_size": size,
         "room": bank.end - gate,
+        "log_free": max(0, bank.end - gate - stores.CHECKPOINT) if bank.form == 2 else 0,
+        **used_of(bank, bank.snapshot + size, not groups),
     }
+
+
+def used_of(bank: Bank, size: int, exact: bool) -> Json:
+    """How much of the objects' space is used, if they have so many bytes serialized."""
+    limit = limit_of(bank)
+    used = min(size, limit)
+    percent = round(100 * used / limit, 1)
+    return {"limit": limit, "used": used, "free": limit - used, "percent": percent, "exact": exact}
+
+
+def limit_of(bank: Bank) -> int:
+    """The bytes that the objects of a store may take as an image (docs/reference/store.md)."""
+    return stores.OLD_LIMIT if bank.form == 1 else bank.size - stores.KEPT_FREE
 
 
 # --- new files
 
 
 @contextlib.contextmanager
-def new_file(path: Path) -> typing.Iterator[typing.Tuple[int, str]]:
+def new_file(path: Path, of: Path | None = None) -> typing.Iterator[tuple[int, str]]:
     """A file beside a path, and the name that it has meanwhile: it gets the path's once it is
     written and synced. It has the rights that the system gives a new file, as `oaut format` leaves
-    them. Nothing of it is left where that fails, and a file that is there is not replaced:
-    FileExistsError."""
+    them, and of what another file holds at most the rights that others have to that. Nothing of it
+    is left if that fails, and a file that is there is not replaced: FileExistsError."""
     target = os.path.abspath(path)
     folder = os.path.dirname(target)
     if os.path.lexists(target):
-        raise FileExistsError(errno.EEXIST, os.strerror(errno.EEXIST), os.fspath(path))
+        raise system_failed(
+            FileExistsError, errno.EEXIST, os.strerror(errno.EEXIST), os.fspath(path)
+        )
     name = os.path.join(folder, f".oaut-{secrets.token_hex(8)}")
-    file = os.open(name, os.O_RDWR | os.O_CREAT | os.O_EXCL | getattr(os, "O_CLOEXEC", 0), 0o666)
+    rights = 0o666 if of is None else os.stat(of).st_mode & 0o066 | 0o600
+    file = -1
     try:
+        # (a signal may come as the file is made, before this process knows its descriptor)
+        how = os.O_RDWR | os.O_CREAT | os.O_EXCL | getattr(os, "O_CLOEXEC", 0)
+        file = os.open(name, how, rights)
         try:
             yield file, name
             os.fsync(file)
         finally:
             os.close(file)
-        os.link(name, target)
+        give_name(name, target)
     finally:
-        os.unlink(name)
-    sync_folder(folder)
-
-
-def sync_folder(folder: str) -> None:
-    """Brings the names of a folder to the device."""
-    file = os.open(folder, os.O_RDONLY)
-    try:
-        os.fsync(file)
-    finally:
-        os.close(file)
+        with contextlib.suppress(OSError if file < 0 else FileNotFoundError):
+            os.unlink(name)
 
 
 def set_aside(file: int, length: int) -> None:
-    """Gives an empty file its length, and its room on the device where the system can: a store's
-    file is never to ask for more."""
+    """Gives an empty file its length, and its room on the device if the system can: a store's file
+    is never to ask for more."""
     if hasattr(os, "posix_fallocate"):
         os.posix_fallocate(file, 0, length)
     else:

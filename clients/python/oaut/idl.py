@@ -1,5 +1,5 @@
-"""The names in a library's canonical text (docs/idl.md), without the program: each line has one
-item."""
+"""The names in a library's canonical text (docs/reference/idl.md), without the program: each line
+has one item."""
 from __future__ import annotations
 
 import re
@@ -17,9 +17,9 @@ class Names:
     """The names of a library: of its interfaces, coclasses and members, by GUID and DISPID."""
 
     def __init__(self, text: str) -> None:
-        self._interfaces: typing.Dict[str, str] = {}
-        self._coclasses: typing.Dict[str, str] = {}
-        self._members: typing.Dict[typing.Tuple[str, int], str] = {}
+        self._interfaces: dict[str, str] = {}
+        self._coclasses: dict[str, str] = {}
+        self._members: dict[tuple[str, int], str] = {}
         guid, within = "", ""
         for line in text.splitlines():
             item, head, member = _ITEM.match(line), _HEAD.match(line), _MEMBER.match(line)
@@ -32,19 +32,19 @@ class Names:
             elif member is not None:
                 self._members.setdefault((within, int(member[1])), member[2])
 
-    def interface(self, guid: Guid) -> typing.Optional[str]:
+    def interface(self, guid: Guid) -> str | None:
         """The name of an interface."""
         return self._interfaces.get(str(guid).lower())
 
-    def coclass(self, guid: Guid) -> typing.Optional[str]:
+    def coclass(self, guid: Guid) -> str | None:
         """The name of a coclass."""
         return self._coclasses.get(str(guid).lower())
 
-    def member(self, interface: Guid, dispid: int) -> typing.Optional[str]:
+    def member(self, interface: Guid, dispid: int) -> str | None:
         """The name of a member."""
         return self._members.get((str(interface).lower(), dispid))
 
 
-def names_of(text: typing.Union[str, bytes]) -> Names:
+def names_of(text: str | bytes) -> Names:
     """The names in a canonical text."""
     return Names(text if isinstance(text, str) else text.decode("utf-8", "replace"))

@@ -1,9 +1,8 @@
-"""A library's text of what an automation server has in MIDL: `python3 -m oaut import FILE.idl`.
+"""Converts the MIDL text of an automation server to a library's text: `python3 -m oaut import
+FILE.idl`.
 
-What is kept, as what, and why the rest is left out, stands in docs/import.md. The rules are those
-of clients/com/tlb2idl.c for type libraries, in the same order and with the same words: a change of
-one is a change of both.
-"""
+docs/guide/import.md says what is converted and what is left out. The rules are those of
+clients/com/tlb2idl.c for type libraries, in the same order and with the same words: change both."""
 from __future__ import annotations
 
 import argparse
@@ -13,8 +12,10 @@ import sys
 import tempfile
 import typing
 
+from .faults import WrongValue
 from .library import fold
 from .midl import DEPTH_LIMIT, Coclass, Entry, Form, Interface, Parameter, Reader, Type
+from .paths import not_its_own
 
 TEXT, NAME, ITEMS, MEMBERS, PARAMETERS = 262_144, 64, 256, 512, 16
 _RANGES = {
@@ -201,7 +202,7 @@ class Left(Exception):
 
 
 class Carried(typing.NamedTuple):
-    """A type of a library's text; `was` is what stood there, where it is another one."""
+    """A type of a library's text; `was` is the original type, if it was another one."""
 
     word: str
     is_array: bool = False
@@ -232,27 +233,27 @@ class Kept(typing.NamedTuple):
     name: str
     dispid: int
     kind: str
-    type: typing.Optional[Carried]
-    parameters: typing.List[Taken]
+    type: Carried | None
+    parameters: list[Taken]
 
     @property
-    def own(self) -> typing.List[Taken]:
+    def own(self) -> list[Taken]:
         return self.parameters[:-1] if self.kind == "put" else self.parameters
 
     @property
-    def value(self) -> typing.Optional[Carried]:
+    def value(self) -> Carried | None:
         return self.parameters[-1].type if self.kind == "put" else self.type
 
 
 class _Chosen:
     """An interface with what is kept of it, and its text."""
 
-    def __init__(self, name: str, guid: str, members: typing.List[Kept]) -> None:
+    def __init__(self, name: str, guid: str, members: list[Kept]) -> None:
         self.name, self.guid, self.members = name, guid, members
         self.text = f"[uuid({guid})]\ndispinterface {name} {{\n{_members(members)}}}\n"
 
 
-def _members(members: typing.List[Kept]) -> str:
+def _members(members: list[Kept]) -> str:
     properties, methods = "", ""
     puts = {it.name for it in members if it.kind == "put" and not it.own}
     gets = {it.name for it in members if it.kind == "get" and not it.parameters}
@@ -278,6 +279,20 @@ def _named(name: str) -> None:
         raise Left("a name that is none")
 
 
+def _dispid_of(form: Form) -> int:
+    """The DISPID of a form that can be kept."""
+    if form.kind == "putref":
+        raise Left("a put by reference")
+    if form.is_vararg:
+        raise Left("a list of arguments of any length")
+    _named(form.name)
+    if form.dispid is None:
+        raise Left("no DISPID")
+    if form.dispid in (-1, -3):
+        raise Left("a DISPID that is taken")
+    return form.dispid
+
+
 class Importer:
     """The library of a Reader, as `text`. `lines` has a line for each thing that was left out,
     `kept` counts the forms of members that were not."""
@@ -288,42 +303,31 @@ class Importer:
         self._reader = reader
         self._as = {"float": double, "double": double, "date": {"CY": "CURRENCY"}.get(date, date)}
         self._only = only
-        self.lines: typing.List[str] = []
+        self.lines: list[str] = []
         self.kept = self.left = 0
-        self.interfaces: typing.List[_Chosen] = []
-        self.coclasses: typing.List[str] = []
+        self.interfaces: list[_Chosen] = []
+        self.coclasses: list[str] = []
         self.text = self._written()
 
     # --- types
 
-    def _carried(self, of: Type, pointers: int) -> typing.Optional[Carried]:
-        """A type, where so many pointers to it are none of it; None is void."""
+    def _carried(self, of: Type, pointers: int) -> Carried | None:
+        """A type without so many of its pointers; None is void."""
         known, pointed, element, steps = "", 0, None, 0
         while not known:
             pointed += of.pointers
             if of.is_array:
                 raise Left("array of C")
-            kind, _, name = of.words.rpartition(" ")
             typedef = self._reader.typedefs.get(of.words)
             if of.element is not None:
                 known, element = "array", of.element
-            elif of.words in _AUTOMATION:
-                known = _AUTOMATION[of.words]
-            elif typedef is not None:
+            elif typedef is not None and of.words not in _AUTOMATION:
                 steps += 1
                 if steps > DEPTH_LIMIT:
                     raise Left("alias that does not end")
                 of = typedef
-            elif of.words in _KNOWN:
-                known = _KNOWN[of.words]
-            elif kind == "enum":
-                known = "long"
-            elif kind in ("struct", "union"):
-                known = "record"
-            elif kind == "interface" or of.words in self._reader.interfaces:
-                known = "interface"
             else:
-                raise Left(f"type {of.words[:NAME]}, which is not known")
+                known = self._known(of)
         if known in _LEFT:
             raise Left(_LEFT[known])
         if pointed > pointers or known == "void" and pointed:
@@ -341,6 +345,21 @@ class Importer:
                 raise Left(known)
             return Carried(self._as[known], was=known)
         return Carried(known)
+
+    def _known(self, of: Type) -> str:
+        """A type that is no array, pointer or alias, by its words."""
+        if of.words in _AUTOMATION:
+            return _AUTOMATION[of.words]
+        if of.words in _KNOWN:
+            return _KNOWN[of.words]
+        kind = of.words.rpartition(" ")[0]
+        if kind == "enum":
+            return "long"
+        if kind in ("struct", "union"):
+            return "record"
+        if kind == "interface" or of.words in self._reader.interfaces:
+            return "interface"
+        raise Left(f"type {of.words[:NAME]}, which is not known")
 
     def _default(self, given: Parameter, of: Carried) -> str:
         """The literal of a default."""
@@ -380,38 +399,15 @@ class Importer:
 
     def _form(self, form: Form, names: typing.Sequence[str]) -> Kept:
         """A form as it is written; its parameters have the names of the member's first form."""
-        if form.kind == "putref":
-            raise Left("a put by reference")
-        if form.is_vararg:
-            raise Left("a list of arguments of any length")
-        _named(form.name)
-        if form.dispid is None:
-            raise Left("no DISPID")
-        if form.dispid in (-1, -3):
-            raise Left("a DISPID that is taken")
+        dispid = _dispid_of(form)
         given = [it for it in form.parameters if "lcid" not in it.words]
-        result: typing.Optional[Type] = (
+        result: Type | None = (
             None if form.type.words == "HRESULT" and not form.type.pointers else form.type
         )
         pointers = 0
         if given and "retval" in given[-1].words:
             result, pointers = given.pop().type, 1
-        if len(given) > PARAMETERS:
-            raise Left(f"limit: {PARAMETERS} parameters")
-        parameters: typing.List[Taken] = []
-        for place, it in enumerate(given):
-            is_value = form.kind == "put" and place == len(given) - 1
-            name = (
-                ""
-                if is_value
-                else (names[place] if place < len(names) else "") or f"Parameter{place + 1}"
-            )
-            try:
-                parameters.append(self._parameter(form.kind, it, name, is_value))
-            except Left as why:
-                raise Left(
-                    f"{why}, {'the new value' if is_value else f'parameter {name[: NAME + 1]}'}"
-                ) from None
+        parameters = self._taken(form.kind, given, names)
         folded = [fold(it.name) for it in parameters if it.name]
         if len({*folded}) != len(folded):
             raise Left("two parameters of one name")
@@ -425,7 +421,26 @@ class Importer:
             parameters[-1] = parameters[-1]._replace(name=name)
         elif value is None and form.kind != "method":
             raise Left("a get without a result")
-        return Kept(form.name, form.dispid, form.kind, value, parameters)
+        return Kept(form.name, dispid, form.kind, value, parameters)
+
+    def _taken(
+        self, kind: str, given: typing.Sequence[Parameter], names: typing.Sequence[str]
+    ) -> list[Taken]:
+        """The parameters of a form, of which those before a put's new value have these names."""
+        if len(given) > PARAMETERS:
+            raise Left(f"limit: {PARAMETERS} parameters")
+        parameters: list[Taken] = []
+        for place, it in enumerate(given):
+            is_value = kind == "put" and place == len(given) - 1
+            name = names[place] if place < len(names) and not is_value else ""
+            if not is_value:
+                name = name or f"Parameter{place + 1}"
+            try:
+                parameters.append(self._parameter(kind, it, name, is_value))
+            except Left as why:
+                told = "the new value" if is_value else f"parameter {name[: NAME + 1]}"
+                raise Left(f"{why}, {told}") from None
+        return parameters
 
     def _parameter(self, kind: str, given: Parameter, name: str, is_value: bool) -> Taken:
         if not is_value:
@@ -449,10 +464,10 @@ class Importer:
             self._default(given, of) if has_default else "",
         )
 
-    def _forms(self, of: Interface) -> typing.List[Form]:
+    def _forms(self, of: Interface) -> list[Form]:
         """The forms of an interface, those that it has of others first."""
-        chain: typing.List[Interface] = []
-        at: typing.Optional[Interface] = of
+        chain: list[Interface] = []
+        at: Interface | None = of
         while (
             at is not None and at.name not in (_IDISPATCH, _IUNKNOWN) and len(chain) < DEPTH_LIMIT
         ):
@@ -466,16 +481,16 @@ class Importer:
         found = self._reader.interfaces.get(name)
         return found is not None and found.is_defined
 
-    def _kept_of(self, of: Interface) -> typing.Optional[typing.List[Kept]]:
-        """What is kept of an interface's members; None where it has some and none is."""
+    def _kept_of(self, of: Interface) -> list[Kept] | None:
+        """The members of an interface that are kept; None if it has some and none is kept."""
         forms = self._forms(of)
-        first: typing.Dict[str, typing.List[str]] = {}
+        first: dict[str, list[str]] = {}
         for form in forms:
             own = form.parameters[: -1 if form.kind in ("put", "putref") else None]
             first.setdefault(form.name, [it.name for it in own if "lcid" not in it.words])
-        kept: typing.List[Kept] = []
-        names: typing.Dict[str, typing.List[Kept]] = {}
-        dispids: typing.Dict[int, str] = {}
+        kept: list[Kept] = []
+        names: dict[str, list[Kept]] = {}
+        dispids: dict[int, str] = {}
         count = 0
         for form in forms:
             try:
@@ -493,9 +508,7 @@ class Importer:
         return kept if kept or not forms else None
 
     @staticmethod
-    def _joined(
-        made: Kept, others: typing.List[Kept], dispids: typing.Dict[int, str], count: int
-    ) -> int:
+    def _joined(made: Kept, others: list[Kept], dispids: dict[int, str], count: int) -> int:
         """How many declarations a form adds to so many: get and put without parameters are one."""
         if others:
             if len(others) > 1 or {made.kind, others[0].kind} != {"get", "put"}:
@@ -521,7 +534,7 @@ class Importer:
 
     def _dispatches(self, of: Interface) -> bool:
         """Whether members of an interface are called by their DISPIDs."""
-        at: typing.Optional[Interface] = of
+        at: Interface | None = of
         for _ in range(DEPTH_LIMIT):
             if at is None:
                 return False
@@ -530,8 +543,8 @@ class Importer:
             at = self._reader.interfaces.get(at.base)
         return False
 
-    def _reached(self) -> typing.List[Interface]:
-        """The interfaces of the library: those that stand in it, and all that these name."""
+    def _reached(self) -> list[Interface]:
+        """The interfaces of the library: those that it contains, and all that these name."""
         seen = {
             *self._reader.listed,
             *(entry.name for it in self._reader.coclasses for entry in it.entries),
@@ -541,7 +554,7 @@ class Importer:
         while waiting:
             name = waiting.pop()
             at = self._reader.interfaces.get(name)
-            types: typing.List[Type] = []
+            types: list[Type] = []
             if at is not None and at.is_defined and name not in (_IDISPATCH, _IUNKNOWN):
                 found.append(at)
                 types = [*at.named, Type(at.base)]
@@ -560,22 +573,9 @@ class Importer:
                     waiting.append(following)
         return sorted(found, key=lambda it: (fold(it.name), it.name))
 
-    def _written(self) -> str:
-        reader = self._reader
-        name = reader.name
-        try:
-            _named(name)
-        except Left as why:
-            self._leave(f"library {name[: NAME + 1]}: {why}; it is called Library")
-            name = "Library"
-        if not reader.guid:
-            raise ValueError("the library has no GUID")
-        for kind, other in reader.others:
-            told = "its constants; as a type it is long" if kind == "enum" else kind
-            self._leave(f"{kind} {other[: NAME + 1]}: {told}")
-        names: typing.Set[str] = set()
-        guids = {reader.guid}
-        chosen: typing.Dict[str, _Chosen] = {}
+    def _chosen(self, names: set[str], guids: set[str]) -> dict[str, _Chosen]:
+        """The interfaces that are kept, whose names and GUIDs are added to these."""
+        chosen: dict[str, _Chosen] = {}
         wanted = self._wanted()
         for it in self._reached():
             if wanted is not None and it.name not in wanted:
@@ -593,6 +593,24 @@ class Importer:
                 guids.add(it.guid)
             except Left as why:
                 self._leave(f"interface {it.name[: NAME + 1]}: {why}")
+        return chosen
+
+    def _written(self) -> str:
+        reader = self._reader
+        name = reader.name
+        try:
+            _named(name)
+        except Left as why:
+            self._leave(f"library {name[: NAME + 1]}: {why}; it is called Library")
+            name = "Library"
+        if not reader.guid:
+            raise WrongValue("the library has no GUID")
+        for kind, other in reader.others:
+            told = "its constants; as a type it is long" if kind == "enum" else kind
+            self._leave(f"{kind} {other[: NAME + 1]}: {told}")
+        names: set[str] = set()
+        guids = {reader.guid}
+        chosen = self._chosen(names, guids)
         classes = self._classes(chosen, names, guids)
         version = "{}.{}".format(*reader.version)
         head = f"[uuid({reader.guid}), version({version})]\nlibrary {name} {{\n"
@@ -608,22 +626,22 @@ class Importer:
                 self._leave(f"coclass {coclass.name}: none of its interfaces is kept")
         self.interfaces = [*chosen.values()]
         if not chosen:
-            raise ValueError("nothing of the library is kept")
+            raise WrongValue("nothing of the library is kept")
         self.kept = sum(len(it.members) for it in self.interfaces)
         return head + "".join(it.text for it in self.interfaces) + "".join(self.coclasses) + "}\n"
 
-    def _wanted(self) -> typing.Optional[typing.Set[str]]:
-        """The names of the interfaces of the coclasses that were asked for; None for all."""
+    def _wanted(self) -> set[str] | None:
+        """The names of the interfaces of the requested coclasses; None for all."""
         if not self._only:
             return None
         found = {fold(it.name): it for it in self._reader.coclasses}
         for name in self._only:
             if fold(name) not in found:
-                raise ValueError(f"the library has no coclass {name}")
+                raise WrongValue(f"the library has no coclass {name}")
         return {entry.name for it in self._only for entry in found[fold(it)].entries}
 
     @staticmethod
-    def _item(name: str, guid: str, names: typing.Set[str], guids: typing.Set[str]) -> None:
+    def _item(name: str, guid: str, names: set[str], guids: set[str]) -> None:
         _named(name)
         if not guid or not guid.strip("0-"):
             raise Left("no GUID")
@@ -639,17 +657,17 @@ class Importer:
         )
 
     def _classes(
-        self, chosen: typing.Dict[str, _Chosen], names: typing.Set[str], guids: typing.Set[str]
-    ) -> typing.List[typing.Tuple[Coclass, typing.List[Entry]]]:
+        self, chosen: dict[str, _Chosen], names: set[str], guids: set[str]
+    ) -> list[tuple[Coclass, list[Entry]]]:
         """The coclasses with those entries whose interfaces are kept so far."""
-        found: typing.List[typing.Tuple[Coclass, typing.List[Entry]]] = []
+        found: list[tuple[Coclass, list[Entry]]] = []
         for it in sorted(self._reader.coclasses, key=lambda it: (fold(it.name), it.name)):
             if self._only and fold(it.name) not in map(fold, self._only):
                 continue
             try:
                 self._item(it.name, it.guid, names, guids)
-                entries: typing.List[Entry] = []
-                seen: typing.Set[str] = set()
+                entries: list[Entry] = []
+                seen: set[str] = set()
                 for entry in it.entries:
                     if entry.is_source:
                         self._leave_entry(it, entry, "source interface")
@@ -673,8 +691,8 @@ class Importer:
 
     def _fit(
         self,
-        chosen: typing.Dict[str, _Chosen],
-        classes: typing.List[typing.Tuple[Coclass, typing.List[Entry]]],
+        chosen: dict[str, _Chosen],
+        classes: list[tuple[Coclass, list[Entry]]],
         room: int,
     ) -> None:
         """Leaves interfaces out until the rest fits; the coclasses' defaults come first, then their
@@ -696,11 +714,11 @@ class Importer:
             del chosen[it.name]
 
 
-def _default_of(entries: typing.List[Entry]) -> Entry:
+def _default_of(entries: list[Entry]) -> Entry:
     return next((it for it in entries if it.is_default), entries[0])
 
 
-def _class_text(of: Coclass, entries: typing.List[Entry]) -> str:
+def _class_text(of: Coclass, entries: list[Entry]) -> str:
     default = _default_of(entries)
     lines = "".join(
         f"{'[default] ' if it is default else ''}dispinterface {it.name};\n" for it in entries
@@ -710,28 +728,46 @@ def _class_text(of: Coclass, entries: typing.List[Entry]) -> str:
 
 def add_words(parser: argparse.ArgumentParser) -> None:
     """The words of `import`."""
-    parser.add_argument("file", metavar="FILE.idl")
+    parser.add_argument("file", metavar="FILE.idl", help="MIDL text")
     parser.add_argument(
-        "-o", "--output", metavar="OUT.idl", help="the file to write; else standard output"
+        "-o", "--output", metavar="OUT.idl", help="File to write. Default: standard output"
     )
     parser.add_argument(
-        "--double", choices=["DECIMAL"], default="", help="floating-point numbers as this type"
+        "--double",
+        choices=["DECIMAL"],
+        default="",
+        help="Type for floating-point numbers. Default: leave out members that have any",
     )
-    parser.add_argument("--date", choices=["CY", "BSTR"], default="", help="dates as this type")
+    parser.add_argument(
+        "-I",
+        metavar="FOLDER",
+        dest="folders",
+        action="append",
+        default=[],
+        help="Folder of files that the text imports or includes; may be repeated",
+    )
+    parser.add_argument(
+        "--date",
+        choices=["CY", "BSTR"],
+        default="",
+        help="Type for dates. Default: leave out members that have any",
+    )
     parser.add_argument(
         "--only",
         metavar="COCLASS",
         action="append",
         default=[],
-        help="this coclass with its interfaces alone; may be repeated",
+        help="Coclass to import with its interfaces; may be repeated. Default: all coclasses",
     )
 
 
 def run(given: argparse.Namespace) -> int:
-    """Writes the library of a MIDL text, to standard output where no file is named, and what is
-    left out to standard error. Gives the exit status."""
-    output: typing.Optional[str] = given.output
-    reader = Reader(given.file)
+    """Writes the library of a MIDL text, to standard output if no file is named, and a line for
+    everything left out to standard error. Returns the exit status."""
+    output: str | None = given.output
+    if output is not None:
+        not_its_own(output, given.file)
+    reader = Reader(given.file, given.folders)
     made = Importer(reader, given.double, given.date, given.only)
     if output is None:
         sys.stdout.write(made.text)

@@ -1,12 +1,11 @@
-"""What a server's type library says: descriptions of interfaces and coclasses, and their members by
-name."""
+"""A server's type library: descriptions of interfaces and coclasses, and their members by name."""
 from __future__ import annotations
 
 import difflib
 import typing
 import uuid
 
-from .faults import Malformed
+from .faults import NoSuchName, ProtocolError, WrongType
 from .records import (
     METHOD,
     NEW_VALUE,
@@ -48,8 +47,9 @@ _TYPE_WORDS = {
 _SHOWN = 200
 
 Which = typing.Union[str, uuid.UUID]
-# what packs a request, the bytes of it between an object's number and the value, and the range
-QuickPut = typing.Tuple[typing.Callable[..., bytes], bytes, int, int]
+# the function that packs a request, its bytes between an object's number and the value, and the
+# range
+QuickPut = tuple[typing.Callable[..., bytes], bytes, int, int]
 
 
 def type_word(vt: int) -> str:
@@ -59,12 +59,12 @@ def type_word(vt: int) -> str:
 
 
 class Parameter(typing.NamedTuple):
-    """A parameter as described; `default` is the value of its default, where flag 0x20 is set."""
+    """A parameter as described; `default` is the value of its default, if flag 0x20 is set."""
 
     vt: int
     flags: int
     name: str
-    default: typing.Any
+    default: object
 
 
 class Form(typing.NamedTuple):
@@ -76,7 +76,7 @@ class Form(typing.NamedTuple):
     flags: int
     vt: int
     name: str
-    parameters: typing.List[Parameter]
+    parameters: list[Parameter]
 
 
 class Interface(typing.NamedTuple):
@@ -84,7 +84,7 @@ class Interface(typing.NamedTuple):
 
     guid: uuid.UUID
     name: str
-    forms: typing.List[Form]
+    forms: list[Form]
 
 
 class Coclass(typing.NamedTuple):
@@ -92,7 +92,7 @@ class Coclass(typing.NamedTuple):
 
     guid: uuid.UUID
     name: str
-    entries: typing.List[typing.Tuple[int, int]]
+    entries: list[tuple[int, int]]
 
 
 Description = typing.Union[Interface, Coclass]
@@ -106,12 +106,12 @@ def read_description(fields: bytes) -> Description:
     found: Description
     if kind == KIND_COCLASS:
         found = Coclass(
-            guid, name, [typing.cast(typing.Tuple[int, int], at.take("II")) for _ in range(count)]
+            guid, name, [typing.cast(tuple[int, int], at.take("II")) for _ in range(count)]
         )
     elif kind == KIND_INTERFACE:
         found = Interface(guid, name, [_read_form(at) for _ in range(count)])
     else:
-        raise Malformed(f"no description has the kind {kind}")
+        raise ProtocolError(f"no description has the kind {kind}")
     at.end()
     return found
 
@@ -183,12 +183,13 @@ class Member:
         # whether its name alone asks for its value
         self.is_plain = not (self.is_method or self.parameters or self.vt & ARRAY)
         of_text = self.vt in (VT_BSTR, ARRAY + VT_BSTR)
-        self.read: typing.Callable[[bytes], typing.Any] = read_text_value if of_text else read_value
+        self.read: typing.Callable[[bytes], object] = read_text_value if of_text else read_value
         # of the wire form of an interface's GUID what a get, or a put of a whole number, is made by
-        self.gets: typing.Dict[bytes, bytes] = {}
-        self.puts: typing.Dict[bytes, QuickPut] = {}
+        self.gets: dict[bytes, bytes] = {}
+        self.puts: dict[bytes, QuickPut] = {}
         names = [it.name for it in self.parameters]
-        # what stands where in rgvarg, by whether there is a new value, and how many are positional
+        # the names of the places in rgvarg, by whether there is a new value, and how many are
+        # positional
         self.told = {
             (put, count): ["the new value"] * put + names[:count][::-1]
             for put in (False, True)
@@ -197,16 +198,16 @@ class Member:
 
     def arguments(
         self,
-        positional: typing.Sequence[typing.Any],
-        named: typing.Mapping[str, typing.Any],
-        put: typing.Sequence[typing.Any] = (),
-    ) -> typing.Tuple[typing.List[int], typing.List[bytes], typing.List[str]]:
-        """The named DISPIDs, the variant fields in the order of rgvarg, and what stands where;
-        `put` has the new value of a put."""
+        positional: typing.Sequence[object],
+        named: typing.Mapping[str, object],
+        put: typing.Sequence[object] = (),
+    ) -> tuple[list[int], list[bytes], list[str]]:
+        """The named DISPIDs, the variant fields in the order of rgvarg, and the name of each
+        argument; `put` has the new value of a put."""
         places = [self._place(name) for name in named]
         for place in range(len(positional)):
             if place in places:
-                raise TypeError(f"{self.name}: {self.parameters[place].name} is given twice")
+                raise WrongType(f"{self.name}: {self.parameters[place].name} is given twice")
         told = [("the new value", self.vt, value) for value in put]
         told += [
             (self.parameters[place].name, self.parameters[place].vt, value)
@@ -237,25 +238,40 @@ class Member:
             if fold(parameter.name) == fold(name):
                 return place
         meant = close_to(name, [it.name for it in self.parameters])
-        raise TypeError(f"{self.name} has no parameter {name}{meant}")
+        raise WrongType(f"{self.name} has no parameter {name}{meant}")
 
 
 class Library:
-    """What the server's type library says: `interfaces`, `coclasses`, and the members of an
-    interface by name."""
+    """The server's type library: `interfaces`, `coclasses`, and the members of an interface by
+    name."""
+
+    @classmethod
+    def from_text(cls, text: str | bytes) -> Library:
+        """The library of a text (docs/reference/idl.md), without the program and without a file.
+        Raises NotALibrary if `oaut check` refuses the text, with the same fault, unless only its
+        canonical text is too long."""
+        from .parsing import parsed
+
+        return cls(parsed(text))
+
+    def to_text(self) -> str:
+        """A text of which `from_text` makes the same library."""
+        from .parsing import text_of
+
+        return text_of(self.interfaces, self.coclasses)
 
     def __init__(self, descriptions: typing.Sequence[Description]) -> None:
         self.interfaces = [it for it in descriptions if isinstance(it, Interface)]
         self.coclasses = [it for it in descriptions if isinstance(it, Coclass)]
-        self._members: typing.Dict[str, typing.Dict[str, Member]] = {}
-        self._spelled: typing.Dict[str, typing.Dict[str, Member]] = {}
+        self._members: dict[str, dict[str, Member]] = {}
+        self._spelled: dict[str, dict[str, Member]] = {}
         parameters = [
             it
             for interface in self.interfaces
             for form in interface.forms
             for it in form.parameters
         ]
-        # what defaults may add to the event of one request
+        # the bytes that defaults may add to the log record of one request
         self.defaults_size = sum(
             len(spell(it.default, it.vt)) for it in parameters if it.flags & HAS_DEFAULT
         )
@@ -273,7 +289,7 @@ class Library:
         return f"<oaut.Library: {len(self.interfaces)} interfaces, coclasses {names}{more}>"
 
     def _repr_html_(self) -> str:
-        """What a notebook shows: each coclass with the members of each of its interfaces."""
+        """HTML for notebooks: each coclass with the members of each of its interfaces."""
         rows = []
         for of in self.coclasses:
             for _, index in of.entries:
@@ -285,30 +301,30 @@ class Library:
         return html_table(repr(self), heads, rows[:_SHOWN], left_out)
 
     def coclass(self, which: Which) -> Coclass:
-        """The coclass of a name or a GUID (a UUID, or its text). Raises LookupError where there is
-        none."""
+        """The coclass of a name or a GUID (a UUID, or its text, also in braces). Raises LookupError
+        if there is none."""
         found = self._find(self.coclasses, which)
         if found is None:
-            raise LookupError(
+            raise NoSuchName(
                 f"no coclass {which}; there are: {', '.join(it.name for it in self.coclasses)}"
             )
         return found
 
-    def interface(self, coclass: Coclass, which: typing.Optional[Which] = None) -> Interface:
-        """An interface of a coclass by name or GUID, its default one where none is given."""
+    def interface(self, coclass: Coclass, which: Which | None = None) -> Interface:
+        """An interface of a coclass by name or GUID, its default one if none is given."""
         own = [(flags, self.interfaces[index]) for flags, index in coclass.entries]
         if which is None:
             return next((it for flags, it in own if flags & DEFAULT_INTERFACE), own[0][1])
         found = self._find([it for _, it in own], which)
         if found is None:
             names = ", ".join(it.name for _, it in own)
-            raise LookupError(f"{coclass.name} has no interface {which}; there are: {names}")
+            raise NoSuchName(f"{coclass.name} has no interface {which}; there are: {names}")
         return found
 
-    def members(self, interface: Interface) -> typing.Dict[str, Member]:
+    def members(self, interface: Interface) -> dict[str, Member]:
         """The members by folded name, in the library's order."""
         if interface.name not in self._members:
-            forms: typing.Dict[str, typing.List[Form]] = {}
+            forms: dict[str, list[Form]] = {}
             for form in interface.forms:
                 forms.setdefault(fold(form.name), []).append(form)
             self._members[interface.name] = {
@@ -316,7 +332,7 @@ class Library:
             }
         return self._members[interface.name]
 
-    def spelled(self, interface: Interface, but: typing.Container[str]) -> typing.Dict[str, Member]:
+    def spelled(self, interface: Interface, but: typing.Container[str]) -> dict[str, Member]:
         """The members by their names as the library spells them, but for these names and those that
         begin with two low lines."""
         if interface.name not in self._spelled:
@@ -326,7 +342,7 @@ class Library:
             }
         return self._spelled[interface.name]
 
-    def words_of(self, guid: uuid.UUID, dispid: typing.Optional[int]) -> str:
+    def words_of(self, guid: uuid.UUID, dispid: int | None) -> str:
         """A member of an interface, or a whole interface or coclass, in words: `Item.Cell of DItem,
         DISPID 9`."""
         interface = self._find(self.interfaces, guid)
@@ -350,11 +366,12 @@ class Library:
     _D = typing.TypeVar("_D", Interface, Coclass)
 
     @staticmethod
-    def _find(among: typing.Sequence[_D], which: Which) -> typing.Optional[_D]:
+    def _find(among: typing.Sequence[_D], which: Which) -> _D | None:
         for it in among:
             if isinstance(which, uuid.UUID):
                 if it.guid == which:
                     return it
-            elif fold(it.name) == fold(which) or str(it.guid) == which.lower():
-                return it
+            elif isinstance(which, str):
+                if fold(it.name) == fold(which) or str(it.guid) == which.strip("{}").lower():
+                    return it
         return None

@@ -1,8 +1,8 @@
 """A small reader of MIDL text: the interfaces, coclasses and types of the library in it.
 
 It knows the words of `#define` without parameters, of `#ifdef` and its kin, and reads what
-`#include` names where that is there; `import` lines are named and skipped. A statement that it
-cannot read is left out, with a line in `Reader.notes`.
+`#include` and `import` name if that is there. A statement that it cannot read is left out, and so
+is what no library has, each with a line in `Reader.notes`.
 """
 from __future__ import annotations
 
@@ -11,7 +11,16 @@ import os
 import re
 import typing
 
+from .faults import WrongValue
+
 BYTES_LIMIT, TOKENS_LIMIT, DEPTH_LIMIT = 8 << 20, 2_000_000, 64
+IMPORTS_LIMIT = 16
+# files whose names are known, so that they are not read
+_KNOWN_FILES = {
+    *("oaidl.idl", "objidl.idl", "ocidl.idl", "oleidl.idl", "unknwn.idl", "wtypes.idl"),
+    *("wtypesbase.idl", "unknwnbase.idl", "objidlbase.idl", "basetsd.h", "guiddef.h"),
+    *("oaidl.acf", "propidl.idl", "propidlbase.idl", "urlmon.idl", "servprov.idl"),
+}
 
 _STRIPPED = re.compile(
     r"""/\*.*?\*/|/\*|//[^\n]*|"[^"\\\n]*(?:\\.[^"\\\n]*)*"|'[^'\\\n]*(?:\\.[^'\\\n]*)*'""",
@@ -33,7 +42,7 @@ _DIRECTIVE = re.compile(r"\s*#\s*(\w*)\s*(.*)", re.DOTALL)
 _ESCAPES = {"n": "\n", "t": "\t", "r": "\r", "0": "\0"}
 _OPEN, _CLOSE = "([{", ")]}"
 # how tight the binary operators bind, and what they give
-_BINARY: typing.Dict[str, typing.Tuple[int, typing.Callable[[int, int], int]]] = {
+_BINARY: dict[str, tuple[int, typing.Callable[[int, int], int]]] = {
     "||": (1, lambda one, other: bool(one or other)),
     "&&": (2, lambda one, other: bool(one and other)),
     **{"|": (3, operator.or_), "^": (4, operator.xor), "&": (5, operator.and_)},
@@ -45,11 +54,16 @@ _BINARY: typing.Dict[str, typing.Tuple[int, typing.Callable[[int, int], int]]] =
     },
     **{"<=": (7, operator.le), ">=": (7, operator.ge), "<<": (8, operator.lshift)},
     **{">>": (8, operator.rshift), "+": (9, operator.add), "-": (9, operator.sub)},
-    **{"*": (10, operator.mul), "/": (10, operator.floordiv), "%": (10, operator.mod)},
+    **{
+        "*": (10, operator.mul),
+        # (C cuts towards 0)
+        "/": (10, lambda one, other: abs(one) // abs(other) * (1 if one ^ other >= 0 else -1)),
+        "%": (10, lambda one, other: abs(one) % abs(other) * (1 if one >= 0 else -1)),
+    },
 }
 _NONE = (0, operator.add)
 _CALLING = {"__stdcall", "_stdcall", "__cdecl", "_cdecl", "pascal", "WINAPI", "STDMETHODCALLTYPE"}
-_CONSTANTS: typing.Dict[str, "Value"] = {
+_CONSTANTS: dict[str, "Value"] = {
     **{"TRUE": True, "FALSE": False, "VARIANT_TRUE": True, "VARIANT_FALSE": False, "NULL": 0},
     **{"DISPID_VALUE": 0, "DISPID_UNKNOWN": -1, "DISPID_NEWENUM": -4, "DISPID_EVALUATE": -5},
 }
@@ -68,7 +82,7 @@ class Unreadable(Exception):
 
 
 class Token(typing.NamedTuple):
-    """A token and where it stands; `kind` is a name of a group of _TOKEN, or "end"."""
+    """A token, and whether it is one; `kind` is a name of a group of _TOKEN, or "end"."""
 
     kind: str
     text: str
@@ -77,34 +91,34 @@ class Token(typing.NamedTuple):
 
 
 class Type(typing.NamedTuple):
-    """A type as it stands: its words, how many times it is pointed to, and of a SAFEARRAY the
+    """A type as it is written: its words, how many times it is pointed to, and of a SAFEARRAY the
     element. `enum X`, `struct X`, `union X` and `interface X` have their word before the name;
     `is_array` is an array of C."""
 
     words: str
     pointers: int = 0
-    element: typing.Optional["Type"] = None
+    element: "Type" | None = None
     is_array: bool = False
 
 
 class Parameter(typing.NamedTuple):
-    """A parameter: its name, "" where it has none, its attributes, and the value of its default."""
+    """A parameter: its name, "" if it has none, its attributes, and the value of its default."""
 
     name: str
     type: Type
-    words: typing.FrozenSet[str]
-    default: typing.Optional[Value]
+    words: frozenset[str]
+    default: Value | None
 
 
 class Form(typing.NamedTuple):
     """A function or a property: kind is property, readonly, method, get, put or putref. `dispid` is
-    None where it has none."""
+    None if it has none."""
 
     name: str
-    dispid: typing.Optional[int]
+    dispid: int | None
     kind: str
     type: Type
-    parameters: typing.List[Parameter]
+    parameters: list[Parameter]
     is_vararg: bool
 
 
@@ -117,9 +131,9 @@ class Interface:
         self.guid = ""
         self.base = ""
         self.is_dispinterface = self.is_defined = self.is_dual = False
-        self.forms: typing.List[Form] = []
-        self.dispids: typing.Dict[str, int] = {}  # of a name the first one
-        self.named: typing.List[Type] = []  # types of its members, also of those that were left out
+        self.forms: list[Form] = []
+        self.dispids: dict[str, int] = {}  # of a name the first one
+        self.named: list[Type] = []  # types of its members, also of those that were left out
 
 
 class Entry(typing.NamedTuple):
@@ -135,36 +149,53 @@ class Coclass(typing.NamedTuple):
 
     name: str
     guid: str
-    entries: typing.List[Entry]
+    entries: list[Entry]
 
 
-Attributes = typing.Dict[str, typing.List[Token]]
+Attributes = dict[str, list[Token]]
+
+
+def _whole_lines(lines: list[str]) -> typing.Iterator[tuple[int, str]]:
+    """Each line with those that continue it, and its number."""
+    at = 0
+    while at < len(lines):
+        number = at + 1
+        parts = [lines[at].rstrip("\r")]
+        while parts[-1].endswith("\\") and at + 1 < len(lines):
+            parts[-1] = parts[-1][:-1]
+            at += 1
+            parts.append(lines[at].rstrip("\r"))
+        at += 1
+        yield number, " ".join(parts)
 
 
 class Reader:
-    """What a file says. Raises ValueError, or OSError, where it cannot be read to its end or has no
+    """Reads a file. Raises ValueError, or OSError, if it cannot be read to its end or has no
     library."""
 
-    def __init__(self, path: str) -> None:
+    def __init__(self, path: str, folders: typing.Sequence[str] = ()) -> None:
         self.name, self.guid, self.version = "", "", (0, 0)
-        self.interfaces: typing.Dict[str, Interface] = {}
-        self.coclasses: typing.List[Coclass] = []
-        self.typedefs: typing.Dict[str, Type] = {}
-        self.records: typing.Dict[str, typing.List[Type]] = {}  # what stands in them
-        self.listed: typing.List[str] = []  # the interfaces that the library itself names
-        self.others: typing.List[typing.Tuple[str, str]] = []  # kinds and names of its other items
-        self.notes: typing.List[str] = []
+        self._folders = folders
+        self._imported = {os.path.realpath(path)}
+        self._importing = 0
+        self.interfaces: dict[str, Interface] = {}
+        self.coclasses: list[Coclass] = []
+        self.typedefs: dict[str, Type] = {}
+        self.records: dict[str, list[Type]] = {}  # the names in them
+        self.listed: list[str] = []  # the interfaces that the library itself names
+        self.others: list[tuple[str, str]] = []  # kinds and names of its other items
+        self.notes: list[str] = []
         self._constants = dict(_CONSTANTS)
-        self._macros: typing.Dict[str, typing.List[Token]] = {}
-        self._callable: typing.Set[str] = set()
+        self._macros: dict[str, list[Token]] = {}
+        self._callable: set[str] = set()
         self._bytes = self._tokens = self._depth = self._anonymous = 0
         self._in_library = False
-        self._ahead: typing.List[Token] = []
+        self._ahead: list[Token] = []
         self._source = self._expanded(self._lexed(path, 0))
         self._end = Token("end", "", path, 0)
         self._read()
         if not self.name:
-            raise ValueError(f"{path}: has no library")
+            raise WrongValue(f"{path}: has no library")
 
     # --- lines and tokens
 
@@ -175,20 +206,11 @@ class Reader:
             content = file.read(BYTES_LIMIT - self._bytes + 1)
         self._bytes += len(content)
         if self._bytes > BYTES_LIMIT:
-            raise ValueError(f"{path}: above {BYTES_LIMIT:,} bytes, with what it includes")
+            raise WrongValue(f"{path}: above {BYTES_LIMIT:,} bytes, with what it includes")
         lines = _STRIPPED.sub(lambda it: _bare(it, path), content.decode("latin-1")).split("\n")
-        taken: typing.List[bool] = []  # of each #if whether its lines count
-        was: typing.List[bool] = []  # and whether any of its branches did
-        at = 0
-        while at < len(lines):
-            number = at + 1
-            parts = [lines[at].rstrip("\r")]
-            while parts[-1].endswith("\\") and at + 1 < len(lines):
-                parts[-1] = parts[-1][:-1]
-                at += 1
-                parts.append(lines[at].rstrip("\r"))
-            at += 1
-            line = " ".join(parts)
+        taken: list[bool] = []  # of each #if whether its lines count
+        was: list[bool] = []  # and whether any of its branches did
+        for number, line in _whole_lines(lines):
             told = _DIRECTIVE.match(line)
             if told is None:
                 if not only_words and all(taken):
@@ -197,13 +219,13 @@ class Reader:
             word, rest = told[1], told[2].strip()
             if word in ("if", "ifdef", "ifndef"):
                 if len(taken) == DEPTH_LIMIT:
-                    raise ValueError(f"{path}:{number}: #if within #if, {DEPTH_LIMIT} deep")
+                    raise WrongValue(f"{path}:{number}: #if within #if, {DEPTH_LIMIT} deep")
                 holds = all(taken) and self._holds(word, rest, path, number)
                 taken.append(holds)
                 was.append(holds)
             elif word in ("elif", "else", "endif"):
                 if not taken:
-                    raise ValueError(f"{path}:{number}: #{word} without an #if")
+                    raise WrongValue(f"{path}:{number}: #{word} without an #if")
                 taken.pop()
                 if word == "endif":
                     was.pop()
@@ -221,7 +243,7 @@ class Reader:
                 elif word == "include" and not (only_words and depth > 1):
                     yield from self._included(rest, path, depth, only_words)
         if taken:
-            raise ValueError(f"{path}: an #if without its #endif")
+            raise WrongValue(f"{path}: an #if without its #endif")
 
     def _holds(self, word: str, rest: str, path: str, line: int) -> bool:
         if word != "if":
@@ -249,33 +271,43 @@ class Reader:
         except Unreadable as fault:
             if path.endswith(".h"):
                 return False
-            raise ValueError(f"{path}:{line}: #if: {fault}; `cpp -P` reads it") from None
+            raise WrongValue(f"{path}:{line}: #if: {fault}; `cpp -P` reads it") from None
 
     def _define(self, rest: str, path: str, line: int) -> None:
         name = re.match(r"[A-Za-z_]\w*", rest)
         if name is None:
             return
         if rest[name.end() : name.end() + 1] == "(":
-            self._callable.add(name[0])  # one with parameters: where it is used, nothing is put
+            self._callable.add(name[0])  # a macro with parameters: its uses are removed
         else:
             self._macros[name[0]] = list(_tokens_of(rest[name.end() :], path, line))
+            if self._macros[name[0]] and not path.endswith(".h"):
+                self._unkept(f"#define {_short(name[0])}: a library has no constants")
 
     def _included(
         self, rest: str, path: str, depth: int, only_words: bool
     ) -> typing.Iterator[Token]:
         name = re.match(r"""["<]([^">]+)[">]""", rest)
-        file = os.path.join(os.path.dirname(path), name[1]) if name else ""
-        if name is None or not os.path.isfile(file):
+        file = self._found(name[1], path) if name else None
+        if file is None:
             if not only_words:
                 self.notes.append(f"#include {rest}: not there, skipped")
         elif depth == 16:
-            raise ValueError(f"{path}: #include within #include, 16 deep")
+            raise WrongValue(f"{path}: #include within #include, 16 deep")
         else:
             yield from self._lexed(file, depth + 1, only_words or file.endswith(".h"))
 
+    def _found(self, name: str, path: str) -> str | None:
+        """The file of a name, beside another file or in one of the folders that were given."""
+        for folder in (os.path.dirname(path), *self._folders):
+            file = os.path.join(folder, name)
+            if os.path.isfile(file):
+                return file
+        return None
+
     def _expanded(self, source: typing.Iterator[Token]) -> typing.Iterator[Token]:
-        """The tokens, each word of a #define as what stands there for it."""
-        stack: typing.List[typing.Tuple[str, typing.Iterator[Token]]] = [("", source)]
+        """The tokens, with each word of a #define replaced."""
+        stack: list[tuple[str, typing.Iterator[Token]]] = [("", source)]
         while stack:
             token = next(stack[-1][1], None)
             if token is None:
@@ -288,7 +320,7 @@ class Reader:
                 and all(it != token.text for it, _ in stack)
             ):
                 if len(stack) == DEPTH_LIMIT:
-                    raise ValueError(
+                    raise WrongValue(
                         f"{token.file}:{token.line}: #define within #define, {DEPTH_LIMIT} deep"
                     )
                 stack.append((token.text, iter(self._macros[token.text])))
@@ -298,7 +330,7 @@ class Reader:
     def _count(self, token: Token) -> None:
         self._tokens += 1
         if self._tokens > TOKENS_LIMIT:
-            raise ValueError(f"{token.file}:{token.line}: above {TOKENS_LIMIT:,} tokens")
+            raise WrongValue(f"{token.file}:{token.line}: above {TOKENS_LIMIT:,} tokens")
 
     def _peek(self, place: int = 0) -> Token:
         while len(self._ahead) <= place:
@@ -318,7 +350,7 @@ class Reader:
         return token
 
     def _cut(self) -> ValueError:
-        return ValueError(f"{self._end.file}: ends in the middle of an item")
+        return WrongValue(f"{self._end.file}: ends in the middle of an item")
 
     def _is(self, text: str, place: int = 0) -> bool:
         token = self._peek(place)
@@ -332,17 +364,17 @@ class Reader:
 
     def _expect(self, text: str) -> None:
         if not self._took(text):
-            raise Unreadable(f"`{_short(self._peek().text)}` where `{text}` should be")
+            raise Unreadable(f"`{_short(self._peek().text)}` instead of `{text}`")
 
     def _word(self) -> str:
         if self._peek().kind != "name":
-            raise Unreadable(f"`{_short(self._peek().text)}` where a name should be")
+            raise Unreadable(f"`{_short(self._peek().text)}` instead of a name")
         return self._take().text
 
-    def _inside(self) -> typing.List[Token]:
-        """What stands up to the end of the bracket that was taken last; that is taken too."""
+    def _inside(self) -> list[Token]:
+        """The tokens up to the end of the last opening bracket, which is read, too."""
         depth = self._depth
-        found: typing.List[Token] = []
+        found: list[Token] = []
         while True:
             token = self._take()
             if self._depth < depth:
@@ -350,7 +382,7 @@ class Reader:
             found.append(token)
 
     def _skip(self, depth: int) -> None:
-        """Goes behind the statement that began at this depth of brackets."""
+        """Goes after the statement that began at this depth of brackets."""
         while self._peek().kind != "end":
             if self._depth <= depth and self._is("}"):
                 return
@@ -371,7 +403,7 @@ class Reader:
             elif not self._took(";"):
                 self._tried(self._item)
         if self._in_library:
-            raise ValueError(f"{self._end.file}: ends inside of library {self.name}")
+            raise WrongValue(f"{self._end.file}: ends inside of library {self.name}")
 
     def _tried(self, read: typing.Callable[[], None]) -> None:
         depth, first = self._depth, self._peek()
@@ -387,7 +419,7 @@ class Reader:
         attributes = self._attributes()
         word = self._word()
         if word == "import":
-            self.notes.append(f"import {' '.join(it.text for it in self._statement())}: skipped")
+            self._import()
         elif word == "importlib":
             self._expect("(")
             self.notes.append(f"importlib({' '.join(it.text for it in self._inside())}): skipped")
@@ -405,9 +437,47 @@ class Reader:
         else:
             self._declaration(attributes, word)
 
+    def _unkept(self, line: str) -> None:
+        """Reports a part that no library has, unless it is in an imported file."""
+        if not self._importing:
+            self.notes.append(line)
+
+    def _import(self) -> None:
+        """Reads the files that an import names, each once, for the types in them."""
+        for token in self._statement():
+            name = _text(token.text) if token.kind == "text" else ""
+            file = self._found(name, token.file) if name else None
+            if not name or os.path.basename(name).lower() in _KNOWN_FILES:
+                if name:
+                    self.notes.append(f'import "{name}": skipped')
+            elif file is None:
+                self.notes.append(
+                    f'import "{name}": not found, skipped; -I FOLDER names its folder'
+                )
+            elif os.path.realpath(file) not in self._imported:
+                self._imported.add(os.path.realpath(file))
+                self._read_imported(file)
+
+    def _read_imported(self, file: str) -> None:
+        if self._importing == IMPORTS_LIMIT:
+            raise WrongValue(f"{file}: import within import, {IMPORTS_LIMIT} deep")
+        kept = self._source, self._ahead, self._depth, self._in_library, self._end
+        words = self._macros, self._callable
+        self._macros, self._callable = {}, set()
+        self._source, self._ahead = self._expanded(self._lexed(file, 0)), []
+        self._depth, self._in_library, self._end = 0, False, Token("end", "", file, 0)
+        self._importing += 1
+        self._read()
+        self._importing -= 1
+        self._source, self._ahead, self._depth, self._in_library, self._end = kept
+        self._macros, self._callable = words
+
     def _library(self, attributes: Attributes) -> None:
         name = self._word()
         self._expect("{")
+        if self._importing:
+            self._inside()
+            return
         if self.name:
             self.notes.append(f"library {name}: a second one")
             self._inside()
@@ -462,7 +532,7 @@ class Reader:
         while self._peek().text in _CALLING:
             self._take()
         of, name = self._declarator(words)
-        parameters: typing.List[Parameter] = []
+        parameters: list[Parameter] = []
         if not in_properties:
             self._expect("(")
             parameters = self._parameters()
@@ -478,7 +548,7 @@ class Reader:
                 kind = told
         if in_properties:
             kind = "readonly" if "readonly" in attributes else "property"
-        dispid: typing.Optional[int] = None
+        dispid: int | None = None
         if "id" in attributes:
             try:
                 number = self._value(attributes["id"], 0)
@@ -488,7 +558,8 @@ class Reader:
             except Unreadable:
                 pass
         elif not to.is_dispinterface:
-            # what compilers give: that of the other form, else the place and how much is above
+            # as compilers do: the DISPID of the other form, or else one of the place and the number
+            # of parents
             place = 0x60000000 + (self._parents(to) << 16) + len(to.forms)
             dispid = to.dispids.setdefault(name, place)
         to.forms.append(Form(name, dispid, kind, of, parameters, "vararg" in attributes))
@@ -504,7 +575,7 @@ class Reader:
         if self._took(";"):
             return
         self._expect("{")
-        entries: typing.List[Entry] = []
+        entries: list[Entry] = []
         while not self._took("}"):
             words = self._attributes()
             if self._word() not in ("interface", "dispinterface"):
@@ -518,7 +589,7 @@ class Reader:
             self.coclasses.append(Coclass(name, self._guid(attributes), entries))
 
     def _declaration(self, attributes: Attributes, word: str) -> None:
-        """What is no interface, behind its first word."""
+        """Reads a declaration other than an interface, after its first word."""
         if word == "cpp_quote":
             self._expect("(")
             self._inside()
@@ -526,31 +597,38 @@ class Reader:
         elif word in ("pragma", "midl_pragma", "pragma_warning"):
             self._statement()
         elif word == "import":
-            self.notes.append(f"import {' '.join(it.text for it in self._statement())}: skipped")
+            self._import()
         elif word == "const":
             of, name = self._declarator(self._types({}))
             self._expect("=")
+            self._unkept(f"const {name}: a library has no constants")
             try:
                 self._constants[name] = self._value(self._statement(), 0)
             except Unreadable:
-                pass  # where it is used, it is not known
+                pass  # its uses are unknown constants
         elif word == "typedef":
             words = self._types({**attributes, **self._attributes()})
             while True:
                 of, name = self._declarator(words)
                 self.typedefs.setdefault(name, of)
-                if words.words.split()[0] in ("struct", "union", "enum"):
-                    self._other(words.words.split()[0], name)
+                kind = words.words.split()[0]
+                if kind in ("struct", "union") and not self._in_library:
+                    self._unkept(f"{kind} {name}: a library has none")
+                if kind in ("struct", "union", "enum"):
+                    self._other(kind, name)
                 if not self._took(","):
                     break
             self._expect(";")
         elif word in ("enum", "struct", "union"):
-            self._other(word, self._tagged(word).words.split()[1])
+            name = self._tagged(word).words.split()[1]
+            self._other(word, name)
+            if word != "enum" and not self._in_library:
+                self._unkept(f"{word} {name}: a library has none")
             self._expect(";")
         else:
             raise Unreadable(f"`{_short(word)}`")
 
-    def _statement(self) -> typing.List[Token]:
+    def _statement(self) -> list[Token]:
         """The rest of a statement; its semicolon is taken too."""
         found = []
         while not self._took(";"):
@@ -605,19 +683,20 @@ class Reader:
         return found
 
     def _tagged(self, word: str) -> Type:
-        """An enum, struct or union, behind its word."""
+        """An enum, struct or union, after its word."""
         self._anonymous += 1
         name = self._take().text if self._peek().kind == "name" else f"#{self._anonymous}"
         if self._took("{"):
             if word == "enum":
-                self._constants_of(self._inside())
+                self._constants_of(name, self._inside())
             else:
-                # what stands there counts for the interfaces that it names
+                # the text inside counts for the interfaces that it names
                 self.records[name] = [Type(it.text) for it in self._inside() if it.kind == "name"]
         return Type(f"{word} {name}")
 
-    def _constants_of(self, tokens: typing.List[Token]) -> None:
-        following: typing.Optional[Value] = 0
+    def _constants_of(self, of: str, tokens: list[Token]) -> None:
+        following: Value | None = 0
+        names: list[str] = []
         at = 0
         while at < len(tokens):
             end, depth = at, 0
@@ -632,6 +711,7 @@ class Reader:
                 ]
             if not item or item[0].kind != "name":
                 continue
+            names.append(_short(item[0].text))
             if len(item) > 1 and item[1].text == "=":
                 try:
                     following = self._value(item[2:], 0)
@@ -640,6 +720,10 @@ class Reader:
             if isinstance(following, int):
                 self._constants[item[0].text] = following
                 following += 1
+        told = ", ".join(names[:8]) + (f" and {len(names) - 8} more" if len(names) > 8 else "")
+        if names:
+            kind = "an enum" if of.startswith("#") else f"enum {of}"
+            self._unkept(f"{kind}, its constants {told}: a library has no constants")
 
     def _pointed(self, words: Type) -> Type:
         pointers = 0
@@ -647,7 +731,7 @@ class Reader:
             pointers += self._take().text == "*"
         return words._replace(pointers=words.pointers + pointers)
 
-    def _declarator(self, words: Type, needs_name: bool = True) -> typing.Tuple[Type, str]:
+    def _declarator(self, words: Type, needs_name: bool = True) -> tuple[Type, str]:
         found = self._pointed(words)
         while self._peek().text in _CALLING:
             self._take()
@@ -659,14 +743,14 @@ class Reader:
                 found = found._replace(is_array=True)
         return found, name
 
-    def _parameters(self) -> typing.List[Parameter]:
-        found: typing.List[Parameter] = []
+    def _parameters(self) -> list[Parameter]:
+        found: list[Parameter] = []
         if self._is("void") and self._is(")", 1):
             self._take()
         while not self._took(")"):
             attributes = self._attributes()
             of, name = self._declarator(self._types(attributes), False)
-            default: typing.Optional[Value] = None
+            default: Value | None = None
             if "defaultvalue" in attributes:
                 try:
                     default = self._value(attributes["defaultvalue"], 0)
@@ -678,7 +762,7 @@ class Reader:
                 raise Unreadable(f"`{_short(self._peek().text)}` in a list of parameters")
         return found
 
-    def _value(self, tokens: typing.List[Token], depth: int) -> Value:
+    def _value(self, tokens: list[Token], depth: int) -> Value:
         """The value of an expression of constants."""
         at = 0
 
@@ -735,9 +819,9 @@ class Reader:
 
 
 def _bare(it: typing.Match[str], path: str) -> str:
-    """A text as it stands; of a comment its line ends."""
+    """A text unchanged; of a comment its line ends."""
     if it[0] == "/*":
-        raise ValueError(f"{path}: a comment without its end")
+        raise WrongValue(f"{path}: a comment without its end")
     return it[0] if it[0][0] in "\"'" else " " + "\n" * it[0].count("\n")
 
 
@@ -763,8 +847,12 @@ def _number(text: str) -> Value:
     if len(text) > 64:
         raise Unreadable("a number above 64 digits")
     whole = text.rstrip("uUlL")
-    if re.fullmatch(r"0[xX][0-9A-Fa-f]+|\d+", whole):
-        return int(whole, 16) if whole[:2] in ("0x", "0X") else int(whole)
+    if re.fullmatch(r"0[0-7]+", whole):
+        return int(whole, 8)
+    if re.fullmatch(r"0[xX][0-9A-Fa-f]+|0|[1-9]\d*", whole):
+        return int(whole, 0)
+    if whole.isdigit():
+        raise Unreadable(f"{whole} begins with 0, and has digits that no octal number has")
     number = float(text.rstrip("fFlL"))
     if number == float("inf"):
         raise Unreadable("a number above all")
@@ -782,7 +870,7 @@ def _computed(mark: str, left: Value, right: Value) -> Value:
     return found
 
 
-def _signed(number: int) -> typing.Optional[int]:
+def _signed(number: int) -> int | None:
     """An id of 32 bits with its sign."""
     if 0x80000000 <= number <= 0xFFFFFFFF:
         return number - 0x100000000

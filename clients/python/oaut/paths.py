@@ -7,7 +7,7 @@ import re
 import tempfile
 import typing
 
-from .faults import Place
+from .faults import Place, WrongValue, system_failed
 
 Path = typing.Union[str, os.PathLike[str]]
 _SYNTAX = re.compile(r"oaut: syntax at byte (\d+)")
@@ -23,7 +23,7 @@ def named(made: str, path: Path) -> None:
     except OSError:
         # a file system without links
         if os.path.exists(path):
-            raise FileExistsError(17, "File exists", os.fspath(path)) from None
+            raise system_failed(FileExistsError, 17, "File exists", os.fspath(path)) from None
         os.rename(made, path)
     else:
         os.unlink(made)
@@ -32,6 +32,12 @@ def named(made: str, path: Path) -> None:
         os.fsync(folder)
     finally:
         os.close(folder)
+
+
+def not_its_own(output: Path, source: Path) -> None:
+    """Raises ValueError if what is to be written is the file that is read."""
+    if os.path.exists(output) and os.path.samefile(output, source):
+        raise WrongValue(f"{os.fspath(output)}: that is the file itself; name another one by -o")
 
 
 @contextlib.contextmanager
@@ -55,9 +61,9 @@ def text_file(text: bytes) -> typing.Iterator[str]:
         yield file.name
 
 
-def place_of(fault: typing.Optional[str], text: bytes, path: str) -> typing.Optional[Place]:
-    """The place of a syntax fault in a text, as `oaut check --where` prints it: line and column
-    from 1 on, the line, and a caret under the place. None where the fault has none."""
+def place_of(fault: str | None, text: bytes, path: str) -> Place | None:
+    """Returns the place of a syntax error in a text, as `oaut check --where` prints it: line and
+    column from 1 on, the line, and a caret under the place. None if the error has none."""
     told = _SYNTAX.fullmatch(fault or "")
     if told is None:
         return None

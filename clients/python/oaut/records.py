@@ -1,13 +1,13 @@
-"""Records (docs/records.md): a request is its bytes behind the tag, as a session picks the tags; a
-reply is read in parts."""
+"""Records (docs/reference/records.md): a request is its bytes after the tag, as a session picks the
+tags; a reply is read in parts."""
 from __future__ import annotations
 
 import struct
 import typing
 import uuid
 
-from .faults import Malformed
-from .values import NULL_BSTR
+from .faults import ProtocolError
+from .values import NULL_BSTR, Value
 from .wire import padded, read_field, variant_field
 
 BODY_LIMIT = 4_194_304
@@ -29,15 +29,15 @@ NO_INDEX = 0xFFFF_FFFF
 _WORDS = (
     "CREATE RELEASE GETIDS INVOKE GETELEM PUTELEM REDIM LOCK UNLOCK TYPEINFO LIST REPLACE".split()
 )
-OPCODES: typing.Dict[int, str] = dict(enumerate(_WORDS, 1))
+OPCODES: dict[int, str] = dict(enumerate(_WORDS, 1))
 METHOD, PROPERTYGET, PROPERTYPUT, PROPERTYPUTREF = 1, 2, 4, 8
 NEW_VALUE = -3
-# an interface of zeros stands for the coclass's default one
+# an interface of zeros means the coclass's default one
 DEFAULT = bytes(16)
 TWO = struct.Struct("<II")
 CALL = struct.Struct("<HHIi16s16xIHHII")
 REPLY_HEAD = struct.Struct("<IIII")
-# a reply with S_OK and no fields, behind its tag
+# a reply with S_OK and no fields, after its tag
 DONE = REPLY_HEAD.pack(0, 0, NO_INDEX, 0)[4:]
 
 
@@ -65,8 +65,8 @@ def ask_release(number: int) -> bytes:
 def ask_ids(
     number: int, names: typing.Sequence[str], interface: bytes = DEFAULT, locale: int = 0
 ) -> bytes:
-    """The DISPIDs of a member's name and of names of its parameters. `interface` is a GUID as it
-    stands on the wire."""
+    """The DISPIDs of a member's name and of names of its parameters. `interface` is a GUID as it is
+    on the wire."""
     head = struct.pack("<HHII16s16xII", GETIDS, 0, number, 0, interface, locale, len(names))
     return head + b"".join(string_field(name) for name in names)
 
@@ -81,8 +81,8 @@ def ask_call(
     interface: bytes = DEFAULT,
     locale: int = 0,
 ) -> bytes:
-    """What an INVOKE, and each request on an array, begins with: the head and the arguments in the
-    order of rgvarg. `named` are the DISPIDs of the first of them, `fields` the bytes of each
+    """The beginning of an INVOKE, and of each request on an array: the head and the arguments in
+    the order of rgvarg. `named` are the DISPIDs of the first of them, `fields` the bytes of each
     value."""
     variants = [variant_field(it) for it in fields]
     head = CALL.pack(
@@ -116,29 +116,29 @@ def ask_list() -> bytes:
 
 def ask_replace(text: bytes) -> bytes:
     """Another library in the place of the server's, of this text."""
-    # the pad counts from the body's start, and 16 bytes stand before the text
+    # the pad counts from the body's start, and there are 16 bytes before the text
     return struct.pack("<HHII", REPLACE, 0, len(text), 0) + padded(text)
 
 
 class Reply(typing.NamedTuple):
-    """A reply: `index` is None where no argument is named."""
+    """A reply: `index` is None if no argument is named."""
 
     tag: int
     code: int
-    index: typing.Optional[int]  # type: ignore[assignment]
+    index: int | None  # type: ignore[assignment]
     fields: bytes
 
 
 def read_reply(body: bytes) -> Reply:
-    """The reply of a body. Raises Malformed where it is none."""
+    """The reply of a body. Raises ProtocolError if it is none."""
     if len(body) < 16:
-        raise Malformed(f"a reply has at least 16 bytes, this has {len(body)}")
+        raise ProtocolError(f"a reply has at least 16 bytes, this has {len(body)}")
     tag, code, index, _ = REPLY_HEAD.unpack_from(body)
     return Reply(tag, code, None if index == NO_INDEX else index, body[16:])
 
 
 class Fields:
-    """A cursor over a record's fields, whose parts stand at multiples of 4 or 8."""
+    """A cursor over a record's fields, whose parts are at multiples of 4 or 8."""
 
     __slots__ = ("data", "place")
 
@@ -146,12 +146,12 @@ class Fields:
         self.data = data
         self.place = place
 
-    def take(self, form: str) -> typing.Tuple[typing.Any, ...]:
+    def take(self, form: str) -> tuple[typing.Any, ...]:  # (numbers and bytes, as struct's own)
         """The next numbers, in the words of struct."""
         try:
             found = struct.unpack_from("<" + form, self.data, self.place)
         except struct.error as error:
-            raise Malformed("a record ends too early") from error
+            raise ProtocolError("a record ends too early") from error
         self.place += struct.calcsize("<" + form)
         return found
 
@@ -179,7 +179,7 @@ class Fields:
         count, _ = self.take("II")
         return self.padded_bytes(count)
 
-    def integers(self) -> typing.List[int]:
+    def integers(self) -> list[int]:
         """A count and so many signed numbers, with padding."""
         count, _ = self.take("II")
         found = self.take(f"{count}i")
@@ -187,15 +187,15 @@ class Fields:
         return list(found)
 
     def end(self) -> None:
-        """Raises Malformed where something is left over."""
+        """Raises ProtocolError if something is left over."""
         if self.place != len(self.data):
-            raise Malformed(f"{len(self.data) - self.place} bytes of a record are left over")
+            raise ProtocolError(f"{len(self.data) - self.place} bytes of a record are left over")
 
 
 def read_nothing(fields: bytes) -> None:
     """The fields of a reply that has none."""
     if fields:
-        raise Malformed("a reply has fields where none stand")
+        raise ProtocolError("a reply has fields that it must not have")
 
 
 def read_number(fields: bytes) -> int:
@@ -206,21 +206,21 @@ def read_number(fields: bytes) -> int:
     return int(number)
 
 
-def read_value(fields: bytes) -> typing.Any:
+def read_value(fields: bytes) -> Value:
     """The value of a reply to a get."""
     count, _ = TWO.unpack_from(fields) if len(fields) >= 8 else (-1, 0)
     if count < 0 or len(fields) != 8 + count + -count % 8:
-        raise Malformed("a variant field does not fill its reply")
+        raise ProtocolError("a variant field does not fill its reply")
     return read_field(fields[8 : 8 + count])
 
 
-def read_text_value(fields: bytes) -> typing.Any:
-    """The same where a BSTR is declared: None stands for the null text."""
+def read_text_value(fields: bytes) -> Value:
+    """The value of a reply to a get if a BSTR is declared: None is the null BSTR."""
     value = read_value(fields)
     return None if value is NULL_BSTR else value
 
 
-def read_ids(fields: bytes) -> typing.List[int]:
+def read_ids(fields: bytes) -> list[int]:
     """The DISPIDs of names."""
     at = Fields(fields)
     found = at.integers()
@@ -228,7 +228,7 @@ def read_ids(fields: bytes) -> typing.List[int]:
     return found
 
 
-def read_objects(fields: bytes) -> typing.List[typing.Tuple[int, uuid.UUID]]:
+def read_objects(fields: bytes) -> list[tuple[int, uuid.UUID]]:
     """Pairs of an object's number and its coclass."""
     at = Fields(fields)
     count, _ = at.take("II")
@@ -237,9 +237,9 @@ def read_objects(fields: bytes) -> typing.List[typing.Tuple[int, uuid.UUID]]:
     return found
 
 
-def read_lost(fields: bytes) -> typing.Tuple[uuid.UUID, typing.Optional[int]]:
-    """What a new library does not keep: the GUID of an interface or coclass, and a member's DISPID
-    or None for the whole of it."""
+def read_lost(fields: bytes) -> tuple[uuid.UUID, int | None]:
+    """The first incompatibility of a new library: the GUID of an interface or coclass, and a
+    member's DISPID or None for the whole of it."""
     at = Fields(fields)
     guid = at.guid()
     dispid, _ = at.take("iI")

@@ -1,11 +1,10 @@
-"""What can be had of a damaged store: `python3 -m oaut store salvage`. The damaged file is read
-alone; what is found goes into a new one, and all that was left out is told by its place.
+"""Recovers a damaged store: `python3 -m oaut store salvage`. The damaged file is only read. Its
+readable parts go into a new store, and each part that was left out is reported with its offset.
 
-What it goes by: the library's text ends in a way of its own, a snapshot begins behind it and ends
-where its last cell does, and the first group stands there. The bank that is not in use has the
-state before the last checkpoint, groups and all: that is the snapshot of the one in use, once more.
-And in a snapshot each object has the GUID of its coclass, each cell that of an interface, which the
-library names."""
+It uses several facts. The library's text has a recognizable end, and the snapshot follows it. The
+snapshot ends with its last cell, and the first group follows. The bank that is not in use has the
+state before the last checkpoint, which is the snapshot of the one in use. In a snapshot each object
+has the GUID of its coclass, each cell that of an interface, and the library names these."""
 from __future__ import annotations
 
 import contextlib
@@ -36,38 +35,51 @@ from .contents import (
     snapshot,
     value_of,
 )
-from .files import Bank, Unusable, closed_gate, kept_still, new_file, runs, set_aside
+from .faults import system_failures
+from .files import (
+    Bank,
+    Progress,
+    Unusable,
+    closed_gate,
+    kept_still,
+    new_file,
+    quiet,
+    runs,
+    set_aside,
+)
 from .programs import PROGRAM, Path, Program, words_of_program
 
 # the greatest text of a library, and how its text ends
 LIBRARY, LIBRARY_END = 262_144, b"\n}\n}\n"
 NAMED = re.compile(rb"\[uuid\(([0-9a-f-]{36})\)\]\s+(dispinterface|coclass) ")
-# how much is searched at once for what goes on behind a damage
+# how much is searched at once for intact data after a damage
 SEARCHED = 1_048_576
+# after how many bytes of rows progress is reported
+STEP = 262_144
 
 
 class Found(typing.NamedTuple):
-    """What was had of a damaged store: lines that tell it, whether anything was left out, and what
-    the new store has, by names."""
+    """The result of a recovery: lines that describe it, whether anything was left out, and the
+    contents of the new store, by names."""
 
-    lines: typing.List[str]
+    lines: list[str]
     lost: bool
-    counts: typing.Dict[str, int]
+    counts: dict[str, int]
 
 
 class Told:
-    """The lines that tell what was found, and whether anything was left out."""
+    """The lines that report what was found, and whether anything was left out."""
 
     def __init__(self) -> None:
-        self.lines: typing.List[str] = []
+        self.lines: list[str] = []
         self.lost = False
 
     def mend(self, place: int, what: str) -> None:
-        """What was damaged, and is there all the same."""
+        """Notes a damaged part that was recovered."""
         self.lines.append(f"at {place}: {what}")
 
     def lose(self, place: int, what: str) -> None:
-        """What was left out."""
+        """Notes a part that was left out."""
         self.lines.append(f"at {place}: {what}")
         self.lost = True
 
@@ -83,7 +95,7 @@ def library_length(file: int, body: int) -> int:
 
 
 def snapshot_end(file: int, bank: Bank) -> int:
-    """Where the snapshot's image ends, which may be read as far as the body goes, or 0."""
+    """If the snapshot's image ends, which may be read as far as the body goes, or 0."""
     source = Source(file, bank.table, min(bank.end, os.fstat(file).st_size))
     try:
         for _ in snapshot(file, bank, source):
@@ -94,7 +106,7 @@ def snapshot_end(file: int, bank: Bank) -> int:
 
 
 def banks(file: int, chosen: int, told: Told) -> typing.Iterator[Bank]:
-    """What a bank's head says, or what its body says where that is another thing."""
+    """The lengths in a bank's head, or those of its body if they differ."""
     size = os.fstat(file).st_size
     place = stores.HEADS[chosen]
     try:
@@ -119,9 +131,9 @@ def banks(file: int, chosen: int, told: Told) -> typing.Iterator[Bank]:
 # --- the library
 
 
-def checked(text: bytes, program: Program) -> typing.Optional[str]:
-    """What the program says against a text as that of a store's library. Raises FileNotFoundError
-    where there is no program."""
+def checked(text: bytes, program: Program) -> str | None:
+    """The program's objection to a text as a store's library. Raises FileNotFoundError if there is
+    no program."""
     with tempfile.NamedTemporaryFile(suffix=".idl") as file:
         file.write(text)
         file.flush()
@@ -132,8 +144,8 @@ def checked(text: bytes, program: Program) -> typing.Optional[str]:
     return None if done.stdout == text else "it is not the canonical text of a library"
 
 
-def text_of(file: int, bank: Bank, program: Program, told: Told) -> typing.Optional[bytes]:
-    """The text of a bank's library, or None where it is none."""
+def text_of(file: int, bank: Bank, program: Program, told: Told) -> bytes | None:
+    """The text of a bank's library, or None if it is none."""
     text = os.pread(file, min(bank.library, LIBRARY), bank.body)
     try:
         wrong = checked(text, program)
@@ -145,15 +157,13 @@ def text_of(file: int, bank: Bank, program: Program, told: Told) -> typing.Optio
     return None if wrong else text
 
 
-def own_library(
-    file: int, bank: Bank, other: typing.Optional[Bank], program: Program, told: Told
-) -> bytes:
+def own_library(file: int, bank: Bank, other: Bank | None, program: Program, told: Told) -> bytes:
     """The library of a bank, or that of the other one."""
     text = text_of(file, bank, program, told)
     if text is None and other:
         text = text_of(file, other, program, Told())
         if text is not None:
-            told.lose(bank.body, f"the library of bank {other.chosen} stands for it")
+            told.lose(bank.body, f"the library of bank {other.chosen} is used instead")
     if text is None:
         raise Unusable(f"{'; '.join(told.lines)}; name a library by --library")
     return text
@@ -167,7 +177,7 @@ def wire_guid(text: bytes) -> bytes:
     return uuid.UUID(text.decode()).bytes_le
 
 
-def named_by(library: bytes) -> typing.Tuple[typing.Set[bytes], typing.Set[bytes]]:
+def named_by(library: bytes) -> tuple[set[bytes], set[bytes]]:
     """The GUIDs of a library's interfaces and those of its coclasses."""
     named = [(wire_guid(guid), kind) for guid, kind in NAMED.findall(library)]
     faces = {guid for guid, kind in named if kind == b"dispinterface"}
@@ -193,7 +203,7 @@ class Parts:
         self.source = Source(file, bank.table, bank.gates)
 
     def rows(self) -> Rows:
-        """What can be read, and in the order that it has to have."""
+        """The readable rows, in the required order."""
         source, last, before = self.source, 0, b""
         source.place += 8
         while source.place < source.end:
@@ -201,9 +211,9 @@ class Parts:
             try:
                 row = self.next(last, before)
             except stores.NoImage:
-                behind = f"behind object {last}" if last else "at the first object"
+                where = f"after object {last}" if last else "at the first object"
                 source.place = end = self.search(begun + 1, last, before)
-                self.told.lose(begun, f"{end - begun} bytes of the snapshot, {behind}")
+                self.told.lose(begun, f"{end - begun} bytes of the snapshot, {where}")
                 continue
             last, before = row[0], row[1]
             yield row
@@ -222,7 +232,7 @@ class Parts:
         return last, key, image, value_of(source)
 
     def search(self, place: int, last: int, before: bytes) -> int:
-        """Where an object or a cell begins, from a place on."""
+        """If an object or a cell begins, from a place on."""
         end = self.source.end
         while place < end and self.guids:
             some = os.pread(self.file, min(SEARCHED + 16, end - place), place)
@@ -248,15 +258,15 @@ class Base(typing.NamedTuple):
     partly: bool
 
 
-def same_table(file: int, bank: Bank, other: Bank) -> typing.Optional[typing.Tuple[int, int]]:
-    """Where the table of another bank, groups and all, is as long as the snapshot of a bank, the
-    first and the last place at which the snapshot has other bytes, or 0 and 0. None where it is not
-    as long."""
+def same_table(file: int, bank: Bank, other: Bank) -> tuple[int, int] | None:
+    """If the table of another bank, groups and all, is as long as the snapshot of a bank, the
+    first and the last place at which the snapshot has other bytes, or 0 and 0. None if it is
+    not as long."""
     at, first, last = bank.table + 8, 0, 0
     try:
         with contextlib.closing(Groups(file, other)) as found:
             for _, _, image, value in merged(snapshot(file, other), found):
-                # (of an object the number of its cells stands behind them here)
+                # (for an object, the number of its cells comes after it here)
                 some, place = (image, at + 4) if value is None else (image + value, at)
                 held = os.pread(file, len(some), place)
                 if held != some:
@@ -269,8 +279,8 @@ def same_table(file: int, bank: Bank, other: Bank) -> typing.Optional[typing.Tup
     return (first, last) if at == bank.gates else None
 
 
-def chosen_bank(file: int, told: Told) -> typing.Tuple[Bank, typing.Optional[Bank]]:
-    """The bank that is to be read, and the other one where it has anything."""
+def chosen_bank(file: int, told: Told) -> tuple[Bank, Bank | None]:
+    """The bank that is to be read, and the other one if it has anything."""
     selector = os.pread(file, 1, stores.SELECTOR)
     if not selector:
         raise Unusable("it is too short to have anything of a store")
@@ -284,18 +294,18 @@ def chosen_bank(file: int, told: Told) -> typing.Tuple[Bank, typing.Optional[Ban
         told.lose(stores.HEADS[chosen], what)
         return there, None
     if here is None:
-        raise Unusable("neither of its banks has a library with objects behind it")
+        raise Unusable("neither of its banks has a library with objects")
     if there and same_table(file, there, here) == (0, 0) and closed_gate(file, there) > there.gates:
         # (groups go into a bank that is in use alone)
-        what = f"bank {1 - chosen} goes on where bank {chosen} ends: it is the one in use"
+        what = f"bank {1 - chosen} continues bank {chosen}: it is the one in use"
         told.mend(stores.SELECTOR, what)
         return there, here
     return here, there
 
 
 def base_of(
-    file: int, bank: Bank, other: typing.Optional[Bank], library: bytes, told: Told
-) -> typing.Tuple[Bank, Base]:
+    file: int, bank: Bank, other: Bank | None, library: bytes, told: Told
+) -> tuple[Bank, Base]:
     """The bank, with the length of snapshot that it has, and its table before its groups."""
     end = snapshot_end(file, bank)
     if end and end != bank.gates and os.pread(file, 1, end) in (b"\0", b"\1"):
@@ -329,19 +339,19 @@ def base_of(
 
 
 def other_rows(file: int, other: Bank) -> Rows:
-    """The rows of another bank behind its groups."""
+    """The rows of another bank after its groups."""
     with contextlib.closing(Groups(file, other)) as found:
         yield from merged(snapshot(file, other), found)
 
 
-def first_created(file: int, bank: Bank) -> typing.Optional[int]:
+def first_created(file: int, bank: Bank) -> int | None:
     """The number of the first object that a group creates: the next one of the snapshot."""
     try:
         for _, source in groups(file, bank):
             while source.place < source.end:
                 kind, number = source.numbers("BI")
                 if kind == CREATE:
-                    return typing.cast(int, number)
+                    return number
                 if kind != RELEASE:
                     place_of(source)
                     skip_content(kind, source)
@@ -350,14 +360,40 @@ def first_created(file: int, bank: Bank) -> typing.Optional[int]:
     return None
 
 
-def good_groups(file: int, bank: Bank, base: Base, told: Told) -> typing.Optional[int]:
-    """The gate of the first group that is damaged, where one is."""
-    until: typing.Optional[int] = None
+def closed_gate_or_end(file: int, bank: Bank) -> int:
+    """If the groups of a bank end, or if it does if they are damaged."""
+    try:
+        return closed_gate(file, bank)
+    except stores.Damaged:
+        return bank.end
+
+
+def paced(progress: Progress, before: int, whole: int) -> typing.Callable[[int], None]:
+    """A progress report for the part of a long operation that begins after so many bytes."""
+    return lambda done: progress(min(before + done, whole), whole)
+
+
+def passing(rows: Rows, tell: typing.Callable[[int], None]) -> Rows:
+    """Yields the same rows, and reports progress now and then."""
+    done = told = 0
+    for row in rows:
+        done += len(row[2]) + len(row[3] or b"")
+        if done - told >= STEP:
+            told = done
+            tell(done)
+        yield row
+
+
+def good_groups(
+    file: int, bank: Bank, base: Base, told: Told, tell: typing.Callable[[int], None]
+) -> int | None:
+    """The gate of the first group that is damaged, if one is."""
+    until: int | None = None
     while True:
         try:
             with contextlib.closing(Groups(file, bank, until, base.next)) as found:
                 if not base.partly:
-                    for _ in merged(base.rows(Told()), found):
+                    for _ in passing(merged(base.rows(Told()), found), tell):
                         pass
                 break
         except stores.Damaged as fault:
@@ -371,7 +407,7 @@ def good_groups(file: int, bank: Bank, base: Base, told: Told) -> typing.Optiona
             pass
         what = "the group there has a length that none can have"
         if count:
-            what = f"the group there is damaged: it and {count - 1} behind it, as far as {end}"
+            what = f"the group there is damaged: it and {count - 1} after it, as far as {end}"
         told.lose(until, what)
         return until
     gate = closed_gate(file, bank)
@@ -391,7 +427,7 @@ def canonical(library: Path, program: Program) -> bytes:
 
 
 def served(name: str, library: bytes, program: Program, told: Told) -> None:
-    """Tells where the program does not open what was made."""
+    """Adds a line if the program does not open the new store."""
     with tempfile.NamedTemporaryFile(suffix=".idl") as file:
         file.write(library)
         file.flush()
@@ -406,16 +442,18 @@ def served(name: str, library: bytes, program: Program, told: Told) -> None:
         told.lose(0, f"the program does not serve the new store: {said}")
 
 
+@system_failures()
 def salvage(
     path: Path,
     to: Path,
-    library: typing.Optional[Path] = None,
-    bank: typing.Optional[int] = None,
+    library: Path | None = None,
+    bank: int | None = None,
     program: Program = PROGRAM,
+    progress: Progress = quiet,
 ) -> Found:
     """Makes a new store of what a damaged one has up to its last good group, under its own library
-    or, where that is damaged, under that of a file. The damaged file is not changed. Raises
-    Unusable where there is nothing to begin with, StoreInUse where a process has the store."""
+    or, if that is damaged, under that of a file. The damaged file is not changed. Raises Unusable
+    if there is nothing to begin with, StoreInUse if a process has the store."""
     told = Told()
     with kept_still(path) as file, contextlib.ExitStack() as stack:
         try:
@@ -425,12 +463,13 @@ def salvage(
             else:
                 text = canonical(library, program)
             here, base = base_of(file, here, other, text, told)
-            until = good_groups(file, here, base, told)
+            whole = 2 * (closed_gate_or_end(file, here) - here.table)
+            until = good_groups(file, here, base, told, paced(progress, 0, whole))
         except Unusable as fault:
             raise Unusable(f"{os.fspath(path)}: {fault}") from None
         size = bank or (here.size if here.form == 2 else stores.BANK)
         found = stack.enter_context(contextlib.closing(Groups(file, here, until, base.next)))
-        new, name = stack.enter_context(new_file(to))
+        new, name = stack.enter_context(new_file(to, path))
         set_aside(new, stores.length_of(size))
 
         def left(place: int, what: str) -> None:
@@ -438,7 +477,9 @@ def salvage(
 
         image = image_of(new, text, size)
         rows = merged(base.rows(told), found, left if base.partly else None)
+        rows = passing(rows, paced(progress, whole // 2, whole))
         objects, cells = image.lay(found.next, rows)
+        progress(whole, whole)
         lay_bank(image, text, size)
         served(name, text, program, told)
         counts = {"next": found.next, "objects": objects, "cells": cells, "groups": found.count}

@@ -4,7 +4,9 @@ from __future__ import annotations
 import re
 import uuid
 
-# words of the grammar that are no names (docs/idl.md)
+from .faults import WrongValue
+
+# words of the grammar that are no names (docs/reference/idl.md)
 RESERVED = frozenset(
     "library importlib dispinterface interface coclass properties methods void unsigned SAFEARRAY "
     "char short long int hyper CURRENCY VARIANT_BOOL SCODE DECIMAL BSTR VARIANT".split()
@@ -12,8 +14,8 @@ RESERVED = frozenset(
 _TEXT = """// The objects of {name}: `oaut check` reads this file, `oaut format` makes a store.
 // The three GUIDs are new. Keep them: clients and stores know the library, the interface and the
 // coclass by them.
-// docs/idl.md has what a library may have. What is there has to stay as it is, what is added later
-// needs an id of its own.
+// docs/reference/idl.md has what a library may have. Later versions have to keep all of this, and
+// each new member needs an id of its own.
 [uuid({0}), version(1.0)]
 library {name}Library {{
     [uuid({1})]
@@ -41,7 +43,7 @@ def library_text(name: str) -> str:
     ValueError of what is no name of a coclass."""
     # (the library's name is seven letters longer, and a name has 64 at most)
     if not re.fullmatch("[A-Za-z_][A-Za-z0-9_]{0,56}", name) or name in RESERVED:
-        raise ValueError(
+        raise WrongValue(
             f"{name!r} cannot name a coclass: a letter or _, then letters, digits and _, 57 at "
             "most, and no word of the grammar"
         )

@@ -1,22 +1,26 @@
-"""What a store's file holds, in either format, read by docs/store.md and docs/images.md alone: it
-shares no code with the crates. What a test makes of a store stands here too: new ones, groups that
-are added, checkpoints and upgrades.
+"""Reads a store's file, in either format, by docs/reference/store.md and docs/reference/images.md
+alone: it shares no code with the crates. It also makes stores for tests: new ones, added groups,
+checkpoints and upgrades.
 
-`read` answers a `Store`, or raises `NotAStore` or `Damaged`, whose text is that of the program's
-fault. It holds all of it in memory; files.py looks at a file piece by piece.
-"""
+`read` returns a `Store`, or raises `NotAStore` or `Damaged` with the program's message. It keeps
+everything in memory; files.py reads a file piece by piece."""
 from __future__ import annotations
 
 import functools
 import struct
 import typing
 
-# where the selector and the heads of the two banks stand, in both formats
+# the places of the selector and of the heads of the two banks, in both formats
 SELECTOR, HEADS = 4_096, (8_192, 16_785_408)
-# a store of format 1 is as long as this at least, and behind it stand the bodies of format 2
+# the least size of a store of format 1; the bodies of format 2 are after it
 LEAST = 33_562_624
-# how many bytes a bank's body has: in format 1, and in format 2 where nothing is said, and at most
+# the size of a bank's body in bytes: in format 1, the default in format 2, and the greatest
 OLD_BANK, BANK, MOST_BANK = 16_777_184, 20_971_520, 1_073_741_824
+# how many bytes of a bank are kept free of the table's image in format 2; and the greatest image in
+# format 1
+KEPT_FREE, OLD_LIMIT = 5_242_880, 14_680_064
+# a checkpoint is made before a group if less than this is free after the others
+CHECKPOINT = 4_718_597
 # magic, format, length of the library, length of the snapshot, the size of a bank and zeros: in
 # format 1 all of these last are 0
 HEAD = struct.Struct("<8sIIII8s")
@@ -42,6 +46,8 @@ SIZES = {EMPTY: 0, NULL: 0, BOOL: 1, DECIMAL: 14}
 SIZES.update({vt: struct.calcsize(form) for vt, form in NUMBERS.items()})
 OF_ARRAYS = {I1, UI1, I2, UI2, I4, UI4, INT, UINT, I8, UI8, CY, BOOL, BSTR, VARIANT}
 NO_TEXT, TEXT_LIMIT, CELL_LIMIT, USED_UP = 0xFFFF_FFFF, 1_048_576, 65_536, 0xFFFF_FFFF
+# the content of the null text
+NULL_TEXT = struct.pack("<I", NO_TEXT)
 
 
 # bytes, however they are held
@@ -56,7 +62,7 @@ class NotAStore(Exception):
 
 
 class Damaged(Exception):
-    """The place of the disk stands in it."""
+    """It contains the place of the disk."""
 
     def __str__(self) -> str:
         return f"damaged at {self.args[0]}"
@@ -67,24 +73,26 @@ class NoImage(Exception):
 
 
 # a scalar is a pair of its type and the bytes of its content
-Scalar = typing.Tuple[int, bytes]
-Bound = typing.Tuple[int, int]
+Scalar = tuple[int, bytes]
+Bound = tuple[int, int]
+# a cell of an array: of VARIANT a scalar, else its content
+Cell = typing.Union[bytes, Scalar]
 
 
 class Array(typing.NamedTuple):
-    """The cells stand by their positions: contents, in an array of VARIANT scalars."""
+    """The cells are by their positions: contents, in an array of VARIANT scalars."""
 
     vt: int
-    bounds: typing.List[Bound]
-    cells: typing.List[typing.Any]
+    bounds: list[Bound]
+    cells: list[Cell]
 
 
 Value = typing.Union[Scalar, Array]
 # the place of a cell: an interface's GUID in wire order, a DISPID, and scalars
-Place = typing.Tuple[bytes, int, typing.Tuple[Scalar, ...]]
-Cells = typing.Dict[Place, Value]
+Place = tuple[bytes, int, tuple[Scalar, ...]]
+Cells = dict[Place, Value]
 # of each object's number its class and its cells
-Objects = typing.Dict[int, typing.Tuple[bytes, Cells]]
+Objects = dict[int, tuple[bytes, Cells]]
 
 
 class Group(typing.NamedTuple):
@@ -95,15 +103,15 @@ class Group(typing.NamedTuple):
 
 
 class Store(typing.NamedTuple):
-    """What a store holds, and where: the bank in use, the place of its closed gate, its groups, its
-    format, where its body ends."""
+    """The contents of a store and their offsets: the bank in use, the offset of its closed gate,
+    its groups, its format, the end of its body."""
 
     library: bytes
     next: int
     objects: Objects
     chosen: int
     gate: int
-    groups: typing.List[Group]
+    groups: list[Group]
     format: int
     end: int
 
@@ -111,7 +119,7 @@ class Store(typing.NamedTuple):
 class Bytes:
     """A cursor over bytes."""
 
-    def __init__(self, data: Data, place: int = 0, end: typing.Optional[int] = None) -> None:
+    def __init__(self, data: Data, place: int = 0, end: int | None = None) -> None:
         self.data, self.place, self.end = data, place, len(data) if end is None else end
 
     def take(self, count: int) -> bytes:
@@ -120,15 +128,19 @@ class Bytes:
             raise NoImage
         return bytes(self.data[place : self.place])
 
-    def numbers(self, form: str) -> typing.Any:
+    def numbers(self, form: str) -> tuple[int, ...]:
         return struct.unpack("<" + form, self.take(struct.calcsize("<" + form)))
 
-    def number(self, form: str) -> typing.Any:
+    def number(self, form: str) -> int:
         return self.numbers(form)[0]
+
+    def bound(self) -> Bound:
+        count, lowest = self.numbers("Ii")
+        return count, lowest
 
 
 def need(fact: object) -> None:
-    """Raises NoImage where a fact is none."""
+    """Raises NoImage if a fact is none."""
     if not fact:
         raise NoImage
 
@@ -169,7 +181,7 @@ def value(source: Bytes) -> Value:
     need(of in OF_ARRAYS)
     count = source.number("H")
     need(1 <= count <= 16)
-    bounds: typing.List[typing.Any] = [source.numbers("Ii") for _ in range(count)]
+    bounds = [source.bound() for _ in range(count)]
     cells = cells_of(bounds)
     need(cells <= CELL_LIMIT)
     if of == VARIANT:
@@ -196,14 +208,16 @@ def value_image(it: Value) -> bytes:
         return scalar_image(it)
     head = struct.pack("<HH", ARRAY + it.vt, len(it.bounds))
     head += b"".join(struct.pack("<Ii", *bound) for bound in it.bounds)
-    return head + b"".join(scalar_image(cell) if it.vt == VARIANT else cell for cell in it.cells)
+    return head + b"".join(
+        scalar_image(cell) if isinstance(cell, tuple) else cell for cell in it.cells
+    )
 
 
-def zero(vt: int) -> typing.Any:
+def zero(vt: int) -> Cell:
     """The zero of a type of cells."""
     if vt == VARIANT:
         return EMPTY, b""
-    return struct.pack("<I", NO_TEXT) if vt == BSTR else bytes(SIZES[vt])
+    return NULL_TEXT if vt == BSTR else bytes(SIZES[vt])
 
 
 # --- places of cells
@@ -234,21 +248,21 @@ def guid_text(guid: bytes) -> str:
 
 
 @functools.lru_cache(maxsize=65_536)
-def rank(it: Scalar) -> typing.Tuple[typing.Any, ...]:
-    """What a scalar is compared by."""
+def rank(it: Scalar) -> tuple[object, ...]:
+    """The sort key of a scalar."""
     vt, found = it
     if vt == DECIMAL:
         scale, minus, high, low = struct.unpack("<BBIQ", found)
         return vt, minus, scale, high << 64 | low
     if vt == BSTR:
-        return (vt, 0) if found == zero(BSTR) else (vt, 1, found[4:])
+        return (vt, 0) if found == NULL_TEXT else (vt, 1, found[4:])
     if vt in NUMBERS:
         return vt, struct.unpack("<" + NUMBERS[vt], found)[0]
     return vt, found
 
 
-def place_order(it: Place) -> typing.Tuple[bytes, int, typing.List[typing.Tuple[typing.Any, ...]]]:
-    """What the places of cells are ordered by."""
+def place_order(it: Place) -> tuple[bytes, int, list[tuple[object, ...]]]:
+    """The sort key of the places of cells."""
     guid, dispid, key = it
     return text_order(guid), dispid, [rank(one) for one in key]
 
@@ -256,7 +270,7 @@ def place_order(it: Place) -> typing.Tuple[bytes, int, typing.List[typing.Tuple[
 # --- tables and events
 
 
-def table(source: Bytes) -> typing.Tuple[int, Objects]:
+def table(source: Bytes) -> tuple[int, Objects]:
     """A next number, and of each object's number its class and its cells."""
     next_number, count = source.numbers("II")
     need(next_number > 0)
@@ -300,10 +314,10 @@ def apply(source: Bytes, next_number: int, objects: Objects) -> int:
 
 
 def changed_array(found: Array, kind: int, source: Bytes) -> Array:
-    """An array behind the rest of an event that puts an element (kind 4) or gives it other bounds
-    (5). Its own cells may be those of the answer."""
+    """Returns an array after the rest of a log record that puts an element (kind 4) or changes
+    its bounds (5). The result may share the cells of the array."""
     if kind == 5:
-        bounds: typing.List[typing.Any] = [source.numbers("Ii"), *found.bounds[1:]]
+        bounds = [source.bound(), *found.bounds[1:]]
         count = cells_of(bounds)
         need(count <= CELL_LIMIT)
         kept = found.cells[:count]
@@ -339,7 +353,7 @@ def length_of(bank: int) -> int:
 
 
 def body_of(form: int, chosen: int, bank: int) -> int:
-    """Where the body of a bank stands."""
+    """The offset of a bank's body."""
     return HEADS[chosen] + HEAD.size if form == 1 else LEAST + chosen * bank
 
 
@@ -349,14 +363,14 @@ def head_of(form: int, library: bytes, snapshot: bytes, bank: int) -> bytes:
 
 
 def head_image(form: int, library: int, snapshot: int, bank: int) -> bytes:
-    """The same of the lengths of its library and of its snapshot, and of its size."""
+    """Returns the head with the lengths of its library and of its snapshot, and with its size."""
     magic = b"OAUTBK0%d" % form
     return HEAD.pack(magic, form, library, snapshot, 0 if form == 1 else bank, bytes(8))
 
 
-def head_told(head: Data, at: int, length: int) -> typing.Tuple[int, int, int, int]:
+def head_told(head: Data, at: int, length: int) -> tuple[int, int, int, int]:
     """The format of the bank that has this head, the lengths of its library and of its snapshot,
-    and its size. The head stands at that place of a disk of that length."""
+    and its size. The head is at that place of a disk of that length."""
     if len(head) < HEAD.size:
         raise NotAStore
     magic, form, library, snapshot, bank, zeros = HEAD.unpack(head)
@@ -371,13 +385,13 @@ def head_told(head: Data, at: int, length: int) -> typing.Tuple[int, int, int, i
     return form, library, snapshot, bank
 
 
-def told(data: Data, at: int) -> typing.Tuple[int, int, int, int]:
-    """The same of the head that stands at a place of a disk's bytes."""
+def told(data: Data, at: int) -> tuple[int, int, int, int]:
+    """Returns the same fields of the head at a place of a disk's bytes."""
     return head_told(bytes(data[at : at + HEAD.size]), at, len(data))
 
 
 def read(data: Data) -> Store:
-    """What the bytes of a disk hold."""
+    """Reads the bytes of a disk."""
     if len(data) < LEAST or data[0] != 1:
         raise NotAStore
     chosen = data[SELECTOR] % 2
@@ -424,7 +438,7 @@ def lines(store: Store) -> typing.Iterator[str]:
 
 
 def dump(data: Data) -> str:
-    """What `oaut dump` prints of a store."""
+    """The text that `oaut dump` prints for a store."""
     return "".join(lines(read(data)))
 
 
@@ -437,7 +451,7 @@ NO_OBJECTS = struct.pack("<II", 1, 0)
 def laid(
     disk: bytearray, form: int, chosen: int, library: bytes, snapshot: bytes, bank: int
 ) -> bytearray:
-    """The same disk with a bank that has no groups, and that is the one in use."""
+    """Returns the same disk with a bank without groups, which is the one in use."""
     at, body = HEADS[chosen], body_of(form, chosen, bank)
     disk[at : at + HEAD.size] = head_of(form, library, snapshot, bank)
     disk[body : body + len(library) + len(snapshot) + 1] = library + snapshot + b"\0"
@@ -451,7 +465,7 @@ def filled(before: bytes, size: int) -> bytearray:
 
 
 def formatted(
-    library: bytes, bank: int = BANK, size: typing.Optional[int] = None, before: bytes = b"\0"
+    library: bytes, bank: int = BANK, size: int | None = None, before: bytes = b"\0"
 ) -> bytearray:
     """A disk that was filled with a byte and then formatted for the canonical text of a library."""
     disk = filled(before, size or length_of(bank))
@@ -460,14 +474,14 @@ def formatted(
 
 
 def formatted_before(library: bytes, size: int = LEAST, before: bytes = b"\0") -> bytearray:
-    """The same in format 1, as programs of before have made it."""
+    """A new store in format 1, as earlier programs made it."""
     disk = filled(before, size)
     disk[0] = 1
     return laid(disk, 1, 0, library, NO_OBJECTS, OLD_BANK)
 
 
-def settled(disk: Data, library: typing.Optional[bytes] = None) -> bytearray:
-    """A store behind a checkpoint, with another library where one is given."""
+def settled(disk: Data, library: bytes | None = None) -> bytearray:
+    """A store after a checkpoint, with another library if one is given."""
     found = read(disk)
     bank = told(disk, HEADS[found.chosen])[3]
     snapshot = table_image(found.next, found.objects)
@@ -476,7 +490,7 @@ def settled(disk: Data, library: typing.Optional[bytes] = None) -> bytearray:
 
 
 def upgraded(disk: Data, bank: int = BANK) -> bytearray:
-    """A store of format 1 behind its upgrade."""
+    """A store of format 1 after its upgrade."""
     found = read(disk)
     longer = bytearray(disk) + bytes(max(0, length_of(bank) - len(disk)))
     snapshot = table_image(found.next, found.objects)

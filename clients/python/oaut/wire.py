@@ -1,5 +1,5 @@
-"""The wire forms of values (docs/wire.md): `spell` gives the bytes of a value's field, `read_field`
-the value of a field's bytes."""
+"""The wire forms of values (docs/reference/wire.md): `spell` gives the bytes of a value's field,
+`read_field` the value of a field's bytes."""
 from __future__ import annotations
 
 import functools
@@ -7,7 +7,7 @@ import math
 import struct
 import typing
 
-from .faults import Malformed
+from .faults import ProtocolError
 from .values import (
     ARRAY,
     CELL_LIMIT,
@@ -21,9 +21,12 @@ from .values import (
     VT_VARIANT,
     Array,
     Bounds,
+    Content,
     Fetched,
     Field,
     Integer,
+    Value,
+    array_of,
     scalar_of,
     text_bytes,
     typed,
@@ -38,6 +41,7 @@ _FIELD_HEAD = struct.Struct("<II")
 # a text's variant field up to its units
 _TEXT_HEAD = struct.Struct("<IIIIHHHHIIIII")
 _SHORT = 32
+_Text = typing.Optional[bytes]
 
 
 def _add_blob(out: bytearray, text: bytes) -> None:
@@ -48,7 +52,7 @@ def _add_blob(out: bytearray, text: bytes) -> None:
     out += bytes(len(text) % 2)
 
 
-def _add_scalar(out: bytearray, vt: int, raw: typing.Any = None) -> None:
+def _add_scalar(out: bytearray, vt: int, raw: Content = None) -> None:
     """Adds a wireVARIANT without VT_ARRAY: its head, its arm and its pointee."""
     out += bytes(-len(out) % 8)
     start = len(out)
@@ -88,7 +92,7 @@ def variant_field(field: bytes) -> bytes:
     return _FIELD_HEAD.pack(len(field), 0) + padded(field)
 
 
-def scalar_field(vt: int, raw: typing.Any = None) -> bytes:
+def scalar_field(vt: int, raw: Content = None) -> bytes:
     """The field of a scalar. `raw` is its number (BOOL: 0xFFFF or 0, CY: ten-thousandths), the
     bytes of a text or None, or the scale, sign and magnitude of a DECIMAL."""
     out = bytearray()
@@ -96,7 +100,7 @@ def scalar_field(vt: int, raw: typing.Any = None) -> bytes:
     return bytes(out)
 
 
-def array_field(vt: int, bounds: Bounds, cells: typing.Sequence[typing.Any]) -> bytes:
+def array_field(vt: int, bounds: Bounds, cells: typing.Sequence[Content]) -> bytes:
     """The field of an array. Its cells are as in `scalar_field`, those of VARIANT tuples of a type
     and its content, or None for a null referent."""
     sf_type, size = CELLS[vt]
@@ -127,29 +131,31 @@ def array_field(vt: int, bounds: Bounds, cells: typing.Sequence[typing.Any]) -> 
     return bytes(out)
 
 
-def spell(value: typing.Any, declared: int = VT_VARIANT) -> bytes:
-    """The bytes of a value's field, where a property or parameter of the type `declared` takes it
-    (a vt, with ARRAY for arrays)."""
+def spell(value: object, declared: int = VT_VARIANT) -> bytes:
+    """The bytes of a value's field, if a property or parameter of the type `declared` takes it (a
+    vt, with ARRAY for arrays)."""
     if isinstance(value, Field):
         return bytes(value)
     if isinstance(value, Fetched):
         value = value.value
     if isinstance(value, (list, tuple, range)):
         value = Array.of(value, declared - ARRAY if declared & ARRAY else VT_VARIANT)
+    if not isinstance(value, Array):
+        found = array_of(value, declared)
+        value = value if found is None else found
     if isinstance(value, Array):
         return value.spelled()
     return scalar_field(*typed(value, declared))
 
 
-def variant_of(value: typing.Any, declared: int = VT_VARIANT) -> bytes:
-    """The variant field of a value, where a property or parameter of the type `declared` takes it:
-    the same as `variant_field(spell(value, declared))`."""
-    kind = type(value)
-    if kind is int:
+def variant_of(value: object, declared: int = VT_VARIANT) -> bytes:
+    """The variant field of a value, if a property or parameter of the type `declared` takes it: the
+    same as `variant_field(spell(value, declared))`."""
+    if type(value) is int:
         quick = _QUICK.get(declared)
         if quick is not None and quick[2] <= value <= quick[3]:
             return quick[0](quick[1], value)
-    elif kind is str:
+    elif type(value) is str:
         return _short_text(value) if len(value) <= _SHORT else _text_variant(value)
     return variant_field(spell(value, declared))
 
@@ -167,7 +173,7 @@ def _text_variant(text: str) -> bytes:
 _short_text = functools.lru_cache(maxsize=1_024)(_text_variant)
 
 
-def number_layout(vt: int) -> typing.Tuple[str, bytes]:
+def number_layout(vt: int) -> tuple[str, bytes]:
     """How a variant field of a number is packed: the words of struct, of which the first are the
     bytes before the number, and these."""
     field = scalar_field(vt, 0)
@@ -176,9 +182,7 @@ def number_layout(vt: int) -> typing.Tuple[str, bytes]:
     return f"{len(before)}s{NUMBERS[vt]}{-len(field) % 8}x", before
 
 
-def _quick(
-    vt: int, of: typing.Type[Integer]
-) -> typing.Tuple[typing.Callable[..., bytes], bytes, int, int]:
+def _quick(vt: int, of: type[Integer]) -> tuple[typing.Callable[..., bytes], bytes, int, int]:
     form, before = number_layout(vt)
     return struct.Struct("<" + form).pack, before, of.low, of.high
 
@@ -186,9 +190,7 @@ def _quick(
 _QUICK = {vt: _quick(vt, of) for vt, of in INTEGERS.items()}
 
 
-def _whole(
-    vt: int, of: typing.Type[Integer]
-) -> typing.Tuple[bytes, typing.Tuple[str, typing.Type[Integer]]]:
+def _whole(vt: int, of: type[Integer]) -> tuple[bytes, tuple[str, type[Integer]]]:
     form, before = number_layout(vt)
     return before[:28], (form.replace("s", "x"), of)
 
@@ -206,7 +208,7 @@ class _Places:
         self.data = data
         self.place = place
 
-    def numbers(self, code: str, count: int = 1) -> typing.Tuple[int, ...]:
+    def numbers(self, code: str, count: int = 1) -> tuple[int, ...]:
         """So many numbers at the next multiple of their width."""
         width = struct.calcsize("<" + code)
         place = -(-self.place // width) * width if count else self.place
@@ -220,34 +222,34 @@ class _Places:
     def bytes(self, count: int) -> bytes:
         end = self.place + count
         if end > len(self.data):
-            raise Malformed("the bytes end too early")
+            raise ProtocolError("the bytes end too early")
         found = self.data[self.place : end]
         self.place = end
         return found
 
-    def text(self) -> typing.Any:
+    def text(self) -> _Text:
         """The pointee of a text, None for that of null."""
         most, length, units = self.numbers("I", 3)
         if length == NULL_LENGTH and most == units == 0:
             return None
         if length > TEXT_LIMIT or most != units or units != (length + 1) // 2:
-            raise Malformed("the counts of a text disagree, or it is too long")
+            raise ProtocolError("the counts of a text disagree, or it is too long")
         found = self.bytes(length)
         self.bytes(length % 2)
         return found
 
-    def scalar(self) -> typing.Tuple[int, typing.Any]:
+    def scalar(self) -> tuple[int, Content]:
         """A wireVARIANT without VT_ARRAY: its type and its content."""
         self.place = -(-self.place // 8) * 8
         _, _, vt, _, _, _, discriminant = _HEAD.unpack_from(self.data, self.place)
         self.place += _HEAD.size
         if vt not in SCALARS or discriminant != vt:
-            raise Malformed(
+            raise ProtocolError(
                 f"no scalar has the type 0x{vt:x} and the discriminant 0x{discriminant:x}"
             )
         return vt, self.arm(vt)
 
-    def arm(self, vt: int) -> typing.Any:
+    def arm(self, vt: int) -> Content:
         if vt in NUMBERS:
             return self.number(NUMBERS[vt])
         if vt == VT_BSTR:
@@ -257,17 +259,17 @@ class _Places:
             _, scale, sign, high, low = struct.unpack_from("<HBBIQ", self.data, self.place)
             self.place += 16
             if scale > 28 or sign not in (0, 0x80):
-                raise Malformed("the scale or sign of a DECIMAL is none")
+                raise ProtocolError("the scale or sign of a DECIMAL is none")
             return scale, sign, high << 64 | low
         return None
 
-    def array(self, vt: int) -> typing.Tuple[Bounds, typing.Sequence[typing.Any]]:
+    def array(self, vt: int) -> tuple[Bounds, typing.Sequence[Content]]:
         """An array's bounds and cells, from its first referent on."""
         if not self.number("I") or not self.number("I"):
-            raise Malformed("an array behind a null referent")
+            raise ProtocolError("an array after a null referent")
         most, dimensions, _, _, _, sf_type, size, _ = self._header()
         if most != dimensions or not 1 <= dimensions <= 16 or sf_type != CELLS[vt][0]:
-            raise Malformed("the number of bounds or the sfType of an array is wrong")
+            raise ProtocolError("the number of bounds or the sfType of an array is wrong")
         flat = [self.number(code) for _ in range(dimensions) for code in "Ii"]
         bounds = list(zip(flat[::2], flat[1::2]))
         if (
@@ -275,7 +277,7 @@ class _Places:
             or size > CELL_LIMIT
             or self.number("I") != size
         ):
-            raise Malformed("the number of cells of an array is wrong, or too large")
+            raise ProtocolError("the number of cells of an array is wrong, or too large")
         if vt not in (VT_BSTR, VT_VARIANT):
             return bounds, self.numbers(NUMBERS[vt], size)
         referents = self.numbers("I", size)
@@ -283,15 +285,15 @@ class _Places:
             return bounds, [self.text() if it else None for it in referents]
         return bounds, [self.scalar() if it else None for it in referents]
 
-    def _header(self) -> typing.Tuple[int, ...]:
+    def _header(self) -> tuple[int, ...]:
         self.place = -(-self.place // 4) * 4
         found = struct.unpack_from("<IHHIIIII", self.data, self.place)
         self.place += 28
         return found
 
 
-def _number_arm(code: str) -> typing.Tuple[int, typing.Callable[[bytes], typing.Tuple[int, ...]]]:
-    """The length of a field of one number, and what reads the number: it stands at the first
+def _number_arm(code: str) -> tuple[int, typing.Callable[[bytes], tuple[int, ...]]]:
+    """The length of a field of one number, and what reads the number: it is at the first
     multiple of its width from 20 on."""
     width = struct.calcsize("<" + code)
     at = -(-20 // width) * width
@@ -301,29 +303,29 @@ def _number_arm(code: str) -> typing.Tuple[int, typing.Callable[[bytes], typing.
 _NUMBER_ARMS = {vt: _number_arm(code) for vt, code in NUMBERS.items()}
 
 
-def read_field(data: bytes) -> typing.Any:
-    """The value that the bytes of a field spell. Raises Malformed where they spell none."""
+def read_field(data: bytes) -> Value:
+    """The value that the bytes of a field spell. Raises ProtocolError if they spell none."""
     if len(data) < 20:
-        raise Malformed("a field has at least 20 bytes")
+        raise ProtocolError("a field has at least 20 bytes")
     _, _, vt, _, _, _, discriminant = _HEAD.unpack_from(data)
     arm = _NUMBER_ARMS.get(vt)
     if arm is not None and len(data) == arm[0] and discriminant == vt:
         return scalar_of(vt, arm[1](data)[0])
     places = _Places(data, 20)
-    value: typing.Any
+    value: Value
     try:
         if vt in SCALARS:
             if discriminant != vt:
-                raise Malformed("the discriminant is not the type")
+                raise ProtocolError("the discriminant is not the type")
             value = scalar_of(vt, places.arm(vt))
         elif vt & ARRAY and vt - ARRAY in CELLS:
             if discriminant not in (ARRAY, vt):
-                raise Malformed("the discriminant is not that of an array")
+                raise ProtocolError("the discriminant is not that of an array")
             value = Array.of_contents(vt - ARRAY, *places.array(vt - ARRAY))
         else:
-            raise Malformed(f"the type 0x{vt:x} is outside the profile", unknown_type=True)
+            raise ProtocolError(f"the type 0x{vt:x} is outside the profile", unknown_type=True)
     except struct.error as error:
-        raise Malformed("the bytes end too early") from error
+        raise ProtocolError("the bytes end too early") from error
     if places.place != len(data):
-        raise Malformed(f"{len(data) - places.place} bytes are left over")
+        raise ProtocolError(f"{len(data) - places.place} bytes are left over")
     return value

@@ -6,7 +6,8 @@ import decimal
 import html
 import typing
 
-from .values import CELLS, EMPTY, INTEGERS, MISSING, NULL_BSTR, VT, Array, Currency, Error
+from .faults import WrongValue
+from .values import CELLS, EMPTY, INTEGERS, MISSING, NULL_BSTR, VT, Array, Currency, SCode, Value
 
 _SHORT = 60
 
@@ -35,12 +36,12 @@ def short_words(value: object) -> str:
 def html_table(
     title: str,
     heads: typing.Sequence[str],
-    rows: typing.Iterable[typing.Sequence[typing.Any]],
+    rows: typing.Iterable[typing.Sequence[object]],
     left_out: str = "",
 ) -> str:
-    """A table as a notebook shows it. Texts of a server stand in it as texts."""
+    """A table as a notebook shows it. Texts of a server are escaped."""
 
-    def cells(word: str, row: typing.Sequence[typing.Any]) -> str:
+    def cells(word: str, row: typing.Sequence[object]) -> str:
         return "".join(f"<{word}>{html.escape(str(it))}</{word}>" for it in row)
 
     head = f"<thead><tr>{cells('th', heads)}</tr></thead>" if heads else ""
@@ -58,21 +59,23 @@ _NAMES = {
     "null_bstr": NULL_BSTR,
     "missing": MISSING,
 }
-_CALLS: typing.Dict[str, typing.Callable[..., typing.Any]] = {
-    it.__name__: it for it in (*INTEGERS.values(), Error, Currency, Array, decimal.Decimal)
+_CALLS: dict[str, typing.Callable[..., object]] = {
+    it.__name__: it for it in (*INTEGERS.values(), SCode, Currency, Array, decimal.Decimal)
 }
-_TYPES: typing.Dict[str, typing.Any] = {
+# (as a number of VT_ERROR was called before)
+_CALLS["Error"] = SCode
+_TYPES: dict[str, object] = {
     **{it.__name__: it for it in (*INTEGERS.values(), Currency, bool, str, object)},
     **{vt.name: vt for vt in VT if int(vt) in CELLS},
 }
 
 
-def value_of(text: str) -> typing.Any:
+def value_of(text: str) -> Value:
     """The value of words: a Python literal, `2.50` (a Decimal), true, false, null, empty,
-    null_bstr, missing, `I2(5)`, `Currency("2.5")`, `Error(0x80004005)`, `[[1, 2], [3, 4]]`,
+    null_bstr, missing, `I2(5)`, `Currency("2.5")`, `SCode(0x80004005)`, `[[1, 2], [3, 4]]`,
     `Array(I2, [(2, -1)], [1, 2])`. Raises ValueError for anything else."""
 
-    def read(node: ast.AST) -> typing.Any:
+    def read(node: ast.AST) -> object:
         if isinstance(node, ast.Constant) and isinstance(node.value, (int, str, bytes, type(None))):
             return node.value
         if isinstance(node, ast.Constant) and isinstance(node.value, float):
@@ -100,10 +103,11 @@ def value_of(text: str) -> typing.Any:
             and not node.keywords
         ):
             return _CALLS[node.func.id](*[read(it) for it in node.args])
-        raise ValueError(f"no value: {text}")
+        raise WrongValue(f"no value: {text}")
 
+    text = text.strip()
     try:
-        return read(ast.parse(text.strip(), mode="eval").body)
+        return read(ast.parse(text, mode="eval").body)
     except (
         SyntaxError,
         ArithmeticError,
@@ -112,4 +116,4 @@ def value_of(text: str) -> typing.Any:
         MemoryError,
         RecursionError,
     ) as error:
-        raise ValueError(f"no value: {text}") from error
+        raise WrongValue(f"no value: {text}") from error

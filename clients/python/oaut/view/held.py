@@ -1,33 +1,30 @@
-"""What a page asks of a store's file while a server writes it, beside what that server tells."""
+"""The page's reads of a store's file while a server writes it."""
 from __future__ import annotations
 
 import os
 import time
-import typing
 
 from .. import store as stores
 from ..contents import table
-from ..faults import Fault
+from ..faults import Error
 from ..files import Json, info, opened, while_served
 
 # the keys for which the properties of an object were put, in their order: digits by interface and
 # DISPID
-Keys = typing.Dict[typing.Tuple[bytes, int], typing.List[str]]
-# before a group a checkpoint is due where there is less room than this (docs/store.md)
-CHECKPOINT = 4_718_597
+Keys = dict[tuple[bytes, int], list[str]]
 # a part of the time that readings of the file may take
 SHARE = 10
 
 
 class Held:
-    """A store's file. It is read again where it has changed, but never so often that it is read
-    for more than a tenth of the time."""
+    """A store's file. It is read again if it has changed, but never so often that it is read for
+    more than a tenth of the time."""
 
     def __init__(self, path: str) -> None:
         self.path = path
         self._number = -1
         self._keys: Keys = {}
-        self._mark: typing.Any = None
+        self._mark: object = None
         self._due = 0.0
 
     def library(self) -> str:
@@ -35,15 +32,15 @@ class Held:
         found = while_served(self.path, lambda file, of: os.pread(file, of.library, of.body))
         return found.decode("utf-8", "replace")
 
-    def text(self) -> typing.Optional[str]:
-        """The same, or None where the file may not be read."""
+    def text(self) -> str | None:
+        """Does the same, but returns None if the file may not be read."""
         try:
             return self.library()
-        except (OSError, Fault):
+        except (OSError, Error):
             return None
 
-    def keys(self, number: int) -> typing.Optional[Keys]:
-        """The keys of an object's properties with parameters, or None where the file may not be
+    def keys(self, number: int) -> Keys | None:
+        """The keys of an object's properties with parameters, or None if the file may not be
         read."""
         begun = time.monotonic()
         try:
@@ -52,7 +49,7 @@ class Held:
             if number == self._number and (mark == self._mark or begun < self._due):
                 return self._keys
             found = self._read(number)
-        except (OSError, Fault, stores.Damaged):
+        except (OSError, Error, stores.Damaged):
             return None
         self._number, self._keys, self._mark = number, found, mark
         self._due = begun + SHARE * (time.monotonic() - begun)
@@ -70,9 +67,9 @@ class Held:
         return found
 
     def status(self) -> Json:
-        """How the file stands, by its heads and gates alone: sizes in bytes."""
+        """The state of the file, by its heads and gates alone: sizes in bytes."""
         try:
             told = info(self.path, live=True)
-        except (OSError, Fault):
+        except (OSError, Error):
             return {}
-        return {**told, "checkpoint": max(0, told["room"] - CHECKPOINT)}
+        return {**told, "checkpoint": told["log_free"]}

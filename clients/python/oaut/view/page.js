@@ -5,24 +5,43 @@
 /** @typedef {{type: string, text?: string, hex?: string, length?: number, null?: boolean, number?: boolean, refused?: string, bounds?: number[][], cells?: number}} Value */
 /** @typedef {{name: string, type: string, optional: boolean, default?: string}} Parameter */
 /** @typedef {{name: string, dispid: number, kind: string, type: string, get: boolean, put: boolean, parameters: Parameter[], interface: string, line?: number | null}} Member */
-/** @typedef {Member & {value: Value, words?: string}} Property */
-/** @typedef {{key: string, keys: Value[], value: Value, words?: string}} KeyRow */
+/** @typedef {Member & {value: Value}} Property */
+/** @typedef {{key: string, keys: Value[], value: Value}} KeyRow */
 /** @typedef {{name: string, guid: string, members: Member[], line: number | null}} Interface */
 /** @typedef {{name: string, guid: string, interfaces: {name: string, default: boolean}[], count: number, line: number | null}} Coclass */
 /** @typedef {{interfaces: Interface[], coclasses: Coclass[], text: string | null, write: boolean, store: string | null}} Library */
 
 /** How often what is looked at is read again, in milliseconds, and how long a change is marked. */
 const PERIOD = 500, MARKED = 2500;
+/** After how long values are read again though no change was told, and how long after one they are, since keys may come later. */
+const AGAIN = 30000, SETTLES = 3000;
+/** How long a reading and a change may take, and after how long the page says that there is no answer. */
+const READ_WITHIN = 60000, CHANGE_WITHIN = 60000, LATE = 2000;
+
+/** The token stands behind # in the address, and leaves it: it is kept for this tab and this port alone. */
+const TOKEN = (() => {
+  const given = new URLSearchParams(location.hash.slice(1)).get("token");
+  if (given !== null) {
+    sessionStorage.setItem("token", given);
+    window.history.replaceState(null, "", location.pathname);
+  }
+  return sessionStorage.getItem("token") ?? "";
+})();
+// (a new token in the address of a page that is open loads nothing by itself)
+addEventListener("hashchange", () => { if (location.hash.startsWith("#token=")) location.reload(); });
 /** The height of a row of the table, as the style has it, and how many columns stand at first. */
 const ROW = 32, COLUMNS = 8;
 
 /** @type {Library} */
 let library = {interfaces: [], coclasses: [], text: null, write: false, store: null};
 let paused = false;
-/** The moment of what is shown. */
-let read = 0;
+/** The moment of what is shown, and the one since which a reading waits, or 0. */
+let read = 0, waits = 0;
 /** What reads again what is shown now. @type {() => Promise<void>} */
 let again = async () => {};
+/** The count of changes that was told last, null where none is told; when it changed, and when values were read. @type {number | null} */
+let count = null;
+let changed = 0, asked = 0;
 /** Counts the views, so that an answer for one that is gone is dropped. */
 let view = 0;
 
@@ -48,12 +67,26 @@ function make(tag, given = {}, ...inside) {
 /** A name as the server compares it: A to Z are folded, and nothing else. @param {string} name */
 const fold = name => name.replace(/[a-z]/g, it => it.toUpperCase());
 
+/** A number of objects, in words. @param {number} count */
+const counted = count => `${count.toLocaleString("en")} ${count === 1 ? "object" : "objects"}`;
+
 /** @param {string} path @param {Object<string, any>} [words] @param {Object<string, string>} [body] */
 async function ask(path, words = {}, body) {
   const query = new URLSearchParams(Object.entries(words).map(([name, it]) => [name, String(it)]));
-  const how = body ? {method: "POST", headers: {"Content-Type": "application/json"}, body: JSON.stringify(body)} : {};
-  const response = await fetch(`api/${path}?${query}`, how);
-  const text = await response.text();
+  /** @type {Object<string, string>} */
+  const headers = {Authorization: `Bearer ${TOKEN}`};
+  if (body) headers["Content-Type"] = "application/json";
+  const within = body ? CHANGE_WITHIN : READ_WITHIN;
+  const ends = new AbortController(), timer = setTimeout(() => ends.abort(), within);
+  let response, text;
+  try {
+    response = await fetch(`api/${path}?${query}`, {method: body ? "POST" : "GET", headers, body: body && JSON.stringify(body), signal: ends.signal, credentials: "omit"});
+    text = await response.text();
+  } catch (error) {
+    throw new Error(ends.signal.aborted ? `no reply within ${within / 1000} s${body ? ": the change may have been made" : ""}` : `the page's own server does not answer: ${/** @type {Error} */ (error).message}`);
+  } finally {
+    clearTimeout(timer);
+  }
   let found;
   try {
     found = JSON.parse(text);
@@ -77,6 +110,9 @@ function fault(error) {
 
 // --- values
 
+/** A text with the characters that would turn it around as their numbers. @param {string} it */
+const visible = it => it.replace(/[\u061c\u200e\u200f\u202a-\u202e\u2066-\u2069]/g, one => `⟨U+${one.charCodeAt(0).toString(16).toUpperCase().padStart(4, "0")}⟩`);
+
 /**
  * A value as it is shown; `whole` asks for all of a long text.
  * @param {Value} it @param {(() => Promise<Value>) | null} [whole] @returns {HTMLElement}
@@ -88,7 +124,7 @@ function shown(it, whole = null) {
     return make("span", {}, `${told.join(" × ")} `, make("span", {className: "kind"}, it.type));
   }
   if (it.null) return make("span", {className: "none"}, it.type === "EMPTY" ? "empty" : "null");
-  const made = make("span", {className: it.hex === undefined ? "text" : "text hex"}, it.hex ?? it.text ?? "");
+  const made = make("span", {className: it.hex === undefined ? "text" : "text hex"}, it.hex ?? visible(it.text ?? ""));
   if (it.length === undefined) return made;
   const rest = `… ${it.length.toLocaleString("en")} ${it.hex === undefined ? "characters" : "bytes"}`;
   const more = whole ? make("button", {className: "plain", onclick: async () => {
@@ -113,6 +149,30 @@ function show(place, it, whole = null) {
   if (before === undefined || before === told) return;
   place.classList.add("changed");
   setTimeout(() => place.classList.remove("changed"), MARKED);
+}
+
+const LINE_END = /\r\n?|\n/;
+
+/**
+ * A text as it was edited in an area, which has \n for each line end: what stands before and behind the edited part keeps
+ * its bytes, and new lines end as the first one does.
+ * @param {string} before @param {string} after
+ */
+function edited(before, after) {
+  // where each character of the area's text stands in the one before
+  const places = [];
+  for (let at = 0; at < before.length; at++) {
+    places.push(at);
+    if (before[at] === "\r" && before[at + 1] === "\n") at++;
+  }
+  places.push(before.length);
+  const shown = before.replace(/\r\n?/g, "\n");
+  const most = Math.min(shown.length, after.length);
+  let head = 0, tail = 0;
+  while (head < most && shown[head] === after[head]) head++;
+  while (tail < most - head && shown[shown.length - 1 - tail] === after[after.length - 1 - tail]) tail++;
+  const middle = after.slice(head, after.length - tail).replace(/\n/g, before.match(LINE_END)?.[0] ?? "\n");
+  return before.slice(0, places[head]) + middle + before.slice(places[shown.length - tail]);
 }
 
 /** @param {Parameter} it */
@@ -166,7 +226,7 @@ function tree() {
       const found = library.interfaces.find(it => it.name === one.name);
       return found ? face(found, one.default ? "default" : "interface") : null;
     });
-    const made = branch(of.name, `${of.count.toLocaleString("en")} objects`, () => objects(of), own.filter(Boolean));
+    const made = branch(of.name, counted(of.count), () => objects(of), own.filter(Boolean));
     made.title = `coclass ${of.guid}`;
     return made;
   });
@@ -230,8 +290,11 @@ function begin(name, ...inside) {
 function follow(call) {
   const own = view;
   again = async () => {
+    const begun = performance.now();
+    waits ||= begun;
     try {
       await call();
+      waits = 0;
       if (own !== view) return;
       read = performance.now();
       fault(null);
@@ -298,7 +361,8 @@ function objects(of) {
     make("div", {className: "head", role: "rowgroup"}, head, filters), lines);
   const order = make("span", {className: "kind"});
   const anew = make("button", {hidden: true, onclick: () => { fresh = true; again(); }}, "Order anew");
-  const own = begin("objects", heading, make("div", {className: "tools"}, more, order, anew), grid);
+  const maker = library.write ? [make("button", {id: "create", onclick: () => create(of)}, `Create ${of.name}`)] : [];
+  const own = begin("objects", heading, make("div", {className: "tools"}, ...maker, more, order, anew), grid);
   /** @type {Map<number, HTMLElement>} */
   const there = new Map();
   let focus = 0, found = 0;
@@ -317,7 +381,7 @@ function objects(of) {
     found = told.found;
     lines.style.height = `${found * ROW}px`;
     grid.setAttribute("aria-rowcount", String(found + 2));
-    $("count").textContent = told.found === told.of ? `${told.of.toLocaleString("en")} objects` : `${told.found.toLocaleString("en")} of ${told.of.toLocaleString("en")} objects`;
+    $("count").textContent = told.found === told.of ? counted(told.of) : `${told.found.toLocaleString("en")} of ${counted(told.of)}`;
     const isOrdered = Boolean(words.sort && words.sort !== "#" || Object.keys(words).some(it => it.startsWith("f.")));
     order.textContent = isOrdered ? `ordered and filtered by values of ${Math.round(told.ordered)} s ago` : "";
     anew.hidden = !isOrdered;
@@ -375,22 +439,106 @@ function objects(of) {
       to.focus();
     }
   });
-  let waits = 0;
+  let later = 0;
   grid.addEventListener("scroll", () => {
     now.top = grid.scrollTop;
-    clearTimeout(waits);
-    waits = setTimeout(() => again(), 30);
+    clearTimeout(later);
+    later = setTimeout(() => again(), 30);
   });
   return follow(load).then(() => {
     if (own === view && now.top) grid.scrollTop = now.top;
   });
 }
 
+/** Puts what was typed at a place, and says so. @param {Object<string, any>} place @param {string} words */
+async function put(place, words) {
+  const texts = Object.fromEntries(Object.entries(place).map(([name, one]) => [name, String(one)]));
+  const done = await ask("put", {}, {...texts, words});
+  say(`put ${done.undo} `, make("button", {onclick: undo}, "Undo"));
+  await again();
+}
+
+/** A field for a value, which Enter puts. @param {string} name @param {() => void} submit */
+function field(name, submit) {
+  // (a text field removes line ends from what it is given, and an area makes \n of all of them)
+  const input = make("textarea", {"aria-label": name, rows: 1, spellcheck: false, autocomplete: "off"});
+  input.addEventListener("keydown", (/** @type {KeyboardEvent} */ event) => {
+    if (event.key !== "Enter" || event.shiftKey) return;
+    event.preventDefault();
+    submit();
+  });
+  return input;
+}
+
+/** Says beside a field why it was refused. @param {HTMLElement} told @param {HTMLElement} input @param {unknown} error */
+function refuse(told, input, error) {
+  told.className = "refused";
+  told.textContent = /** @type {Error} */ (error).message;
+  input.setAttribute("aria-invalid", "true");
+}
+
+/** A form that makes a value for new keys of a property. @param {Object<string, any>} place @param {any} it */
+function keyAdder(place, it) {
+  const words = it.parameters.map((/** @type {Parameter} */ one) => field(`${one.name}, ${parameter(one)}`, () => made.requestSubmit()));
+  const value = field(`value of ${it.name}`, () => made.requestSubmit()), told = make("span", {role: "alert"});
+  const made = make("form", {hidden: true, onsubmit: async (/** @type {Event} */ event) => {
+    event.preventDefault();
+    try {
+      await put({...place, keys: JSON.stringify(words.map((/** @type {HTMLTextAreaElement} */ one) => one.value))}, value.value);
+      told.textContent = "";
+      made.hidden = true;
+      await again();
+    } catch (error) {
+      refuse(told, value, error);
+    }
+  }}, ...it.parameters.flatMap((/** @type {Parameter} */ one, /** @type {number} */ at) => [make("span", {className: "kind"}, parameter(one)), words[at]]),
+  make("span", {className: "kind"}, `= ${it.type}`), value, make("button", {}, "Put"), make("button", {type: "button", onclick: () => { made.hidden = true; }}, "Leave"), told);
+  const open = make("button", {className: "add", "aria-label": `add a key of ${it.name}`, onclick: () => {
+    made.hidden = !made.hidden;
+    told.textContent = "";
+    if (!made.hidden) words[0]?.focus();
+  }}, "Add a key");
+  return make("div", {}, open, made);
+}
+
+/** What gives an object up, once it is said twice. @param {number} number @param {Coclass} of */
+function releaser(number, of) {
+  const told = make("span", {role: "alert"});
+  const made = make("form", {hidden: true, onsubmit: async (/** @type {Event} */ event) => {
+    event.preventDefault();
+    try {
+      await ask("release", {}, {object: String(number)});
+      // (the form stays open until the view is another one: nothing reads the object again)
+      say(`${of.name} ${number} is released`);
+      await refresh();
+      objects(library.coclasses.find(it => it.guid === of.guid) ?? of);
+    } catch (error) {
+      told.className = "refused";
+      told.textContent = /** @type {Error} */ (error).message;
+    }
+  }}, make("span", {}, `${of.name} ${number} is then gone for ever, with all its values.`), make("button", {}, "Release it"),
+  make("button", {type: "button", onclick: () => { made.hidden = true; }}, "Leave"), told);
+  return make("div", {className: "tools"}, make("button", {className: "release", onclick: () => { made.hidden = !made.hidden; told.textContent = ""; }}, "Release"), made);
+}
+
+/** Makes an object, and shows it. @param {Coclass} of */
+async function create(of) {
+  try {
+    const made = await ask("create", {}, {coclass: of.guid});
+    await refresh();
+    say(`${made.coclass} ${made.number} is made`);
+    object(made.number, of);
+  } catch (error) {
+    say(/** @type {Error} */ (error).message);
+  }
+}
+
 /** One object with all its cells. @param {number} number @param {Coclass} of */
 function object(number, of) {
   const inside = make("div", {});
   const heading = make("h2", {tabIndex: -1}, `${of.name} ${number}`);
-  const own = begin("objects", make("div", {className: "tools"}, make("button", {onclick: () => objects(of)}, `◂ all of ${of.name}`)), heading, inside);
+  const own = begin("objects", make("div", {className: "tools"}, make("button", {onclick: () => objects(of)}, `◂ all of ${of.name}`)), heading, inside,
+    ...(library.write ? [releaser(number, of)] : []));
   heading.focus();
   /** How many keys of each property are shown. @type {Object<string, number>} */
   const shows = {};
@@ -412,40 +560,56 @@ function object(number, of) {
 
   /** @param {Member} it @param {string} key */
   function form(it, key) {
-    const input = make("input", {"aria-label": `new value of ${it.name}`, spellcheck: false, autocomplete: "off"});
+    const input = field(`new value of ${it.name}`, () => made.requestSubmit());
+    let before = "";
     const told = make("span", {role: "alert"});
     const made = make("form", {hidden: true, onsubmit: async (/** @type {Event} */ event) => {
       event.preventDefault();
       try {
-        const done = await ask("put", {}, {...Object.fromEntries(Object.entries(place(it, key)).map(([name, one]) => [name, String(one)])), words: input.value});
+        const words = edited(before, input.value);
+        if (words === before) {
+          made.hidden = true;
+          say("nothing was changed");
+          return;
+        }
+        await put(place(it, key), words);
         told.className = "done";
         told.textContent = "";
         made.hidden = true;
-        say(`put ${done.undo} `, make("button", {onclick: undo}, "Undo"));
         await again();
       } catch (error) {
-        told.className = "refused";
-        told.textContent = /** @type {Error} */ (error).message;
-        input.setAttribute("aria-invalid", "true");
+        refuse(told, input, error);
       }
     }}, input, make("button", {}, "Put"), make("button", {type: "button", onclick: () => { made.hidden = true; }}, "Leave"), told);
-    const open = make("button", {className: "plain", "aria-label": `change ${it.name}`, onclick: () => {
-      made.hidden = !made.hidden;
+    const open = make("button", {className: "plain", "aria-label": `change ${it.name}`, onclick: async () => {
+      if (!made.hidden) {
+        made.hidden = true;
+        return;
+      }
       told.textContent = "";
       input.removeAttribute("aria-invalid");
-      input.value = made.parentElement?.firstElementChild?.dataset.words ?? "";
-      if (!made.hidden) input.select();
+      try {
+        const now = await ask("words", place(it, key));
+        before = now.words;
+        input.placeholder = now.exact ? "" : "these bytes are no text; a new text replaces all of them";
+      } catch (error) {
+        fault(error);
+        return;
+      }
+      input.value = before;
+      input.rows = Math.min(12, before.split(LINE_END).length);
+      made.hidden = false;
+      input.select();
     }}, "change");
     const around = document.createDocumentFragment();
     around.append(open, made);
     return around;
   }
 
-  /** Shows what was read in its cell. @param {Member} it @param {string} key @param {Value} value @param {string | undefined} words */
-  function fill(it, key, value, words) {
+  /** Shows what was read in its cell. @param {Member} it @param {string} key @param {Value} value */
+  function fill(it, key, value) {
     const spot = there.get(`${it.interface}/${it.dispid}/${key}`);
     if (!spot) return;
-    spot.dataset.words = words ?? "";
     const before = spot.dataset.told;
     show(spot, value, () => ask("value", place(it, key)));
     if (value.bounds && before !== spot.dataset.told) spot.append(" ", make("button", {onclick: () => array(it, key, number, of)}, "Show cells"));
@@ -466,8 +630,8 @@ function object(number, of) {
       build(told);
     }
     for (const face of told.interfaces) {
-      for (const it of face.properties) fill(it, "", it.value, it.words);
-      for (const it of face.tables) for (const row of it.rows) fill(it, row.key, row.value, row.words);
+      for (const it of face.properties) fill(it, "", it.value);
+      for (const it of face.tables) for (const row of it.rows) fill(it, row.key, row.value);
     }
   });
 
@@ -493,8 +657,9 @@ function object(number, of) {
   function keyed(it) {
     const name = `${it.interface}/${it.dispid}`;
     const heading = make("h3", {}, it.name, make("span", {className: "kind"}, ` ${signature(it)}`));
-    if (!it.known) return [heading, make("p", {className: "none"}, "which keys there are stands in the store's file, which is not known here")];
-    if (!it.total) return [heading, make("p", {className: "none"}, "no value was put")];
+    const adder = library.write && it.put ? keyAdder(place(it), it) : null;
+    if (!it.known) return [heading, make("p", {className: "none"}, "the keys are in the store's file, which is not known here"), adder].filter(Boolean);
+    if (!it.total) return [heading, make("p", {className: "none"}, "no value was put"), adder].filter(Boolean);
     const rows = it.rows.map((/** @type {any} */ row) => make("tr", {}, ...row.keys.map((/** @type {Value} */ one) => make("th", {scope: "row"}, shown(one))), cell(it, row.key)));
     const more = it.rows.length < it.total ? make("button", {onclick: () => {
       shows[name] = Math.min(200, it.rows.length + 60);
@@ -502,7 +667,7 @@ function object(number, of) {
     }}, `${it.rows.length} of ${it.total.toLocaleString("en")} keys, show more`) : null;
     return [heading, make("div", {className: "scroll"}, make("table", {},
       make("thead", {}, make("tr", {}, ...it.parameters.map((/** @type {Parameter} */ one) => make("th", {scope: "col"}, one.name)), make("th", {scope: "col"}, it.type))),
-      make("tbody", {}, ...rows))), more].filter(Boolean);
+      make("tbody", {}, ...rows))), more, adder].filter(Boolean);
   }
 }
 
@@ -510,7 +675,9 @@ function object(number, of) {
 function array(it, key, number, of) {
   const heading = make("h2", {tabIndex: -1}, `${of.name} ${number}, ${it.name}`);
   const tools = make("div", {className: "tools"}), inside = make("div", {className: "scroll"});
-  const own = begin("objects", make("div", {className: "tools"}, make("button", {onclick: () => object(number, of)}, `◂ ${of.name} ${number}`)), heading, tools, inside);
+  const change = library.write && it.put ? cellChange(it, {object: number, interface: it.interface, member: it.name, ...(key ? {key} : {})}) : null;
+  const own = begin("objects", make("div", {className: "tools"}, make("button", {onclick: () => object(number, of)}, `◂ ${of.name} ${number}`)), heading, tools,
+    ...(change ? [change.form] : []), inside);
   heading.focus();
   /** @type {{at: number[], row: number, column: number}} */
   const now = {at: [], row: 0, column: 0};
@@ -542,7 +709,90 @@ function array(it, key, number, of) {
     }
     const body = inside.querySelector("tbody");
     told.cells.forEach((/** @type {Value[]} */ line, /** @type {number} */ at) => line.forEach((value, column) => show(/** @type {HTMLElement} */ (body?.rows[at].cells[column + 1]), value)));
+    if (change && body) change.over(body, (/** @type {number} */ row, /** @type {number} */ column) => {
+      const last = bounds.length > 1 ? [row + told.row + rows[1], column + told.column + columns[1]] : [row + told.row + rows[1]];
+      return [...told.at.map((/** @type {number} */ at, /** @type {number} */ place) => at + bounds[place][1]), ...last];
+    });
   });
+}
+
+/**
+ * What changes a cell of an array: a click or Enter on it opens the form, arrows go from cell to cell.
+ * @param {Member} it @param {Object<string, any>} place
+ */
+function cellChange(it, place) {
+  let cell = "", before = "";
+  /** @type {HTMLElement | null} */
+  let opener = null;
+  const name = make("span", {className: "kind"}), told = make("span", {role: "alert"});
+  const input = field("new value of the cell", () => form.requestSubmit());
+  const leave = () => {
+    form.hidden = true;
+    opener?.focus();
+  };
+  const form = make("form", {hidden: true, className: "cell", onsubmit: async (/** @type {Event} */ event) => {
+    event.preventDefault();
+    try {
+      const words = edited(before, input.value);
+      if (words === before) say("nothing was changed");
+      else await put({...place, cell}, words);
+      leave();
+      await again();
+    } catch (error) {
+      refuse(told, input, error);
+    }
+  }}, name, input, make("button", {}, "Put"), make("button", {type: "button", onclick: leave}, "Leave"), told);
+
+  /** @param {HTMLTableSectionElement} body @param {(row: number, column: number) => number[]} indices */
+  function over(body, indices) {
+    if (body.dataset.changes) return;
+    body.dataset.changes = "1";
+    /** @param {EventTarget | null} target */
+    const at = target => /** @type {HTMLTableCellElement | null} */ (/** @type {HTMLElement} */ (target).closest?.("td") ?? null);
+    /** @param {HTMLTableCellElement} spot */
+    const open = async spot => {
+      cell = indices(/** @type {HTMLTableRowElement} */ (spot.parentElement).sectionRowIndex, spot.cellIndex - 1).join(",");
+      opener = spot;
+      told.textContent = "";
+      input.removeAttribute("aria-invalid");
+      try {
+        const now = await ask("words", {...place, cell});
+        before = now.words;
+        input.placeholder = now.exact ? "" : "these bytes are no text; a new text replaces all of them";
+      } catch (error) {
+        fault(error);
+        return;
+      }
+      name.textContent = `${it.name}[${cell}]`;
+      input.value = before;
+      input.rows = Math.min(12, before.split(LINE_END).length);
+      form.hidden = false;
+      input.focus();
+      input.select();
+    };
+    for (const spot of body.querySelectorAll("td")) spot.tabIndex = -1;
+    const first = body.querySelector("td");
+    if (first) first.tabIndex = 0;
+    body.addEventListener("click", event => {
+      const spot = at(event.target);
+      if (spot) open(spot);
+    });
+    body.addEventListener("keydown", event => {
+      const spot = at(event.target);
+      if (!spot) return;
+      const row = /** @type {HTMLTableRowElement} */ (spot.parentElement), rows = body.rows;
+      const to = {ArrowRight: spot.nextElementSibling, ArrowLeft: spot.previousElementSibling,
+        ArrowDown: rows[row.sectionRowIndex + 1]?.cells[spot.cellIndex], ArrowUp: rows[row.sectionRowIndex - 1]?.cells[spot.cellIndex]}[event.key];
+      if (event.key === "Enter") open(spot);
+      else if (to instanceof HTMLTableCellElement && to.tagName === "TD") {
+        spot.tabIndex = -1;
+        to.tabIndex = 0;
+        to.focus();
+      } else return;
+      event.preventDefault();
+    });
+  }
+  return {form, over};
 }
 
 /** The library's text, or a member's words where the text is not known. @param {number | null} [line] @param {Interface} [face] @param {Member} [member] */
@@ -551,7 +801,7 @@ function text(line = null, face, member) {
   const about = member ? make("p", {}, signature(member), make("span", {className: "kind"}, ` DISPID ${member.dispid} of ${face?.name}, ${member.kind}${member.kind === "property" && !member.put ? ", read-only" : ""}`)) : null;
   const inside = [make("h2", {tabIndex: -1}, "Library"), about,
     library.write ? another() : null,
-    library.text === null ? make("p", {className: "none"}, "its text stands in the store's file, which is not known here") : make("pre", {tabIndex: 0, "aria-label": "canonical text"}, ...lines)];
+    library.text === null ? make("p", {className: "none"}, "its text is in the store's file, which is not known here") : make("pre", {tabIndex: 0, "aria-label": "canonical text"}, ...lines)];
   begin("text", ...inside.filter(it => it !== null).map(it => /** @type {Node} */ (it)));
   again = async () => { read = performance.now(); };
   again();
@@ -607,7 +857,7 @@ function status() {
     const size = (/** @type {number} */ it) => `${it.toLocaleString("en")} bytes`;
     const words = "format" in told ? [["Format of the file", told.format], ["Library", told.library],
       ["Room left in the bank", `${size(told.room)} of ${size(told.bank_size)}`], ["Next checkpoint", `after ${size(told.checkpoint)} more`],
-      ["Groups since the last one", `${told.groups.toLocaleString("en")}, of ${size(told.groups_size)}`], ["Objects as they stood then", size(told.snapshot_size)]] : [];
+      ["Groups since the last one", `${told.groups.toLocaleString("en")}, of ${size(told.groups_size)}`], ["Objects at that time", size(told.snapshot_size)]] : [];
     const list = make("dl", {}, ...words.flatMap(([name, it]) => [make("dt", {}, String(name)), make("dd", {}, String(it))]));
     if (!words.length) list.append(make("dt", {}, "Store"), make("dd", {className: "none"}, "its file is not known here"));
     const charts = make("div", {className: "charts"});
@@ -688,14 +938,38 @@ $("pause").addEventListener("click", () => {
   $("pause").textContent = paused ? "Go on" : "Pause";
 });
 
+/** Whether there may be something new. Where changes are told, that is after one; what is shown is as new as the answer. */
+async function news() {
+  if ($("tab-status").getAttribute("aria-selected") === "true" || waits) return true;
+  const before = count, now = performance.now();
+  try {
+    count = (await ask("wait", {after: before ?? ""})).count;
+  } catch {
+    count = null;
+  }
+  if (count === null || count !== before) changed = performance.now();
+  if (now - changed < SETTLES || now - asked > AGAIN) return true;
+  read = performance.now();
+  return false;
+}
+
 /** Nothing is asked for while nobody looks. */
 async function live() {
   for (;;) {
     await new Promise(go => setTimeout(go, PERIOD));
-    if (!document.hidden && !paused && !document.querySelector("form:not([hidden])")) await again();
-    const age = (performance.now() - read) / 1000;
-    $("age").textContent = read ? `read ${age < 10 ? age.toFixed(1) : Math.round(age)} s ago` : "not read yet";
+    if (document.hidden || paused || document.querySelector("form:not([hidden])") || !await news()) continue;
+    asked = performance.now();
+    await again();
   }
 }
+
+// by itself, since an answer may be long in coming
+setInterval(() => {
+  const now = performance.now(), age = (now - read) / 1000;
+  const late = waits && now - waits > LATE && now - read > LATE;
+  const since = new Date(Date.now() - (now - (read || waits))).toLocaleTimeString();
+  $("age").textContent = late ? `no reply since ${since}` : read ? `read ${age < 10 ? age.toFixed(1) : Math.round(age)} s ago` : "not read yet";
+  $("age").classList.toggle("refused", Boolean(late));
+}, 200);
 
 refresh().then(() => { tabs.objects(); live(); }, error => { fault(error); live(); });

@@ -1,4 +1,4 @@
-"""The page's server: HTTP by aiohttp, for the loopback and for who has its token."""
+"""The page's server: HTTP by aiohttp, for the loopback and for callers with its token."""
 from __future__ import annotations
 
 import asyncio
@@ -12,8 +12,10 @@ import typing
 
 from aiohttp import ClientError, ClientSession, ClientTimeout, UnixConnector, web
 
-from ..faults import CODES, Fault
-from .window import Json, Window, Wrong
+from ..faults import CODES, Error
+from ..files import Json
+from .changes import Changes
+from .window import Window, Wrong
 
 Handler = typing.Callable[[web.Request], typing.Awaitable[web.StreamResponse]]
 FILES = {"page.css": "text/css", "page.js": "text/javascript"}
@@ -29,23 +31,34 @@ HEADERS = {
     "Cross-Origin-Resource-Policy": "same-origin",
     "Cache-Control": "no-store",
 }
-# a library's text and what stands around it
+# how long a request may take to end when the page is closed, in seconds
+END_WITHIN = 0.5
+# a library's text and the characters around it
 BODY_LIMIT = 4 << 20
 METRICS_LIMIT = 1 << 20
+# seconds that a question for changes may wait
+WAIT = 1.0
 # a line of a gateway's metrics: the name, the code of a refusal, the number
 _NUMBER = re.compile(
     r'^oaut_gateway_(\w+)(?:\{code="(0x[0-9a-f]{1,8})"\})? ([0-9.e+-]+)$', re.MULTILINE
 )
 
 
+class Told(typing.NamedTuple):
+    """A gateway beside the session: the address of its metrics, and its changes."""
+
+    metrics: str | None
+    changes: Changes
+
+
 class Site:
     """The routes over a window. `hosts` are the names with ports by which it may be called."""
 
-    def __init__(
-        self, window: Window, token: str, metrics: typing.Optional[str], cookie: str
-    ) -> None:
-        self.window, self.token, self.metrics, self.cookie = window, token, metrics, cookie
-        self.hosts: typing.Set[str] = set()
+    def __init__(self, window: Window, token: str, told: Told) -> None:
+        self.window, self.token = window, token
+        self.metrics, self.changes = told
+        self.hosts: set[str] = set()
+        self.hangs = False
         # one thread, since a session belongs to one
         self.thread = concurrent.futures.ThreadPoolExecutor(1)
 
@@ -62,29 +75,43 @@ class Site:
             ("keys", window.keys),
             ("array", window.array),
             ("value", window.value),
+            ("words", window.words),
         ):
             app.router.add_get(f"/api/{name}", self.asked(look))
         app.router.add_get("/api/library", self.asked(lambda _: window.library()))
         app.router.add_get("/api/status", self.status)
+        app.router.add_get("/api/wait", self.wait)
         for name, change in (
             ("put", window.put),
             ("undo", window.undo),
+            ("create", window.create),
+            ("release", window.release),
             ("compare", window.compare),
             ("replace", window.replace),
         ):
             app.router.add_post(f"/api/{name}", self.asked(change))
+        app.cleanup_ctx.append(self.following)
         app.on_cleanup.append(self.closed)
         return app
 
+    async def following(self, _: web.Application) -> typing.AsyncIterator[None]:
+        """Follows the changes while the application is there."""
+        task = asyncio.ensure_future(self.changes.follow())
+        yield
+        task.cancel()
+
     async def closed(self, _: web.Application) -> None:
-        """Ends the session with the application."""
-        await asyncio.get_running_loop().run_in_executor(self.thread, self.window.close)
-        self.thread.shutdown()
+        """Ends the session with the application. A server that does not reply is left as it is."""
+        closing = asyncio.get_running_loop().run_in_executor(self.thread, self.window.close)
+        try:
+            await asyncio.wait_for(asyncio.shield(closing), END_WITHIN)
+        except asyncio.TimeoutError:
+            self.hangs = True
+        self.thread.shutdown(wait=not self.hangs)
 
-    def guarded(self) -> typing.Any:
-        """What stands in front of every answer: by which name it is called, and by whom."""
+    def guarded(self) -> typing.Callable[..., typing.Awaitable[web.StreamResponse]]:
+        """Checks the host name and the caller before every reply."""
 
-        @web.middleware
         async def middleware(request: web.Request, handler: Handler) -> web.StreamResponse:
             try:
                 self.admit(request)
@@ -94,11 +121,14 @@ class Site:
             response.headers.update(HEADERS)
             return response
 
-        return middleware
+        made: typing.Callable[..., typing.Awaitable[web.StreamResponse]]
+        made = web.middleware(middleware)
+        return made
 
     def admit(self, request: web.Request) -> None:
-        """Lets a request through, or raises. A page of another origin has neither the token nor the
-        cookie; its name for this host is refused, so that no name can be led here."""
+        """Allows a request, or raises. The page itself contains nothing of a store. Its requests
+        have to name this host, so that no other name leads here, have to come from this page, and
+        need the token. A cookie would go to every port of this host."""
         if request.headers.get("Host", "").lower() not in self.hosts:
             raise web.HTTPForbidden(text="this page is not served under that name\n")
         origin = request.headers.get("Origin")
@@ -108,21 +138,15 @@ class Site:
         is_own = origin is not None and request.content_type == "application/json"
         if request.method != "GET" and not is_own:
             raise web.HTTPForbidden(text="changes come from this page alone\n")
-        if request.path == "/" and "token" in request.query:
-            if not self.is_token(request.query["token"]):
-                raise web.HTTPForbidden(text="the token is not that of this page\n")
-            # the token leaves the address, which others may see
-            found = web.HTTPSeeOther("/")
-            found.set_cookie(self.cookie, self.token, httponly=True, samesite="Strict", path="/")
-            raise found
-        if request.path.lstrip("/") in FILES:
+        if request.path == "/" or request.path.lstrip("/") in FILES:
             return
-        if not self.is_token(request.cookies.get(self.cookie, "")):
+        scheme, _, word = request.headers.get("Authorization", "").partition(" ")
+        if scheme.lower() != "bearer" or not self.is_token(word.strip()):
             text = "open the address that was printed when the page was started: it has a token\n"
             raise web.HTTPForbidden(text=text)
 
     def is_token(self, word: str) -> bool:
-        """Whether a word is the token, in a time that tells nothing of it."""
+        """Returns whether a word is the token, in a time that reveals nothing of it."""
         return hmac.compare_digest(word.encode("utf-8", "replace"), self.token.encode())
 
     async def page(self, _: web.Request) -> web.StreamResponse:
@@ -135,7 +159,7 @@ class Site:
         return web.Response(text=_text(name), content_type=FILES[name])
 
     def asked(self, call: typing.Callable[[typing.Mapping[str, str]], Json]) -> Handler:
-        """A call of the window as a route: its words stand in the query, or in a body of JSON."""
+        """A call of the window as a route: its words are in the query, or in a body of JSON."""
 
         async def answer(request: web.Request) -> web.StreamResponse:
             words: typing.Mapping[str, str] = request.query
@@ -146,23 +170,29 @@ class Site:
                     return _told({"error": "no JSON"}, 400)
                 texts = isinstance(given, dict) and given.values()
                 if texts is False or any(not isinstance(it, str) for it in texts):
-                    return _told({"error": "texts by their names are asked for"}, 400)
+                    return _told({"error": "the body has to be an object of texts"}, 400)
                 words = given
             return await self.on_thread(call, words)
 
         return answer
 
     async def on_thread(
-        self, call: typing.Callable[..., Json], *words: typing.Any
+        self, call: typing.Callable[..., Json], *words: object
     ) -> web.StreamResponse:
-        """What a call of the window gives, or why it has no answer."""
+        """The result of a call of the window, or the reason why there is none."""
         loop = asyncio.get_running_loop()
         try:
             return _told(await loop.run_in_executor(self.thread, self.window.guarded, call, *words))
         except Wrong as wrong:
             return _told({"error": str(wrong)}, wrong.status)
-        except (Fault, OSError) as fault:
+        except (Error, OSError) as fault:
             return _told({"error": str(fault)}, 503)
+
+    async def wait(self, request: web.Request) -> web.StreamResponse:
+        """The count of changes, once it is another one than the page has seen, or after a while."""
+        seen = request.query.get("after", "")
+        count = int(seen) if seen.isascii() and seen.isdigit() and len(seen) < 20 else None
+        return _told({"count": await self.changes.after(count, WAIT)})
 
     async def status(self, _: web.Request) -> web.StreamResponse:
         """How the store and the gateway do."""
@@ -192,7 +222,7 @@ async def _metrics(where: str) -> Json:
             async with session.get(address) as response:
                 text = (await response.content.read(METRICS_LIMIT)).decode("utf-8", "replace")
     except (OSError, ClientError, asyncio.TimeoutError) as error:
-        return {"error": str(error) or "no answer"}
+        return {"error": str(error) or "no reply"}
     found: Json = {}
     for name, code, number in _NUMBER.findall(text):
         refusal = CODES.get(int(code, 16)) if code else None
@@ -201,28 +231,38 @@ async def _metrics(where: str) -> Json:
     return found
 
 
+def hosts_of(names: typing.Iterable[str], port: int) -> set[str]:
+    """Returns the names with ports by which the page may be called: the loopback's, and these,
+    each with the page's own port if it has none. Port 80 may be left out."""
+    of_port = [
+        it if re.search(r"[^:]:\d+$", it) else f"{it}:{port}"
+        for it in ("127.0.0.1", "localhost", "[::1]", *names)
+    ]
+    return {it.lower() for it in of_port} | {it[:-3].lower() for it in of_port if it[-3:] == ":80"}
+
+
 async def serve(
     window: Window,
     host: str,
     port: int,
-    token: typing.Optional[str],
-    metrics: typing.Optional[str],
+    token: str | None,
+    told: Told,
     names: typing.Sequence[str],
     say: typing.Callable[[str], object],
+    ended: typing.Callable[[bool], object],
 ) -> None:
-    """Serves the page until it is cancelled, and says where it is."""
-    site = Site(window, token or secrets.token_urlsafe(24), metrics, f"oaut-{secrets.token_hex(4)}")
+    """Serves the page until it is cancelled, and says if it is. The token is after `#`, which a
+    browser sends to nobody. `ended` is called with whether a request still hangs."""
+    site = Site(window, token or secrets.token_urlsafe(24), told)
     runner = web.AppRunner(site.application(), access_log=None)
     await runner.setup()
     try:
-        await web.TCPSite(runner, host, port).start()
+        await web.TCPSite(runner, host, port, shutdown_timeout=END_WITHIN / 2).start()
         port = runner.addresses[0][1]
-        local = ("127.0.0.1", "localhost", "[::1]")
         shown = f"[{host}]" if ":" in host else host
-        site.hosts = {f"{it}:{port}".lower() for it in (*local, shown, *names)}
-        if port == 80:
-            site.hosts |= {it.rpartition(":")[0] for it in site.hosts}
-        say(f"http://{shown}:{port}/?token={site.token}")
+        site.hosts = hosts_of((shown, *names), port)
+        say(f"http://{shown}:{port}/#token={site.token}")
         await asyncio.Event().wait()
     finally:
         await runner.cleanup()
+        ended(site.hangs)

@@ -1,9 +1,10 @@
-"""What a page shows of a session: the library as a tree, objects as rows, one object with its
-cells, changes and the undoing of the last one. Each call gives what `json.dumps` takes. Nothing
-here knows of HTTP, and all calls are made by one thread, whose session it is."""
+"""The page's view of a session: the library as a tree, objects as rows, one object with its cells,
+changes and undo. Each call returns a value for `json.dumps`. Nothing here knows of HTTP, and all
+calls are made by one thread, which owns the session."""
 from __future__ import annotations
 
 import decimal
+import json
 import operator
 import os
 import re
@@ -14,7 +15,9 @@ import typing
 import uuid
 
 from .. import store as stores
-from ..faults import Fault, Refused, Stopped
+from ..faults import Error, Refused, SessionEnded
+from ..files import Json
+from ..keys import scalar_value
 from ..library import (
     HAS_DEFAULT,
     IN,
@@ -32,16 +35,15 @@ from ..programs import Program, play
 from ..protocol import Later
 from ..records import PROPERTYGET, PROPERTYPUT, ask_list
 from ..session import Server
-from ..values import ARRAY, NULL_BSTR, VT, Array, Currency, scalar_of, typed
+from ..values import ARRAY, MISSING, NULL_BSTR, VT, Array, Currency, Value, typed
 from ..words import value_of, words_of
 from .held import Held
 
-Json = typing.Dict[str, typing.Any]
-Key = typing.Tuple[stores.Scalar, ...]
+Key = tuple[stores.Scalar, ...]
 
-# how much of a text stands in a row, and beside a property
+# how much of a text a row shows, and a property
 SHORT, LONG = 80, 2_000
-# how many rows or columns of an array, keys of a property and rows of a table one answer has
+# how many rows or columns of an array, keys of a property and rows of a table one response has
 MOST_ROWS, MOST_COLUMNS, MOST_KEYS, MOST_OBJECTS = 200, 64, 200, 500
 # how many gets of a whole column go out before others have their turn
 PART = 8_192
@@ -50,7 +52,7 @@ _DEFAULT = bytes(16)
 _COMPARED = re.compile(r"\s*(<=|>=|!=|<|>|=)\s*(.*)", re.DOTALL)
 # an entry of a LIST's reply
 _ENTRY = struct.Struct("<I4x16s")
-_ORDERS: typing.Dict[str, typing.Callable[[typing.Any, typing.Any], object]] = {
+_ORDERS: dict[str, typing.Callable[..., object]] = {
     "=": operator.eq,
     "!=": operator.ne,
     "<": operator.lt,
@@ -61,20 +63,54 @@ _ORDERS: typing.Dict[str, typing.Callable[[typing.Any, typing.Any], object]] = {
 
 
 class Wrong(Exception):
-    """A question that has no answer: its text says why, and `status` is that of HTTP."""
+    """A request without a result: its text is the reason, and `status` is that of HTTP."""
 
     def __init__(self, why: str, status: int = 400) -> None:
         super().__init__(why)
         self.status = status
 
 
+# --- refusals
+
+# the words for the codes of a call; all other codes have the client's words
+_WORDS = {
+    0x8000_4001: "it is a method, and the library has no bodies of methods",
+    0x8000_4005: "the store's device has failed; nothing is written any more",
+    0x8000_FFFF: "there is none yet, or the store cannot hold another object",
+    0x8001_0108: "the store has no object with this number; it was released",
+    0x8002_0003: "there is no such member, or it cannot be read, or not be changed",
+    0x8002_0005: "the value is of another type",
+    0x8002_0008: "values of this type are not supported",
+    0x8002_000A: "the number is too large or too small",
+    0x8002_000B: "nothing has this index",
+    0x8002_000D: "another client has locked the array",
+    0x8002_000E: "the number of arguments is wrong",
+    0x8002_000F: "a required argument is missing",
+    0x8003_001D: "the store's device failed; the change was made completely or not at all",
+    0x8003_0070: "the store is full; nothing has changed",
+    0x8007_000E: "the server is out of memory; nothing has changed",
+    0x8007_0057: "an array or the whole call is too large",
+    0x8007_06F7: "the server refuses the call: a text is too long",
+}
+
+
+def in_words(fault: Error, name: str = "", declared: int | None = None) -> str:
+    """Returns an error in words, of a member with a declared type if there is one, followed by
+    its code."""
+    words = _WORDS.get(fault.code) if isinstance(fault, Refused) else None
+    if words is None or not isinstance(fault, Refused):
+        return str(fault)
+    about = f"{name} is declared {type_word(declared)}: " if declared is not None else ""
+    return f"{about}{words} ({fault.name})"
+
+
 # --- values
 
 
-def shown(value: typing.Any, declared: int, most: int = LONG) -> Json:
+def shown(value: object, declared: int, most: int = LONG) -> Json:
     """A value for a page: its type in IDL's words, its text, and of a long one its beginning."""
-    if isinstance(value, Fault):
-        return {"type": type_word(declared), "refused": str(value)}
+    if isinstance(value, Error):
+        return {"type": type_word(declared), "refused": in_words(value)}
     if isinstance(value, Array):
         bounds = [list(it) for it in value.bounds]
         return {"type": type_word(ARRAY | value.vt), "bounds": bounds, "cells": len(value.cells)}
@@ -96,8 +132,8 @@ def shown(value: typing.Any, declared: int, most: int = LONG) -> Json:
     return {"type": "EMPTY", "null": True}
 
 
-def _text_shown(value: typing.Union[str, bytes], most: int) -> Json:
-    """A text, or where it is none the digits of its bytes."""
+def _text_shown(value: str | bytes, most: int) -> Json:
+    """A text, or if it is none the digits of its bytes."""
     if isinstance(value, str) and is_text(value):
         cut = {"length": len(value)} if len(value) > most else {}
         return {"text": value[:most], **cut}
@@ -114,9 +150,9 @@ def is_text(value: str) -> bool:
     )
 
 
-def value_of_words(words: str, declared: int) -> typing.Any:
-    """The value that was typed for a declared type. What spells none of a number's type goes to the
-    server as the text that it is, which then says what is wrong with it."""
+def value_of_words(words: str, declared: int) -> Value:
+    """The value that was typed for a declared type. Words that are no number are sent as a text,
+    and the server says what is wrong with it."""
     if declared == _BSTR:
         return words
     if declared & ARRAY or declared == _VARIANT:
@@ -134,8 +170,8 @@ def value_of_words(words: str, declared: int) -> typing.Any:
         return told
 
 
-def words_to_type(value: typing.Any, declared: int) -> str:
-    """What stands in a field where a value is changed: what `value_of_words` reads as it again."""
+def words_to_type(value: object, declared: int) -> str:
+    """The words in a field for changing a value, which `value_of_words` converts back."""
     if declared == _BSTR:
         return value if isinstance(value, str) else ""
     if declared & ARRAY or declared == _VARIANT:
@@ -143,22 +179,8 @@ def words_to_type(value: typing.Any, declared: int) -> str:
     return str(shown(value, declared).get("text", ""))
 
 
-def scalar_value(it: stores.Scalar) -> typing.Any:
-    """The value of a scalar of a store's file."""
-    vt, content = it
-    if vt == stores.BSTR:
-        return scalar_of(vt, None if content == stores.zero(vt) else content[4:])
-    if vt == stores.DECIMAL:
-        scale, minus, high, low = struct.unpack("<BBIQ", content)
-        return scalar_of(vt, (scale, minus, high << 64 | low))
-    if vt == stores.BOOL:
-        return content != b"\0"
-    number = struct.unpack("<" + stores.NUMBERS[vt], content)[0] if vt in stores.NUMBERS else None
-    return scalar_of(vt, number)
-
-
 def key_of(digits: str) -> Key:
-    """The key of such digits. Raises Wrong where they are none."""
+    """The key of such digits. Raises Wrong if they are none."""
     try:
         source, found = stores.Bytes(bytes.fromhex(digits)), []
         while source.place < source.end:
@@ -171,9 +193,9 @@ def key_of(digits: str) -> Key:
 # --- the order of a column
 
 
-def rank(value: typing.Any) -> typing.Tuple[typing.Any, ...]:
-    """What the values of a column are ordered by: what has none, numbers, texts, all else."""
-    if value is None or value is NULL_BSTR or isinstance(value, Fault):
+def rank(value: object) -> tuple[object, ...]:
+    """The sort key of a column's values: no value, numbers, texts, all else."""
+    if value is None or value is NULL_BSTR or isinstance(value, Error):
         return (0,)
     if isinstance(value, (int, decimal.Decimal)):
         return 1, value
@@ -182,7 +204,7 @@ def rank(value: typing.Any) -> typing.Tuple[typing.Any, ...]:
     return 3, words_of(value)
 
 
-def fits(value: typing.Any, asked: str) -> bool:
+def fits(value: object, asked: str) -> bool:
     """Whether a value is what a filter asks for: a part of its text, or `< 5`, `>= b`, `= x`."""
     compared = _COMPARED.fullmatch(asked)
     told = "" if rank(value) == (0,) else value if isinstance(value, str) else words_of(value)
@@ -191,29 +213,29 @@ def fits(value: typing.Any, asked: str) -> bool:
     if compared is None:
         return fold(asked.strip()) in fold(told)
     sign, words = compared.groups()
-    one: typing.Any = told
-    other: typing.Any = words.strip()
+    compare = _ORDERS[sign]
+    if isinstance(value, bool):
+        return bool(compare(fold(told), fold(words.strip())))
     if isinstance(value, (int, decimal.Decimal)):
         try:
-            one, other = decimal.Decimal(value), decimal.Decimal(other)
+            return bool(compare(decimal.Decimal(value), decimal.Decimal(words.strip())))
         except ArithmeticError:
             return sign == "!="
-    return bool(_ORDERS[sign](one, other))
+    return bool(compare(told, words.strip()))
 
 
 class Column(typing.NamedTuple):
     """The values of a property of all objects of a coclass, as they were at a moment."""
 
-    values: typing.Dict[int, typing.Any]
+    values: dict[int, object]
     read: float
 
 
 # --- what a new library would lose
 
 
-def lost(new: Library, old: Library) -> typing.List[str]:
-    """What a new library does not keep of an old one, all of it (docs/library.md, "What a new
-    library has to keep")."""
+def lost(new: Library, old: Library) -> list[str]:
+    """All incompatibilities of a new library with an old one (docs/reference/library.md)."""
     told = []
     faces = {it.guid: it for it in new.interfaces}
     for face in old.interfaces:
@@ -238,12 +260,12 @@ def lost(new: Library, old: Library) -> typing.List[str]:
     return told
 
 
-def _declared(form: Form) -> typing.Tuple[typing.Any, ...]:
+def _declared(form: Form) -> tuple[object, ...]:
     parameters = [(fold(it.name), it.vt, it.flags, it.default) for it in form.parameters]
     return form.dispid, form.kind, form.flags, form.vt, fold(form.name), parameters
 
 
-def _entries(coclass: Coclass, library: Library) -> typing.Set[uuid.UUID]:
+def _entries(coclass: Coclass, library: Library) -> set[uuid.UUID]:
     return {library.interfaces[index].guid for _, index in coclass.entries}
 
 
@@ -251,22 +273,22 @@ def _entries(coclass: Coclass, library: Library) -> typing.Set[uuid.UUID]:
 
 
 class Window:
-    """What is looked at: a session that `connect` makes, again where it has ended, and the store's
-    file where it is known. Nothing is changed unless `write` is set."""
+    """The session that `connect` begins, again if it has ended, and the store's file if it is
+    known. Nothing is changed unless `write` is set."""
 
     def __init__(
         self,
         connect: typing.Callable[[], Server],
-        store: typing.Optional[str],
+        store: str | None,
         write: bool,
         program: Program,
     ) -> None:
         self._connect, self.write, self._program = connect, write, program
         self._file = None if store is None else Held(store)
-        self._server: typing.Optional[Server] = None
-        self._listed: typing.Tuple[bytes, typing.Dict[bytes, typing.List[int]]] = (b"", {})
-        self._columns: typing.Dict[typing.Tuple[bytes, str], Column] = {}
-        self._last: typing.Optional[Json] = None
+        self._server: Server | None = None
+        self._listed: tuple[bytes, dict[bytes, list[int]]] = (b"", {})
+        self._columns: dict[tuple[bytes, str], Column] = {}
+        self._last: Json | None = None
 
     def close(self) -> None:
         """Ends the session."""
@@ -275,46 +297,46 @@ class Window:
             server.close()
 
     def server(self) -> Server:
-        """The session, made anew where the one before has ended."""
+        """The session, made anew if the one before has ended."""
         if self._server is None:
             self._server = self._connect()
             self._columns.clear()
         return self._server
 
-    def guarded(self, call: typing.Callable[..., Json], *words: typing.Any) -> Json:
-        """What a call gives. Where the session has ended it is made once more, but never behind a
-        request that may have changed something."""
+    def guarded(self, call: typing.Callable[..., Json], *words: object) -> Json:
+        """The result of a call. If the session has ended, the call is made once more, but never
+        after a request that may have changed something."""
         try:
             return call(*words)
-        except Stopped:
+        except SessionEnded:
             self._drop()
-            if call in (self.put, self.undo, self.replace):
+            if call in (self.put, self.undo, self.replace, self.create, self.release):
                 raise
             return call(*words)
 
     def _drop(self) -> None:
         try:
             self.close()
-        except Fault:
+        except Error:
             pass
 
     # --- the library
 
     def library(self) -> Json:
-        """The library as a tree, and its text where the store's file is known."""
+        """The library as a tree, and its text if the store's file is known."""
         library = self.server().library
         text = None if self._file is None else self._file.text()
         places = _places(text or "")
-        faces: typing.List[Json] = []
+        faces: list[Json] = []
         for face in library.interfaces:
-            members: typing.List[Json] = [
+            members: list[Json] = [
                 {**_member_told(it, face), "line": places.get((str(face.guid), it.dispid))}
                 for it in library.members(face).values()
             ]
             told: Json = {"name": face.name, "guid": str(face.guid), "members": members}
             faces.append({**told, "line": places.get((str(face.guid), None))})
         counts = self._objects()
-        classes: typing.List[Json] = []
+        classes: list[Json] = []
         for of in library.coclasses:
             entries = [
                 {
@@ -336,12 +358,12 @@ class Window:
 
     # --- objects
 
-    def _objects(self) -> typing.Dict[bytes, typing.List[int]]:
+    def _objects(self) -> dict[bytes, list[int]]:
         """The numbers of the live objects by their coclass's GUID, of one LIST."""
         server = self.server()
         fields: bytes = server.ask(ask_list(), lambda it: it)
         if fields != self._listed[0]:
-            found: typing.Dict[bytes, typing.List[int]] = {}
+            found: dict[bytes, list[int]] = {}
             for number, guid in _ENTRY.iter_unpack(fields[8:]):
                 found.setdefault(guid, []).append(number)
             self._listed = fields, found
@@ -349,8 +371,8 @@ class Window:
 
     def rows(self, asked: typing.Mapping[str, str]) -> Json:
         """A part of the objects of a coclass, in an order: one LIST, and the gets of what is
-        shown. `sort` and the filters (`f.NAME`) go by a column as it was read when it was first
-        asked for, or since `fresh` was said."""
+        shown. `sort` and the filters (`f.NAME`) use a column as it was first read, or as it
+        was read since the last request with `fresh`."""
         library = self.server().library
         of = _coclass(library, asked.get("coclass", ""))
         face = library.interface(of)
@@ -388,9 +410,7 @@ class Window:
             "ordered": round(time.monotonic() - oldest, 1),
         }
 
-    def _column(
-        self, of: Coclass, member: Member, numbers: typing.List[int], fresh: bool
-    ) -> Column:
+    def _column(self, of: Coclass, member: Member, numbers: list[int], fresh: bool) -> Column:
         """The values of a property of all objects of a coclass, and those of new ones."""
         name = of.guid.bytes_le, member.name
         known = self._columns.get(name)
@@ -405,16 +425,16 @@ class Window:
         return self._columns[name]
 
     def _gets(
-        self, asked: typing.Sequence[typing.Tuple[Object, Member, typing.Tuple[typing.Any, ...]]]
-    ) -> typing.List[typing.Any]:
+        self, asked: typing.Sequence[tuple[Object, Member, tuple[object, ...]]]
+    ) -> list[object]:
         """Values, or the refusals that came in their place."""
-        laters: typing.List[typing.Optional[Later]] = []
+        laters: list[Later | None] = []
         try:
             with self.server().batch():
                 for item, member, key in asked:
                     laters.append(_get(item, member, key) if member.can_get else None)
         except Refused:
-            pass  # each stands at its place
+            pass  # each is at its place
         return [None if it is None else _answer(it) for it in laters]
 
     def object(self, asked: typing.Mapping[str, str]) -> Json:
@@ -423,7 +443,7 @@ class Window:
         item = self._item(asked)
         library = self.server().library
         of = library.coclass(item.coclass)
-        faces: typing.List[Json] = []
+        faces: list[Json] = []
         for _, at in of.entries:
             face = library.interfaces[at]
             other = item.interface(str(face.guid))
@@ -462,16 +482,13 @@ class Window:
         ]
         return {**told, "total": len(keys), "rows": rows}
 
-    def _field(self, value: typing.Any, member: Member) -> Json:
-        """A value, and what its field of a form has where it may be changed."""
-        told: Json = {"value": shown(value, member.vt)}
-        if self.write and member.can_put and not isinstance(value, Fault):
-            told["words"] = words_to_type(value, member.vt)
-        return told
+    def _field(self, value: Value, member: Member) -> Json:
+        """A value, as much of it as is shown. The page asks for the whole of one by `words`."""
+        return {"value": shown(value, member.vt)}
 
     def array(self, asked: typing.Mapping[str, str]) -> Json:
         """A part of an array: of one with two bounds rows and columns, of one with more a slice
-        of them at the indices of `at`, which stand in front."""
+        of them at the indices of `at`, which come first."""
         item, _, member = self._place(asked)
         found = self._one(item, member, asked)
         if not isinstance(found, Array):
@@ -510,10 +527,31 @@ class Window:
         item, _, member = self._place(asked)
         return shown(self._one(item, member, asked), member.vt, 1 << 30)
 
-    def _one(self, item: Object, member: Member, asked: typing.Mapping[str, str]) -> typing.Any:
-        key = tuple(scalar_value(it) for it in key_of(asked.get("key", "")))
+    def words(self, asked: typing.Mapping[str, str]) -> Json:
+        """The words in a field for changing a value, and whether they are the value itself."""
+        item, _, member = self._place(asked)
+        value, vt = self._one(item, member, asked), self._declared(item, member, asked)
+        is_text = vt != _BSTR or isinstance(value, str) or value in (None, NULL_BSTR)
+        return {"words": words_to_type(value, vt), "exact": is_text}
+
+    def _one(self, item: Object, member: Member, asked: typing.Mapping[str, str]) -> Value:
+        """The value at a place: a property's for its arguments, or the cell of an array in it."""
+        key, cell = _arguments(member, asked), _cell(asked)
+        if cell is not None:
+            return item.array(member.name, *key)[cell]
         found = item.property(member.name).get(*key)
         return found.value if isinstance(found, ArrayProperty) else found
+
+    def _declared(self, item: Object, member: Member, asked: typing.Mapping[str, str]) -> int:
+        """The type of a place: the member's, or the one that the cells of its array have."""
+        if _cell(asked) is None:
+            return member.vt
+        if member.vt & ARRAY:
+            return member.vt & ~ARRAY
+        whole = self._one(item, member, {it: asked[it] for it in asked if it != "cell"})
+        if not isinstance(whole, Array):
+            raise Wrong("there is no array any more", 409)
+        return int(whole.vt)
 
     def _item(self, asked: typing.Mapping[str, str]) -> Object:
         number = _number(asked, "object", -1, 0xFFFF_FFFF)
@@ -522,7 +560,7 @@ class Window:
                 return self.server().object(number, str(uuid.UUID(bytes_le=guid)))
         raise Wrong(f"there is no object {number}, or no more", 404)
 
-    def _place(self, asked: typing.Mapping[str, str]) -> typing.Tuple[Object, Interface, Member]:
+    def _place(self, asked: typing.Mapping[str, str]) -> tuple[Object, Interface, Member]:
         item = self._item(asked)
         library = self.server().library
         try:
@@ -535,61 +573,94 @@ class Window:
     # --- changes
 
     def put(self, asked: typing.Mapping[str, str]) -> Json:
-        """Puts what was typed, and keeps what was there before for `undo`."""
-        if not self.write:
-            raise Wrong("nothing is changed here: --write was not given", 403)
+        """Puts what was typed, and keeps what was there before for `undo`. The place is a
+        property, with `key` one of its keys or with `keys` the arguments that were typed, and with
+        `cell` an element of its array."""
+        self._writes()
         item, face, member = self._place(asked)
-        before = self._one(item, member, asked)
+        vt = member.vt
         try:
-            value = value_of_words(str(asked.get("words", "")), member.vt)
-            self._change(item, member, asked, value)
+            vt = self._declared(item, member, asked)
+            before = self._one(item, member, asked)
+            self._change(item, member, asked, value_of_words(str(asked.get("words", "")), vt))
+        except Refused as refusal:  # (some of them are ValueErrors, too)
+            raise Wrong(in_words(refusal, member.name, vt), 409) from None
         except (ValueError, TypeError, ArithmeticError) as error:
             raise Wrong(str(error), 409) from None
-        except Refused as refusal:
-            raise Wrong(str(refusal), 409) from None
         of = self.server().library.coclass(item.coclass)
         self._columns.pop((of.guid.bytes_le, member.name), None)
         after = self._one(item, member, asked)
-        place = {it: asked[it] for it in ("object", "interface", "member", "key") if it in asked}
+        places = ("object", "interface", "member", "key", "keys", "cell")
+        place = {it: asked[it] for it in places if it in asked}
         self._last = {**place, "interface": str(face.guid), "before": before, "after": after}
-        told = f"{item.coclass} {item.number}, {member.name}"
-        return {**self._field(after, member), "undo": told}
+        cell = f"[{asked['cell']}]" if "cell" in asked else ""
+        told = f"{item.coclass} {item.number}, {member.name}{cell}"
+        return {"value": shown(after, vt), "undo": told}
 
     def undo(self, asked: typing.Mapping[str, str]) -> Json:
-        """Puts back what stood before the last change, unless it was changed again since."""
+        """Puts back the value of before the last change, unless it was changed again since."""
         last = self._last
         if not self.write or last is None:
             raise Wrong("there is nothing to take back", 409)
         item, _, member = self._place(last)
-        now = self._one(item, member, last)
-        if now != last["after"]:
-            raise Wrong("not taken back: somebody has changed it again", 409)
         try:
+            now = self._one(item, member, last)
+            if now != last["after"]:
+                raise Wrong("not taken back: somebody has changed it again", 409)
             self._change(item, member, last, last["before"])
         except Refused as refusal:
-            raise Wrong(str(refusal), 409) from None
+            raise Wrong(in_words(refusal, member.name, member.vt), 409) from None
         self._last = None
         return {"object": item.number, "member": member.name}
 
+    def create(self, asked: typing.Mapping[str, str]) -> Json:
+        """Makes an object of a coclass."""
+        self._writes()
+        of = _coclass(self.server().library, asked.get("coclass", ""))
+        try:
+            item = self.server().create(str(of.guid))
+        except Refused as refusal:
+            raise Wrong(in_words(refusal), 409) from None
+        return {"number": item.number, "coclass": of.name}
+
+    def release(self, asked: typing.Mapping[str, str]) -> Json:
+        """Gives an object up. It is gone from the store, and so is what `undo` knew of it."""
+        self._writes()
+        item = self._item(asked)
+        try:
+            item.release()
+        except Refused as refusal:
+            raise Wrong(in_words(refusal), 409) from None
+        if self._last is not None and self._last["object"] == asked.get("object"):
+            self._last = None
+        self._columns.clear()
+        return {"number": item.number, "coclass": item.coclass}
+
+    def _writes(self) -> None:
+        if not self.write:
+            raise Wrong("nothing is changed here: --write was not given", 403)
+
     def _change(
-        self, item: Object, member: Member, asked: typing.Mapping[str, str], value: typing.Any
+        self, item: Object, member: Member, asked: typing.Mapping[str, str], value: Value
     ) -> None:
-        key = tuple(scalar_value(it) for it in key_of(asked.get("key", "")))
-        item.property(member.name).put(value, *key)
+        key, cell = _arguments(member, asked), _cell(asked)
+        if cell is not None:
+            item.array(member.name, *key)[cell] = value
+        else:
+            item.property(member.name).put(value, *key)
 
     def compare(self, asked: typing.Mapping[str, str]) -> Json:
-        """What another library would lose. Raises Wrong where the text is no library."""
+        """The incompatibilities of another library. Raises Wrong if the text is not a library."""
         with _library_file(asked) as path:
             try:
                 with play(path, program=self._program) as other:
                     return {"lost": lost(other.library, self.server().library)}
-            except Stopped as stop:
+            except SessionEnded as stop:
                 raise Wrong(stop.fault or str(stop), 409) from None
 
     def replace(self, asked: typing.Mapping[str, str]) -> Json:
         """Gives the server another library."""
-        if not self.write:
-            raise Wrong("nothing is changed here: --write was not given", 403)
+        self._writes()
         with _library_file(asked) as path:
             try:
                 self.server().replace_library(path)
@@ -600,11 +671,11 @@ class Window:
         return {}
 
     def status(self) -> Json:
-        """How the store's file stands: sizes in bytes."""
+        """The state of the store's file: sizes in bytes."""
         return {} if self._file is None else self._file.status()
 
 
-def _library_file(asked: typing.Mapping[str, str]) -> typing.Any:
+def _library_file(asked: typing.Mapping[str, str]) -> _Text:
     return _Text(str(asked.get("text", "")))
 
 
@@ -625,16 +696,16 @@ class _Text:
         self._folder.cleanup()
 
 
-def _get(item: Object, member: Member, key: typing.Tuple[typing.Any, ...]) -> Later:
+def _get(item: Object, member: Member, key: tuple[object, ...]) -> Later:
     found = item.property(member.name).get(*key)
     later: Later = found.value if isinstance(found, ArrayProperty) else found
     return later
 
 
-def _answer(later: Later) -> typing.Any:
+def _answer(later: Later) -> object:
     try:
         return later.value
-    except Fault as fault:
+    except Error as fault:
         return fault
 
 
@@ -645,11 +716,44 @@ def _coclass(library: Library, name: str) -> Coclass:
         raise Wrong(str(error), 404) from None
 
 
-def _member(members: typing.Dict[str, Member], name: str) -> Member:
+def _member(members: dict[str, Member], name: str) -> Member:
     found = members.get(fold(name))
     if found is None or found.is_method:
         raise Wrong(f"there is no property {name}", 404)
     return found
+
+
+def _arguments(member: Member, asked: typing.Mapping[str, str]) -> tuple[typing.Any, ...]:
+    """The arguments of a property: those of a key of the store's file, or `keys`, a list in JSON of
+    what was typed for each parameter. One without words is left out."""
+    if "keys" not in asked:
+        return tuple(scalar_value(it) for it in key_of(asked.get("key", "")))
+    try:
+        words = json.loads(asked["keys"])
+    except ValueError:
+        words = None
+    own = [it for it in member.parameters if it.flags & IN or not it.flags]
+    is_list = isinstance(words, list) and all(isinstance(it, str) for it in words)
+    if not is_list or len(words) != len(own):
+        raise Wrong("keys is no list with a text for each parameter")
+    found: list[typing.Any] = []
+    for word, parameter in zip(words, own):
+        is_left_out = not word and bool(parameter.flags & OPTIONAL)
+        found.append(MISSING if is_left_out else value_of_words(word, parameter.vt))
+    while found and found[-1] is MISSING:
+        found.pop()
+    return tuple(found)
+
+
+def _cell(asked: typing.Mapping[str, str]) -> typing.Any:
+    """The indices of an array's element, one or several, or None if there are none."""
+    if "cell" not in asked:
+        return None
+    try:
+        found = tuple(int(it) for it in asked["cell"].split(","))
+    except ValueError:
+        raise Wrong("cell is no list of indices") from None
+    return found if len(found) > 1 else found[0]
 
 
 def _number(asked: typing.Mapping[str, str], name: str, standing: int, most: int) -> int:
@@ -660,7 +764,7 @@ def _number(asked: typing.Mapping[str, str], name: str, standing: int, most: int
     return max(0, min(found, most)) if standing >= 0 else found
 
 
-def _indices(text: str, bounds: typing.Sequence[typing.Tuple[int, int]]) -> typing.List[int]:
+def _indices(text: str, bounds: typing.Sequence[tuple[int, int]]) -> list[int]:
     """Places from 0 in some bounds, as many as there are bounds."""
     told = [int(it) if it.strip().isdigit() else 0 for it in text.split(",")] if text else []
     told += [0] * (len(bounds) - len(told))
@@ -690,9 +794,9 @@ def _member_told(member: Member, face: Interface) -> Json:
     }
 
 
-def _places(text: str) -> typing.Dict[typing.Tuple[str, typing.Optional[int]], int]:
+def _places(text: str) -> dict[tuple[str, int | None], int]:
     """The lines, from 0, of a canonical text's items by GUID, and of their members by DISPID."""
-    found: typing.Dict[typing.Tuple[str, typing.Optional[int]], int] = {}
+    found: dict[tuple[str, int | None], int] = {}
     guid = ""
     for number, line in enumerate(text.split("\n")):
         item = re.match(r"\[uuid\(([0-9a-f-]{36})\)", line)

@@ -1,10 +1,10 @@
 #!/usr/bin/env python3
 """The resident memory of the program over tables of many small cells, as so many times the table's image.
 
-    python3 bench/cells.py [PROGRAM [FOLDER]]      PROGRAM is crates/oaut/out/oaut where none is given, FOLDER the one that the files are made in (the current one)
+    python3 bench/cells.py [PROGRAM [FOLDER]]      Defaults: PROGRAM crates/oaut/out/oaut, FOLDER of the files the current one
 
-Printed of each table: the MiB of its image, those that are resident of a server that has opened it and at most until then, those that `dump` takes at most, and what is resident beyond a server
-without objects, as so many times the image.
+Printed of each table: the MiB of its image, those that are resident of a server that has opened it, and the peak until then. Then those that `dump` takes at
+most, and what is resident beyond a server without objects, as so many times the image.
 """
 import os
 import sys

@@ -4,8 +4,8 @@ with a store in FOLDER. Each figure is the best of three rounds.
 
     python3 bench/client.py [PROGRAM [PUTS [FOLDER [BESIDE]]]]
 
-PROGRAM is crates/oaut/out/oaut where none is given, PUTS 60,000, FOLDER the current one. BESIDE is another checkout, such as that of an
-earlier commit: its client takes each round in turn with this one, and its figures stand beside these.
+Defaults: PROGRAM crates/oaut/out/oaut, PUTS 60,000, FOLDER the current one. BESIDE is another checkout, such as that of an
+earlier commit: its client takes each round in turn with this one, and its figures are beside these.
 """
 import json
 import os

@@ -1,4 +1,4 @@
-"""The command line of a benchmark: the program, and numbers or folders behind it."""
+"""The command line of a benchmark: the program, and then numbers or folders."""
 import argparse
 import os
 

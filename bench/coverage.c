@@ -1,11 +1,11 @@
-/* Coverage for AFL++ of a program that was built without its instrumentation, behind LD_PRELOAD: a fork server in front of `main`, and a breakpoint
-   at each place of a list, which is taken away where it is hit, so that each run tells once of each block that it reached. Blocks that half of the
-   seeds reach are not watched, which makes runs quick.
+/* Coverage for AFL++ of a program that was built without its instrumentation, by LD_PRELOAD: a fork server before `main`, and a breakpoint at each
+   place of a list, which is removed when it is hit, so that each run reports each block that it reached once. Blocks that half of the seeds reach
+   are not watched, which makes runs quick.
 
-   BLOCKS    the file of the places, each 8 bytes, as they stand in the program's file
+   BLOCKS    the file of the places, each 8 bytes, as they are in the program's file
    SEEDS     the folder of the seeds, whose names are 0, 1 and so on
-   STORE     where it is set, standard input is no input of the program but what a file holds that it reads by places: a byte for place 0, a byte for
-   place 4,096, two heads of 32 bytes for 8,192 and 16,785,408, and the body of the bank that the selector names. All other places hold zeros
+   STORE     if it is set, standard input is the contents of a file that the program reads by places: a byte for place 0, a byte for place 4,096, two
+   heads of 32 bytes for 8,192 and 16,785,408, and the body of the bank that the selector names. All other places are zeros
 
    A status above 5 counts as a crash. */
 #define _GNU_SOURCE
@@ -70,7 +70,7 @@ static void watch(void) {
 /* the store that standard input is */
 
 static size_t part_of(size_t at, size_t *end) {
-    /* where a place of the file stands in the input, and where that part of the file ends */
+    /* the place in the input for a place of the file, and the end of that part of the file */
     size_t head[2] = {8192, 16785408}, bank = 20971520, least = 33562624;
     size_t body = held > 1 && image[1] % 2 ? least + bank : least;
     if (at == 0) return *end = 1, 0;

@@ -1,18 +1,18 @@
 #!/usr/bin/env python3
-"""Times puts into a store, beside what the same bytes cost when they are written by hand and what SQLite makes of as many puts.
+"""Times puts into a store, beside plain writes of the same bytes, and beside as many updates in SQLite.
 
     python3 bench/durable.py [PROGRAM [FOLDER [SECONDS [ROUNDS]]]]
 
-PROGRAM is crates/oaut/out/oaut where none is given, FOLDER the one that the files are made in (the current one), SECONDS how long each measurement goes on (0.5), ROUNDS how often each is made (9).
+Defaults: PROGRAM crates/oaut/out/oaut, FOLDER of the files the current one, SECONDS of each measurement 0.5, ROUNDS of each 9.
 Four ways take turns on one file system, each with groups of 1, 16, 256 and 1,024 puts of a long:
 
-- store: `oaut serve --group N`, over pipes, as fast as it answers;
-- calls: for each group a frame of its bytes by `pwrite`, `fdatasync`, its gate by `pwrite`, `fdatasync`, in a file whose blocks are there: the least that this order of writes costs;
-- SQLite: in a WAL with `synchronous = FULL`, one transaction of N updates of a row by its key, by one call of Python's module (`executemany`), so with no step of Python an update;
-- each: the same with a call an update, as a script does it whose updates come one by one.
+- store: `oaut serve --group N`, over pipes, as fast as it replies;
+- calls: for each group a frame of its bytes by `pwrite`, `fdatasync`, its gate byte by `pwrite`, `fdatasync`, in a file with allocated blocks: the least cost of this order of writes;
+- SQLite: in a WAL with `synchronous = FULL`, one transaction of N updates of a row by its key, by one call of Python's module (`executemany`), so without a step of Python per update;
+- each: SQLite with one call per update, as in a script whose updates come one by one.
 
-Printed are the middle one of the rounds, and in the middle how many times another way's the store's is in the same round: a device that others use is now fast and now slow. Then the latency of one put that is waited for, from the client's write to its read: the
-median and the 99th percentile.
+Prints the median of the rounds, and the median ratio of the store's rate to that of each other way in the same round, since the speed of a shared device
+varies. Then it prints the latency of a single synchronous put, from the client's write to its read: the median and the 99th percentile.
 """
 import fcntl
 import os
@@ -92,7 +92,7 @@ class Serve:
         while (now := time.perf_counter()) < started + SECONDS:
             heard += len(self.child.stdout.read(1 << 20))
         over = True
-        # what still comes lets the feeding end
+        # the writing thread ends only if the rest of the output is read
         threading.Thread(target=lambda: [None for _ in iter(lambda: self.child.stdout.read(1 << 16), b"")], daemon=True).start()
         feeding.join()
         return heard / REPLY / (now - started)

@@ -1,10 +1,10 @@
 #!/usr/bin/env python3
 """Times elements of a large array beside those of a small one, and records beside lines.
 
-    python3 bench/elements.py [PROGRAM [REQUESTS]]      PROGRAM is crates/oaut/out/oaut where none is given
+    python3 bench/elements.py [PROGRAM [REQUESTS]]      Default of PROGRAM: crates/oaut/out/oaut
 
-First, elements of an array of 65,536 I4 are put and read in turn, and then those of an array of 16: an element costs its own cell, so the large array
-takes at most 2 times as long as the small one. Then the same session over records and over lines of digits: requests a second of each.
+First, elements of an array of 65,536 I4 are put and read in turn, and then those of an array of 16. An element costs its own cell, so the large array
+takes at most 2 times as long as the small one. Then one session over records and over lines of digits: requests a second of each.
 """
 import os
 import subprocess
@@ -44,7 +44,7 @@ def longs():
 
 
 def least(requests, framing):
-    """The least seconds of five runs of a session, which answers each request with S_OK."""
+    """Returns the least seconds of five runs of a session, whose replies must all be S_OK."""
     form = ask.FRAMINGS[framing]
     with tempfile.TemporaryDirectory() as room:
         with open(f"{room}/in", "wb") as file:

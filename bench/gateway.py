@@ -1,10 +1,11 @@
 #!/usr/bin/env python3
 """Durable puts of many clients by the gateway, beside Redis, PostgreSQL and SQLite on one file system.
 
-    python3 bench/gateway.py [PROGRAM [FOLDER [SECONDS [ROUNDS]]]]
+    python3 bench/gateway.py [PROGRAM [FOLDER [SECONDS [ROUNDS [PAUSE [WAYS]]]]]]
 
-PROGRAM is crates/oaut/out/oaut where none is given, FOLDER the one that the files are made in (the current one), SECONDS how long each measurement goes on (1), ROUNDS how often each is
-made (3). What is not installed is left out. The ways take turns; each row is of so many clients, each with one put that it waits for, or with 64 of them:
+Defaults: PROGRAM crates/oaut/out/oaut, FOLDER of the files the current one, SECONDS of each measurement 1, ROUNDS of each 3, PAUSE before each measurement 0
+seconds, WAYS all of them. A virtual disk may delay a long series of syncs: then a pause helps. WAYS are names with commas between them. Peers that are not
+installed are left out. The ways take turns; each row is of so many clients, each with one put that it waits for, or with 64 of them:
 
 - gateway: `oaut-gateway`, clients over unix sockets (bench/load.c), each with an object of its own;
 - serve: one client of `oaut serve` itself, over a unix socket;
@@ -12,8 +13,8 @@ made (3). What is not installed is left out. The ways take turns; each row is of
 - PostgreSQL: a prepared update of one row by its key, a row a client, by pgbench over a unix socket, everything else as it comes;
 - SQLite: in one process, WAL and `synchronous = FULL`, as many updates in a transaction as there are puts at once, 1,024 at most: no clients at all.
 
-Printed are the middle one of the rounds, with its median and 99th percentile of milliseconds, then how many times Redis's rate the gateway's is in the same round, in the middle, and how
-many times a single client waits at the gateway what it does at `oaut serve`.
+Prints the median round, with its p50 and p99 in milliseconds. Then come the median ratio of the gateway's rate to Redis's in the same round, and that of a
+single client's wait at the gateway to its wait at `oaut serve`.
 """
 import contextlib
 import os
@@ -33,7 +34,7 @@ sys.path.append(f"{ROOT}/tests/support")
 from command_line import words
 from wire import oaut
 
-PROGRAM, FOLDER, SECONDS, ROUNDS = words(__doc__, folder=".", seconds=1.0, rounds=3)
+PROGRAM, FOLDER, SECONDS, ROUNDS, PAUSE, CHOSEN = words(__doc__, folder=".", seconds=1.0, rounds=3, pause=0.0, ways="")
 ROWS = [(1, 1), (4, 1), (16, 1), (64, 1), (256, 1), (1_024, 1), (16, 64)]
 LIBRARY = f"{ROOT}/examples/small.idl"
 
@@ -50,7 +51,8 @@ def waited_for(path):
 
 
 def loaded(path, clients, pipeline):
-    """What bench/load.c measures: the rate, the median, the 99th percentile."""
+    """Runs bench/load.c and returns the rate, the median, the 99th percentile."""
+    time.sleep(PAUSE)
     out = subprocess.run(["./load", path, str(clients), str(pipeline), str(SECONDS)], capture_output=True, text=True, check=True).stdout
     return tuple(map(float, out.split()[:3]))
 
@@ -108,6 +110,7 @@ def redis():
         for clients, pipeline in ROWS:
             count = 2_000 * clients**0.5 * pipeline
             for _ in range(4):
+                time.sleep(PAUSE)
                 begun = time.monotonic()
                 threads = ["--threads", "2"] if clients >= 64 else []
                 asked = [
@@ -237,11 +240,12 @@ def sqlite():
 
 
 WAYS = {"gateway": gateway, "serve": serve, "Redis": redis, "PostgreSQL": postgres, "SQLite": sqlite}
+WAYS = {name: way for name, way in WAYS.items() if not CHOSEN or name in CHOSEN.split(",")}
 MISSING = {"Redis": not shutil.which("redis-benchmark"), "PostgreSQL": not POSTGRES or not shutil.which("pgbench")}
 
 
 def main():
-    with tempfile.TemporaryDirectory(dir=FOLDER) as room:
+    with tempfile.TemporaryDirectory(dir=os.path.abspath(FOLDER)) as room:
         os.chmod(room, 0o755)
         os.chdir(room)
         subprocess.run(["cc", "-O2", "-Wall", "-Wextra", "-Werror", "-o", "load", f"{ROOT}/bench/load.c"], check=True)
@@ -263,9 +267,11 @@ def main():
             told = sorted(it[name][row] for it in rounds if row in it[name])
             cells.append("{:,.0f} ({:.2f}/{:.2f})".format(*told[len(told) // 2]) if told else "-")
         print(f"| {name} | " + " | ".join(cells) + " |")
-    if "Redis" in rounds[0]:
+    if {"gateway", "Redis"} <= set(rounds[0]):
         print("gateway/Redis:", ", ".join(f"{row}: {statistics.median(it['gateway'][row][0] / it['Redis'][row][0] for it in rounds):.2f}" for row in ROWS))
     for what, place in (("median", 1), ("99th percentile", 2)):
+        if not {"gateway", "serve"} <= set(rounds[0]):
+            break
         print(f"one client's {what}, gateway/serve: {statistics.median(it['gateway'][1, 1][place] / it['serve'][1, 1][place] for it in rounds):.2f}")
 
 

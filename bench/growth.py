@@ -2,13 +2,13 @@
 """How the cost of a put, an opening and a checkpoint, and memory, grow with the number of cells.
 
     python3 bench/growth.py [--program PATH] [--most N] [SHAPE ..]      a line of JSON for each table
-    python3 bench/growth.py --draw FILE                                 docs/growth.svg, of such lines
+    python3 bench/growth.py --draw FILE                                 docs/internals/growth.svg, of such lines
 
-Tables of 1,000 to N longs (1,000,000), each with a key, in one object and in as many as there are cells, at most 65,536; under one property and under
-255, whose gets and puts are 511 members with a text. Of each shape, the instructions of the whole program, by valgrind, up to 1,000,000 cells, and the
-seconds of a processor without it, over files that have no device: of a put of a cell that is there and of a new one between others, 512 times all over the table; of
-an opening; and of REPLACE LIBRARY, which is a checkpoint with another text. These two, and what is resident once the store is open and at most until
-then, are less what it is without cells. Then the longest of many groups of 1,024 new cells, of three runs the least, beside those around it.
+Tables of 1,000 to N longs (1,000,000), each with a key, in one object and in as many as there are cells, at most 65,536. They are under one property, and under
+255, whose gets and puts are 511 members with a text. Prints for each shape the instructions of the whole program, by valgrind, up to 1,000,000 cells, and the
+CPU seconds without it, over files that have no device. They are those of 512 puts all over the table, of existing cells and of new ones between others, of an
+opening, and of REPLACE LIBRARY, which is a checkpoint with another text. These two, and what is resident once the store is open and at most until then, are
+less what it is without cells. Then the longest of many groups of 1,024 new cells, of three runs the least, beside those around it.
 """
 import argparse
 import json
@@ -52,15 +52,15 @@ from stores import CLASS, FACE
 TIMES, GROUP, COUNTED, CELL = 512, 1_024, 1_000_000, struct.Struct("<16siHHiHi")
 seconds = lambda child: int(pathlib.Path(f"/proc/{child.pid}/schedstat").read_text().split()[0]) / 1e9  # of a processor, that a process has had
 SPARE = 5_242_880 + 262_144 + 131_072  # of a bank, beside the table's image: a library, and puts without a checkpoint
-LESS = ("opening", "checkpoint", "opening s", "checkpoint s", "resident", "peak")  # what is told less that of no cells
-# what is drawn: a title, the field, and whether it is divided by the cells
+LESS = ("opening", "checkpoint", "opening s", "checkpoint s", "resident", "peak")  # the numbers that are reported less those without cells
+# the panels: a title, the field, and whether it is divided by the cells
 PANELS = [
-    ("a put of a cell that is there: instructions", "put", False),
-    ("a put of a new cell between others: instructions", "new", False),
-    ("an opening, of each cell: instructions", "opening", True),
-    ("a checkpoint, of each cell: instructions", "checkpoint", True),
-    ("resident, of each cell: bytes", "resident", True),
-    ("at most while it opens, of each cell: bytes", "peak", True),
+    ("put an existing cell: instructions", "put", False),
+    ("put a new cell: instructions", "new", False),
+    ("open, per cell: instructions", "opening", True),
+    ("checkpoint, per cell: instructions", "checkpoint", True),
+    ("resident memory, per cell: bytes", "resident", True),
+    ("peak while opening, per cell: bytes", "peak", True),
 ]
 
 
@@ -94,13 +94,13 @@ class Table:
                 file.write(data)
 
     def put(self, at, new):
-        """One of the puts that are spread over the table, of a cell that is there or of a new one behind it."""
+        """One of the puts that are spread over the table, of an existing cell or of a new one after it."""
         number = at * self.objects // TIMES + 1
         place = int(at * 0.618034 % 1 * self.own(number))
         return worked.put(place % self.properties + 1, worked.i4(at), number, more=(worked.i4(2 * (place // self.properties) + new),))
 
     def counted(self, requests):
-        """The instructions of the program over the store, from its start to its end. It begins anew: nothing counts behind its gate, nor in bank 1."""
+        """The instructions of the program over the store, from its start to its end. It begins anew: nothing counts after its gate, nor in bank 1."""
         with open(f"{self.room}/it.store", "r+b") as file:
             for at in (store.SELECTOR, self.gate):
                 file.seek(at)
@@ -186,13 +186,14 @@ def panel(title, field, is_each, rows, left, top):
 def picture(rows):
     parts = [it for at, one in enumerate(PANELS) for it in panel(*one, rows, 10 + at % 2 * 345, 10 + at // 2 * 190)]
     for at, name in enumerate(SHAPES):
-        parts.append(f'<path d="M{20 + at * 170} 592 h18" style="stroke:{SHAPES[name][2]}"/><text class="note" x="{43 + at * 170}" y="596">{name}</text>')
-    return draw.page(610, 700, parts)
+        left, top = 62 + at % 2 * 345, 592 + at // 2 * 20
+        parts.append(f'<path d="M{left} {top} h18" style="stroke:{SHAPES[name][2]}"/><text class="note" x="{left + 23}" y="{top + 4}">{name}</text>')
+    return draw.page(630, 740, parts)
 
 
 if __name__ == "__main__":
     if given.draw:
-        with open(given.draw) as lines, open(f"{ROOT}/docs/growth.svg", "w") as out:
+        with open(given.draw) as lines, open(f"{ROOT}/docs/internals/growth.svg", "w") as out:
             out.write(picture([it for it in map(json.loads, lines) if "cells" in it]))
     else:
         measure()

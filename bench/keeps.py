@@ -1,12 +1,12 @@
 #!/usr/bin/env python3
-"""Times what a new library has to keep: `play` is asked for another library, with texts up to their limit of 262,144 bytes.
+"""Times the check that a new library is compatible: `play` gets another library, with texts up to their limit of 262,144 bytes.
 
-    python3 bench/keeps.py [PROGRAM [RUNS]]      PROGRAM is crates/oaut/out/oaut where none is given
+    python3 bench/keeps.py [PROGRAM [RUNS]]      Default of PROGRAM: crates/oaut/out/oaut
 
-Each text is read, parsed and checked before what it keeps is looked at. So the time of a library that keeps all, less the time of one that loses
-the first interface, is that of `keeps` over all members and coclasses, and of putting the new library in the place of the old one. Prints the
-least milliseconds of processor time of some runs of both, and their difference; the status is 1 where that is above 20 ms. It is processor time
-since other programs of the machine make the time on the clock many times as long: 80 ms of one may take half a second.
+Each text is read, parsed and checked before what it keeps is looked at. The time of a library that keeps all, less the time of one that loses the first
+interface, is that of `keeps` over all members and coclasses, and of replacing the library. Prints the least milliseconds of processor time of some runs of
+both, and their difference. The status is 1 if that is above 20 ms. It is processor time since other programs of the machine make the time on the clock many
+times as long: 80 ms of one may take half a second.
 """
 import os
 import struct
@@ -56,7 +56,7 @@ def processor(child):
 
 
 def least(old, new, wanted):
-    """The least milliseconds of processor time of the requests of a session, each of which is answered so."""
+    """Returns the least milliseconds of processor time of the requests of a session, which must all have this reply."""
     with tempfile.TemporaryDirectory() as room:
         with open(f"{room}/lib.idl", "wb") as file:
             file.write(old)

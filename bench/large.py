@@ -1,13 +1,13 @@
 #!/usr/bin/env python3
-"""Times records up to their limit of 4,194,304 bytes, through both framings, and tells what memory a session takes.
+"""Times records up to their limit of 4,194,304 bytes, through both framings, and measures the memory of a session.
 
-    python3 bench/large.py [PROGRAM [MEGABYTES]]      PROGRAM is crates/oaut/out/oaut where none is given, MEGABYTES 256
+    python3 bench/large.py [PROGRAM [MEGABYTES]]      Defaults: PROGRAM crates/oaut/out/oaut, MEGABYTES 256
 
-First the peak resident memory of a session of short lines and of one of short records, in memory and over a store: at most 5,120 KiB, since no more is touched of the
-buffers of a line and a body than the longest that came. Then puts of arrays of four texts whose records have 65,536, 262,144, 1,048,576 and 4,194,304 bytes,
-so many that all have so many megabytes, and the same with a get of the value behind each put: megabytes of records a second, the best of five runs, and of a program that
-only moves the same bytes (bench/copies.c), since the caches hold short records and not long ones. The longest are answered as fast as the others, within 1.2, where both are
-taken as parts of what that program does.
+First the peak resident memory of a session of short lines and of one of short records, in memory and over a store. It is at most 5,120 KiB, since only as much
+of the buffers is touched as the longest line or body needs. Then puts of arrays of four texts whose records have 65,536, 262,144, 1,048,576 and 4,194,304
+bytes, MEGABYTES of each, and the same with a get of the value after each put. Prints megabytes of records a second, the best of five runs, and those of a
+program that only moves the same bytes (bench/copies.c), since caches hold short records and not long ones. Relative to that program, the longest records are as
+fast as the others, within 1.2.
 """
 import os
 import subprocess
@@ -49,7 +49,7 @@ def texts(length):
 
 
 def packed(path, form, requests):
-    """Writes requests into a file in a framing, each behind its tag."""
+    """Writes requests into a file in a framing, each after its tag."""
     with open(path, "wb") as file:
         for tag, asked in enumerate(requests):
             file.write(form.pack([tag.to_bytes(4, "little") + asked]))

@@ -1,10 +1,10 @@
 #!/usr/bin/env python3
 """Times the built program on library texts up to their limit, 262,144 bytes with 256 interfaces, parsed, checked and printed by `oaut check`.
 
-    python3 bench/library.py [PROGRAM [RUNS]]      PROGRAM is crates/oaut/out/oaut where none is given
+    python3 bench/library.py [PROGRAM [RUNS]]      Default of PROGRAM: crates/oaut/out/oaut
 
-Prints the least seconds and the greatest peak resident memory of some runs: of a text with properties and methods, a quarter of the limit and the
-whole, of one whose last interface clashes with the first, and of one with the most members in one interface; and, beside them, `cat` on the last text.
+Prints the least seconds and the greatest peak resident memory of some runs. The texts are one with properties and methods, a quarter of the limit and the
+whole, one whose last interface clashes with the first, and one with the most members in one interface. Beside them runs `cat` on the last text.
 """
 import os
 import subprocess
@@ -45,7 +45,7 @@ def several(last, interfaces=256):
 
 
 def timed(words, cwd):
-    """The seconds, the peak resident memory in KiB (0 where nothing was written) and the status of a run."""
+    """The seconds, the peak resident memory in KiB (0 if nothing was written) and the status of a run."""
     started = time.perf_counter()
     with subprocess.Popen(words, cwd=cwd, stdout=subprocess.PIPE, stderr=subprocess.DEVNULL, pipesize=4_096, bufsize=0) as child:
         # It writes when all its memory is taken, and waits for a reader of what a pipe does not hold.

@@ -3,7 +3,7 @@
  *     load SOCKET CLIENTS PIPELINE SECONDS
  *
  * Client c puts a rising number into member 1 of object c + 1, PIPELINE puts at a time: each next one goes out once half of them are answered.
- * Prints replies a second behind the first tenth of the time, and the median, the 99th percentile and the greatest of the milliseconds from a
+ * Prints replies a second after the first tenth of the time, and the median, the 99th percentile and the greatest of the milliseconds from a
  * put to its reply. A reply with another tag, or another code than S_OK, ends it with status 2.
  */
 #define _GNU_SOURCE

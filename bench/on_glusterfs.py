@@ -3,9 +3,10 @@
 
     python3 bench/on_glusterfs.py [--program PATH] [--rounds N] [--option NAME=VALUE].. [ROUND ..]
 
-As root, by hand, with the packages glusterfs-server, glusterfs-client and attr, iproute2 and /dev/fuse; PATH is crates/oaut/out/oaut where none is given, N is 4. All lies in a folder of its own, and
-all addresses in three network namespaces: `site` has three servers with a replica each; the machines `one` and `two` mount the volume, each over a link that can be cut. What was started
-is ended again, by its number. No machine's power is cut: what a server's cache would lose by that is not shown.
+As root, by hand, with the packages glusterfs-server, glusterfs-client, attr and iproute2, and with /dev/fuse. Defaults: PATH crates/oaut/out/oaut, N 4. All
+lies in a folder of its own, and all addresses in three network namespaces: `site` has three servers with a replica each. The machines `one` and `two` mount the
+volume, each over a link that can be cut. All processes that it started are ended, by their numbers. No machine's power is cut, so the test says nothing about
+losses from a server's cache.
 
     rates     puts a second in groups of 1 and of 1,024, beside a file of the same folder's file system
     lock      a second machine opens the store while the first one serves it, and again once that was killed
@@ -14,12 +15,13 @@ is ended again, by its number. No machine's power is cut: what a server's cache 
     replicas  two of them are
     mount     the mount of the first machine is killed
     cut       the link of the first machine is cut while it puts; the second one takes over; then the link is there again
-    idle      the same with a first machine that waits, and puts once its link is there again: the lock has to fence it
-    apart     the last gate stands in one replica alone, as a mount leaves it that dies between its writes; the second machine opens the store and puts; then it is healed
-    healed    the same, healed before the second machine opens it
-    rewritten the same, not healed: the second machine writes the store's bytes over themselves before it opens it (dist/lib/rewrite)
+    idle      as `cut`, with a first machine that waits, and puts once its link is there again: the lock has to fence it
+    apart     the last gate byte is in one replica only, as if the mount died between its writes; the second machine opens the store and puts; then it is healed
+    healed    as `apart`, but healed before the second machine opens it
+    rewritten as `apart`, not healed: the second machine writes the store's bytes over themselves before it opens it (dist/lib/rewrite)
 
-Each round ends with all mounted anew and healed; then each machine and each replica have to show what was acknowledged. In `apart` there may be losses; elsewhere each one is a fault.
+Each round ends with all mounted anew and healed; then each machine and each replica must have all acknowledged writes. In `apart` there may be losses;
+elsewhere each one is a failure.
 """
 import argparse
 import contextlib
@@ -61,7 +63,7 @@ SECONDS = 240
 
 
 def did(*words):
-    """Runs a program, and answers its status and what it wrote."""
+    """Runs a program, and returns its status and its output."""
     done = subprocess.run([str(it) for it in words], stdout=subprocess.PIPE, stderr=subprocess.STDOUT, stdin=subprocess.DEVNULL, text=True, timeout=2 * SECONDS)
     return done.returncode, done.stdout
 
@@ -112,7 +114,7 @@ class Site:
     def __exit__(self, *_):
         for who in MACHINES:
             did("umount", "-l", self.folder(who))
-        for path in glob.glob("/proc/[0-9]*/cmdline"):  # those that it has started have its folder among their words
+        for path in glob.glob("/proc/[0-9]*/cmdline"):  # the processes that the program has started have its folder among their words
             with contextlib.suppress(OSError):
                 with open(path, "rb") as file:
                     words = file.read().split(b"\0")
@@ -192,7 +194,7 @@ class Site:
         self.gluster("volume", "set", "stores", "cluster.self-heal-daemon", "on")
         seen = [f"{self.folder(who)}/.meta/graphs/active/stores-client-{it}/private" for who in MACHINES for it in range(3)]
         wait_for("both machines to see all replicas", lambda: did("cat", *seen)[1].count("connected = 1") == 6)
-        time.sleep(1.5)  # a mount clears its marks a second behind its last write
+        time.sleep(1.5)  # a mount clears its marks a second after its last write
 
         def is_marked():
             marks = did("getfattr", "-d", "-m", "trusted.afr", "-e", "hex", *(f"{self.folder(it)}/it.store" for it in (1, 2, 3)))[1]
@@ -207,8 +209,8 @@ def put(number, of):
 
 
 class Puts(threading.Thread):
-    """A server, and puts of rising numbers in groups of a size, from one on: the next group is sent once the replies to the last one are there. It ends at a limit, where it is told to, and where
-    one is not acknowledged."""
+    """A server, and puts of rising numbers in groups of a size, from one on: the next group is sent once the replies to the last one are there. It ends at a
+    limit, on demand, and if one is not acknowledged."""
 
     def __init__(self, store, library, size, first, limit):
         super().__init__(daemon=True)
@@ -361,7 +363,7 @@ class Trial:
             puts.one()
         self.codes = [hex(it) for it in puts.codes[:1]]
         if puts.acknowledged > before:
-            self.lost.append(f"the first machine's put behind the cut is acknowledged, where the second one shows {self.held('two')}")
+            self.lost.append(f"the first machine's put after the cut is acknowledged, but the second one shows {self.held('two')}")
         puts.end()
 
     def lock(self, turn, size):
@@ -370,7 +372,7 @@ class Trial:
         before = puts.acknowledged
         wait_for("more replies", lambda: puts.acknowledged > before + size or not puts.is_alive())
         self.codes = [hex(it) for it in puts.codes[:1]]
-        # a machine that has lost its lock is told so by its next put; one that has it keeps the other out
+        # the next put of a machine that has lost its lock fails; a machine that has the lock keeps the other out
         if not refused.endswith("in use by another process") and not puts.codes:
             self.lost.append(f"the second machine beside the first one: {refused}; the first one has {puts.acknowledged - before} puts more acknowledged")
         puts.child.kill()
@@ -439,7 +441,7 @@ class Trial:
             for it in self.lost:
                 print("  LOST", it, flush=True)
                 self.begin(self.store("one"))
-        more = f", the lock was free {max(waits):.1f} s behind the kill at most" if waits else ""
+        more = f", the lock was free {max(waits):.1f} s after the kill at most" if waits else ""
         more += f", codes {sorted({*codes})}" if codes else ""
         print(
             f"{name}: {times} rounds, {losses} with losses, {self.acknowledged} puts acknowledged, {self.more} more there, {self.longest:.1f} s for a group at most{more}",

@@ -1,10 +1,11 @@
 #!/usr/bin/env python3
-"""Times how a store opens that holds many groups, and one that holds half as many.
+"""Times the open of a store with many groups, and of one with half as many.
 
-    python3 bench/opening.py [PROGRAM [GROUPS]]      PROGRAM is crates/oaut/out/oaut where none is given, GROUPS 424,000
+    python3 bench/opening.py [PROGRAM [GROUPS]]      Defaults: PROGRAM crates/oaut/out/oaut, GROUPS 424,000
 
-Groups are of three kinds: GROUPS puts of a long, of 38 bytes each; 65,536 objects that are made, of 26 bytes each; and 37 puts of an array of half a megabyte. `oaut dump` opens the store, and what
-it prints of the first kind is looked at. Each time is the least of five, less that of a store without groups, and the memory is what a server has taken at most once it has opened the store.
+Groups are of three kinds: GROUPS puts of a long, of 38 bytes each; 65,536 new objects, of 26 bytes each; and 37 puts of an array of half a megabyte. `oaut
+dump` opens the store, and its output is checked for the first kind. Each time is the least of five, less that of a store without groups. The memory is the peak
+of a server after it opened the store.
 """
 import os
 import struct

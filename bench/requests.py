@@ -1,16 +1,15 @@
 #!/usr/bin/env python3
 """Times the built program on 200,000 request lines, beside `wc -l` on the same file, and on texts, beside `cat`.
 
-    python3 bench/requests.py [PROGRAM [LINES]]      PROGRAM is crates/oaut/out/oaut where none is given
+    python3 bench/requests.py [PROGRAM [LINES]]      Default of PROGRAM: crates/oaut/out/oaut
 
-The first thousand lines are creates, the others puts and gets of a long property in turn. Prints requests a second, the peak resident
-memory of the program, and the same for a file four times as long, which needs no more memory. Then puts and gets of texts of 1 KiB
-and of 1 MiB in turn, of an array of 65,536 I4 and of one of 4,096 texts: megabytes of hexadecimal digits read and written a second, beside
-`cat` from and to files of the same length. Then an array of 65,536 cells kept in each of many objects, for cells of one, four and eight
-bytes on the wire: the memory that a cell takes, which is the peak above that of the same session with arrays of one cell, divided by the
-cells. Then puts and gets through the first and the last of the 256 interfaces of a coclass: the last takes at most 1.5 times as long as
-the first. Last, puts and gets of a property with three parameters, over 1, 1,000 and 100,000 cells of one object, and of a property of 1 and
-of 65,536 objects: what a request takes beside those that made the cells or the objects. The most is at most 4 times the least.
+The first thousand lines are creates, the others puts and gets of a long property in turn. Prints requests a second, the peak resident memory of the program,
+and the same for a file four times as long, which needs no more memory. Then puts and gets of texts of 1 KiB and of 1 MiB in turn, of an array of 65,536 I4 and
+of one of 4,096 texts. Prints megabytes of hexadecimal digits read and written a second, beside `cat` from and to files of the same length. Then an array of
+65,536 cells kept in each of many objects, for cells of one, four and eight bytes on the wire. Prints the memory of a cell: the peak above that of the same
+session with arrays of one cell, divided by the cells. Then puts and gets through the first and the last of the 256 interfaces of a coclass: the last takes at
+most 1.5 times as long as the first. Last, puts and gets of a property with three parameters, over 1, 1,000 and 100,000 cells of one object, and of a property
+of 1 and of 65,536 objects. Prints the cost of a request besides those that made the cells or the objects. The most is at most 4 times the least.
 """
 import os
 import subprocess
@@ -117,7 +116,7 @@ def get_count(tag, number):
 
 
 def write_spread(path, made, number, put, get, count):
-    """What makes so many cells or objects, and then puts and gets of them in turn, spread over all."""
+    """Requests that make so many cells or objects, and then puts and gets of them in turn, spread over all."""
     with open(path, "wb") as file:
         file.writelines(made)
         for tag in range(count // 2):

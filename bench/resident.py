@@ -1,10 +1,10 @@
 #!/usr/bin/env python3
 """The resident memory of the program over stores: as it opens one, across a checkpoint and across REPLACE LIBRARY, and what an upgrade takes.
 
-    python3 bench/resident.py [PROGRAM [FOLDER]]      PROGRAM is crates/oaut/out/oaut where none is given, FOLDER the one that the files are made in (the current one)
+    python3 bench/resident.py [PROGRAM [FOLDER]]      Defaults: PROGRAM crates/oaut/out/oaut, FOLDER of the files the current one
 
-Tables are full: their image has 15,728,640 bytes or somewhat less, of long texts, or of arrays whose cells are EMPTY, which take the most memory of all. Printed are MiB: what is resident before a
-request, at most in it, and behind it. The peak of an opening and of an upgrade is that of the whole process.
+Tables are full: their image has 15,728,640 bytes or somewhat less, of long texts, or of arrays whose cells are EMPTY, which take the most memory of all. Prints
+MiB: those resident before a request, at most in it, and after it. The peak of an opening and of an upgrade is that of the whole process.
 """
 import os
 import subprocess
@@ -47,9 +47,9 @@ def full_table(room, what, text, cells):
         put, with_checkpoint = session.checkpoint()
         print(f"  a put: {mebibytes(*put)}")
         print(f"  a put with a checkpoint: {mebibytes(*with_checkpoint)}")
-        print(f"  a put behind it: {mebibytes(*session.put())}")
+        print(f"  a put after it: {mebibytes(*session.put())}")
         print(f"  REPLACE LIBRARY: {mebibytes(*session.across(wire.replacement(1, full.wider(text))))}")
-        print(f"  a put behind it: {mebibytes(*session.put())}", flush=True)
+        print(f"  a put after it: {mebibytes(*session.put())}", flush=True)
 
 
 def upgrades(room):

@@ -4,12 +4,12 @@
     python3 bench/takeover.py [--program PATH] [--gateway PATH] [--rounds N] [--clusters N] [--until HH:MM] [--without lock|fencing].. [--two] [--in-memory] [--log FILE] [ROUND ..]
     python3 bench/takeover.py --summary FILE..
 
-As root, by hand, with Debian's pacemaker, corosync, crmsh, resource-agents, glusterfs-server, glusterfs-client, attr, socat, iproute2, a C compiler and /dev/fuse.
-PATH is crates/oaut/out/oaut and what clients/gateway/build.sh makes where none is given. Of each kind 5 rounds are made, on one cluster, where nothing is said; no
-round begins behind HH:MM. A host is a set of namespaces (network, mount, process, host name, IPC) over an overlay of this machine's files, with its own Corosync,
-Pacemaker, glusterd, brick and mount. Four networks join them: clients, cluster, storage and power. By the last one `fence_switch` of a host asks this program to cut
-another host's links and to end its processes. Each cluster has a network, processes and a folder of its own, so that several know nothing of each other; they take
-their rounds from one row, in which the kinds take turns. What is started here ends with this program, however that ends.
+As root, by hand, with Debian's pacemaker, corosync, crmsh, resource-agents, glusterfs-server, glusterfs-client, attr, socat, iproute2, a C compiler and
+/dev/fuse. Defaults of PATH: crates/oaut/out/oaut, and the gateway that clients/gateway/build.sh makes. Default: 5 rounds of each kind, on one cluster. No round
+begins after HH:MM. A host is a set of namespaces (network, mount, process, host name, IPC) over an overlay of this machine's files, with its own Corosync,
+Pacemaker, glusterd, brick and mount. Four networks join them: clients, cluster, storage and power. By the last one `fence_switch` of a host asks this program
+to cut another host's links and to end its processes. Each cluster has a network, processes and a folder of its own, so that several know nothing of each other;
+they take their rounds from one row, in which the kinds take turns. All processes end with this program, however that ends.
 
     server    the server's process is killed; the gateway starts it again
     gateway   the gateway and its server are killed
@@ -17,7 +17,7 @@ their rounds from one row, in which the kinds take turns. What is started here e
     cut       all four links of that host are cut
     storage   its storage link alone is
     apart     it and one other host do not hear each other on the cluster's network; both hear the third one
-    hung      Corosync and Pacemaker of that host stand still, its server does not
+    hung      Corosync and Pacemaker of that host are stopped, its server is not
     brick     a brick's process is killed, and started again 5 s later
     both      the cluster's hands are off, and two hosts start the server at once
     device    each sync of that host's server fails from now on
@@ -196,7 +196,7 @@ while True:
 
 
 def did(*words, **how):
-    """Runs a program, and answers its status and what it wrote."""
+    """Runs a program, and returns its status and its output."""
     with contextlib.suppress(subprocess.TimeoutExpired):
         done = subprocess.run(
             [str(it) for it in words], stdout=subprocess.PIPE, stderr=subprocess.STDOUT, text=True, **{"input": "", "timeout": SECONDS, **how}
@@ -235,8 +235,8 @@ VALUE_AT = 16 + wire.field(wire.scalar(wire.I4, 0x01020304)).index(b"\4\3\2\1")
 
 
 class Client:
-    """Puts rising numbers into an object of its own, for ever, and gets them. It comes back where its connection breaks or says nothing for 3 s; then it has to find
-    what was acknowledged, or what it has sent since."""
+    """Puts rising numbers into an object of its own, for ever, and gets them. It connects again if its connection breaks or is silent for 3 s. Then it has to
+    find the acknowledged values, or those that it has sent since."""
 
     def __init__(self, number, dial):
         self.number, self.dial, self.tag = number, dial, 0
@@ -294,7 +294,7 @@ class Client:
 
 
 class HostClient(Client):
-    """The same in a process of a host, over the gateway's own socket: it tells which host has acknowledged what."""
+    """A client in a process of a host, over the gateway's own socket: it shows which host has acknowledged each put."""
 
     def __init__(self, number, path, file):
         self.path, self.file = path, open(file, "a", buffering=1)
@@ -315,7 +315,7 @@ class HostClient(Client):
         self.file.write(f"{time.monotonic():.4f} {self.acknowledged}\n")
 
     def look(self, sock):
-        # behind a boot it knows of nothing
+        # after a boot it has no counts
         is_new = not self.looked
         if is_new:
             self.acknowledged, self.sent = 0, MOST
@@ -395,7 +395,7 @@ class Host:
         self.mark("no-lock", self.site.without_lock)
 
     def boot(self, paused=False):
-        """What starts as it boots. `paused`: its client waits."""
+        """The services that start as it boots. `paused`: its client waits."""
         self.power_on()
         self.mark("pause", paused)
         if self.number <= self.site.members:
@@ -435,7 +435,7 @@ class Host:
         self.run("ip", "route", "add", "blackhole", f"10.78.1.{other.number}/32")
 
     def undo(self):
-        """All its links are up, nothing of it stands still, and its device serves."""
+        """All its links are up, nothing of it is stopped, and its device serves."""
         self.links("up")
         if self.stopped:
             self.kill(*CLUSTER, how=signal.SIGCONT)
@@ -486,7 +486,8 @@ class Host:
 
 
 class Switch(threading.Thread):
-    """What the hosts' fencing asks: `off HOST` cuts its links and ends its processes, and is answered once both is so. A host whose link to it is cut asks in vain."""
+    """The server for the hosts' fencing: `off HOST` cuts its links and ends its processes, and has a reply when both is done. A host whose link to it is cut
+    receives no reply."""
 
     def __init__(self, site):
         super().__init__(daemon=True)
@@ -592,7 +593,7 @@ class Site:
         host.must("umount", "/srv/stores")
 
     def begin_anew(self):
-        """A new store, where the one that there was does not open any more."""
+        """A new store, if the old one does not open any more."""
         self.pause(True)
         for it in self.hosts:
             if not it.is_on:
@@ -681,7 +682,7 @@ class Site:
         self.some().run("crm_resource", "--cleanup")
         times.append(time.monotonic())
         if renewed:
-            # a brick that was lost is not written to by who has a lock, until it opens the file again
+            # the holder of a lock does not write to a brick that was lost, until it opens the file again
             self.some().run("crm_resource", "--restart", "--resource", "server", "--timeout", "60")
         times.append(time.monotonic())
         self.pause(False)
@@ -691,7 +692,7 @@ class Site:
 
 
 ROUNDS = {
-    # what is done, and the least seconds that are looked at behind it, where no host is fenced: most end service at once, and are over once it is back
+    # the kinds, and the least seconds to wait after each if no host is fenced: most end service at once, and are over once it is back
     "server": 3,
     "gateway": 3,
     "host": 3,
@@ -765,7 +766,7 @@ class Trial:
         some.run("crm_resource", "-r", "stores", "--meta", "-d", "target-role")
 
     def host_acks(self, since):
-        """What the hosts' own clients were acknowledged, as pairs of a time and a host, in order; and what they found lost."""
+        """The acknowledged puts of the hosts' own clients, as pairs of a time and a host, in order; and those that they found lost."""
         found, lost = [], []
         for it in self.site.hosts:
             with contextlib.suppress(FileNotFoundError), open(it.acks) as file:
@@ -776,7 +777,7 @@ class Trial:
         return sorted(found), lost
 
     def host_losses(self, own):
-        """What a host's own client was acknowledged in this round and is not there: its host may not be the one that serves now, and so it does not look."""
+        """The acknowledged puts of a host's own client in this round that are lost. Its host may not be the one that serves now, so it does not look."""
         found = []
         with contextlib.suppress(OSError), contextlib.closing(socket.create_connection((ADDRESS, PORT), 3)) as sock:
             sock.settimeout(10)
@@ -827,7 +828,7 @@ class Trial:
         try:
             site.mend(bool(found["fenced"]) or name in ("host", "cut", "storage", "brick"))
         except TimeoutError as late:
-            return {**found, "fault": f"behind the round, {late}"}
+            return {**found, "fault": f"after the round, {late}"}
         self.is_mended = True
         found["seconds"] = [round(over - begun, 1), *site.times]
         own, lost = self.host_acks(begun)
@@ -885,7 +886,7 @@ def summary(paths):
         print(f"\nprogram {setting[0]}, {setting[1]} hosts in the cluster, without {' and '.join(setting[2:]) or 'nothing'}:")
         print(f"{len(its)} rounds, {its[0]['at']} to {its[-1]['at']}, load {min(loads)} to {max(loads)}, {statistics.median(loads)} in the middle\n")
         print(
-            "| What is broken | Rounds | Puts acknowledged | Rounds with losses | Served by two at once | Fenced | Not served | Broken off | Seconds, middle | Worst |"
+            "| Broken part | Rounds | Puts acknowledged | Rounds with losses | Served by two at once | Fenced | Not served | Broken off | Seconds, middle | Worst |"
         )
         print("|---|---|---|---|---|---|---|---|---|---|")
         for name in ROUNDS:
@@ -908,7 +909,7 @@ def main():
     parser = argparse.ArgumentParser(description=__doc__, formatter_class=argparse.RawDescriptionHelpFormatter)
     parser.add_argument("--program", metavar="PATH", default=f"{ROOT}/crates/oaut/out/oaut")
     parser.add_argument("--gateway", metavar="PATH")
-    parser.add_argument("--rounds", metavar="N", type=int, default=5, help="of each kind, 5 where nothing is said")
+    parser.add_argument("--rounds", metavar="N", type=int, default=5, help="of each kind. Default: 5")
     parser.add_argument("--clusters", metavar="N", type=int, default=1, help="side by side")
     parser.add_argument("--until", metavar="HH:MM")
     parser.add_argument("--without", choices=("lock", "fencing"), action="append", default=[])

@@ -1,12 +1,13 @@
 #!/usr/bin/env python3
-"""Fuzzes the program by AFL++ for a while, with the coverage that breakpoints tell (bench/coverage.c), and compares all that AFL++ has kept with what the documents say.
+"""Fuzzes the program with AFL++ and coverage by breakpoints (bench/coverage.c), and compares the result of each input that AFL++ kept with the documents.
 
-    python3 bench/with_afl.py PART SECONDS FOLDER [PROGRAM]      PART is records, frames, libraries or stores; PROGRAM is crates/oaut/out/oaut where none is given
+    python3 bench/with_afl.py PART SECONDS FOLDER [PROGRAM]      PART is records, frames, libraries or stores; default of PROGRAM: crates/oaut/out/oaut
 
-By hand, with afl-fuzz, cc and objdump. FOLDER keeps the queue: a second run goes on with it. An input of `records` is what `play` reads, of `frames` what `play --shared` does, of `libraries` a text for `check -`, of `stores` what
-bench/coverage.c makes a store's file of, for `dump`. The last lines say how many inputs were tried, what was kept, what crashed or hung, and what differs: of each input that was kept the
-replies are compared with the model's, the text is checked as in tests/support/fuzz.py, and the store is opened by `dump` and `serve` and by tests/support/store.py. FOLDER/rows has then, as rows of
-tests/tables/fuzzed.txt, short inputs that between them reach what the seeds do not.
+By hand, with afl-fuzz, cc and objdump. FOLDER keeps the queue: a second run goes on with it. An input of `records` is what `play` reads, of `frames` what `play
+--shared` does, of `libraries` a text for `check -`, of `stores` what bench/coverage.c makes a store's file of, for `dump`. The last lines say how many inputs
+were tried, kept, crashed or hung, and which differ. For each input that was kept, the replies are compared with the model's, the text is checked as in
+tests/support/fuzz.py, and the store is opened by `dump`, `serve` and tests/support/store.py. FOLDER/rows has then, as rows of tests/tables/fuzzed.txt, short
+inputs that between them reach what the seeds do not.
 """
 import glob
 import os
@@ -36,7 +37,7 @@ FUNCTION = re.compile(r"^([0-9a-f]+) <")
 
 
 def blocks():
-    """Where the program's blocks begin: functions, what is jumped to, and what stands behind a jump."""
+    """The starts of the program's blocks: functions, the targets of jumps, and the places after jumps."""
     listing = subprocess.run(["objdump", "-d", "--no-show-raw-insn", "-j", ".text", PROGRAM], check=True, stdout=subprocess.PIPE, text=True).stdout
     found, places, behind = set(), set(), False
     for line in listing.splitlines():

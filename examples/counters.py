@@ -3,8 +3,9 @@
 
     PYTHONPATH=clients/python python3 examples/counters.py [--program PROGRAM] [--store STORE] [--rounds N] [FILE]
 
-FILE is /proc/net/dev where none is given. A machine counts from 0 again when it starts; a total goes on from there. With STORE, a file that is made where it is not there, the totals
-outlive a stop of this script, of the server and of the machine.
+Default of FILE: /proc/net/dev. A machine counts from 0 again when it starts; a total goes on from
+there. With STORE, a file that is created if it does not exist, the totals survive a crash of this
+script, of the server and of the machine.
 """
 import argparse
 import os
@@ -26,7 +27,7 @@ def counters_of(path):
 
 
 def session(program, store):
-    """A server that keeps its objects in a store, or in memory where none is named."""
+    """A server that keeps its objects in a store, or in memory if none is named."""
     if store is None:
         return oaut.play(LIBRARY, program=program)
     if not os.path.exists(store):

@@ -5,10 +5,10 @@
     systemd-socket-activate -l /tmp/oaut.socket examples/one_at_a_time.py oaut serve items.store items.idl
 
 The words are those of the program that each client gets. It listens at HOST:PORT or at the path of a socket, for this user alone; without
---listen at the socket that systemd hands over with `Accept=no`, as descriptor 3. A client gets its turn by the first byte that it sends:
-one that says nothing keeps nobody waiting. One that sends nothing for so many seconds, or takes none of its replies, is let go, and what
-it was answered stays. Each client leaves a line on standard error: who it was, how long its turn took, how many requests it sent, the
-program's status. No client ends this script, however its own connection ends.
+--listen at the socket that systemd hands over with `Accept=no`, as descriptor 3. A client gets its turn when it sends its
+first byte, so silent clients delay nobody. A client that sends nothing for so many seconds, or does not read its replies, is disconnected;
+its acknowledged writes stay. For each client a line on standard error has its address, the time of its turn, the number of its requests and
+the program's status. The script survives any end of a client's connection.
 """
 import argparse
 import collections
@@ -31,7 +31,7 @@ WAITING = 1_000  # clients that may be connected and not served yet: above it th
 
 
 class Requests:
-    """Counts the requests in a stream: lines, or records behind their lengths."""
+    """Counts the requests in a stream: lines, or records after their lengths."""
 
     def __init__(self, lines):
         self.count, self.lines = 0, lines
@@ -76,7 +76,7 @@ class Client:
 
 
 def tell(line):
-    """A line on standard error, also where nobody reads that any more."""
+    """A line on standard error, even if nobody reads that any more."""
     try:
         print(line, file=sys.stderr, flush=True)
     except OSError:
@@ -84,7 +84,7 @@ def tell(line):
 
 
 def hang_up(sock, child):
-    """Ends the connection once the program has ended, whoever ends it."""
+    """Ends the connection after the program has ended, for any reason."""
     child.wait()
     try:
         sock.shutdown(socket.SHUT_RDWR)
@@ -125,7 +125,7 @@ def turns(ready, words, idle):
 
 
 def gone(client):
-    """What became of a client that can be read and has sent nothing, in words."""
+    """Says in words how a client ended that can be read and has sent nothing."""
     try:
         return "" if client.sock.recv(1, socket.MSG_PEEK | socket.MSG_DONTWAIT) else "sent nothing"
     except OSError as error:

@@ -1,11 +1,17 @@
-//! A server of the same records that nobody proved, tuned by hand: it creates objects of one coclass, and puts and gets one property of type
-//! long. All else it refuses. It is what the instructions of `oaut play` are compared with (`bench/baseline.py`), and no part of the program.
+//! An unproved server of the same protocol, tuned by hand: it creates objects of one coclass, and puts and gets one property of type long. It refuses
+//! all other requests. `bench/baseline.py` compares its instructions with those of `oaut`; it is no part of the program.
 //!
 //!     rustc --edition 2021 -C opt-level=3 -C panic=abort -C target-cpu=x86-64-v2 server.rs
-//!     ./server [--hex] <requests >replies
+//!     ./server [--hex | --shared] [--store STORE] <requests >replies
+//!
+//! STORE is a file that `oaut format` has just made. Its groups have up to 1,024 requests, with the bytes and the two syncs of the program. The server
+//! makes no checkpoints, so it ends when the bank is full, and it opens no store that has groups.
 #[cfg(target_arch = "x86_64")]
 use std::arch::x86_64::*;
+use std::collections::BTreeMap;
+use std::fs::File;
 use std::io::{self, Read, Write};
+use std::os::unix::fs::FileExt;
 
 const S_OK: u32 = 0;
 const BAD_STUB: u32 = 0x8007_06F7;
@@ -18,6 +24,14 @@ const TYPE_MISMATCH: u32 = 0x8002_0005;
 
 const MOST_BYTES: usize = 4_194_304;
 const ROOM: usize = 1 << 16;
+const MOST_FRAME: usize = 1_048_576;
+const ALL_CLIENTS: u32 = u32::MAX;
+const NEAR: usize = 4_096;
+const GROUP: usize = 1_024;
+
+const BODY: u64 = 33_562_624;
+const HEADS: [u64; 2] = [8_192, 16_785_408];
+const INTERFACE: [u8; 16] = [0x44, 0x33, 0x22, 0x11, 0x66, 0x55, 0x88, 0x77, 0x99, 0xAA, 0xBB, 0xCC, 0xDD, 0xEE, 0xFF, 2];
 
 const CREATE: u16 = 1;
 const INVOKE: u16 = 4;
@@ -73,9 +87,81 @@ impl Reply {
     }
 }
 
+/// The log records of the group that is not committed yet, behind the length of the group, and the place of its gate.
+struct Journal {
+    file: File,
+    gate: u64,
+    end: u64,
+    group: Vec<u8>,
+    len: usize,
+}
+
+impl Journal {
+    /// Opens a store that `oaut format` has just made.
+    fn open(path: &str) -> io::Result<Journal> {
+        let file = File::options().read(true).write(true).open(path)?;
+        file.sync_data()?;
+        let (mut flag, mut selector, mut head) = ([0], [0], [0; 32]);
+        file.read_exact_at(&mut flag, 0)?;
+        file.read_exact_at(&mut selector, 4_096)?;
+        let bank = usize::from(selector[0] & 1);
+        file.read_exact_at(&mut head, HEADS[bank])?;
+        assert!(flag[0] == 1 && head[..8] == *b"OAUTBK02" && u32_at(&head, 16) == 8, "this is no new store");
+        let size = u64::from(u32_at(&head, 20));
+        let body = BODY + bank as u64 * size;
+        let gate = body + u64::from(u32_at(&head, 12)) + 8;
+        file.read_exact_at(&mut flag, gate)?;
+        assert!(flag[0] != 1, "this store has groups");
+        // the longest group has a put in each request
+        Ok(Journal { file, gate, end: body + size, group: vec![0; 4 + GROUP * 33 + 1], len: 4 })
+    }
+
+    fn add<const N: usize>(&mut self, record: &[u8; N]) {
+        self.group[self.len..self.len + N].copy_from_slice(record);
+        self.len += N;
+    }
+
+    fn create(&mut self, number: u32, coclass: &[u8]) {
+        let mut record = [0; 21];
+        record[0] = 1;
+        record[1..5].copy_from_slice(&number.to_le_bytes());
+        record[5..21].copy_from_slice(coclass);
+        self.add(&record);
+    }
+
+    fn put(&mut self, number: u32, value: u32) {
+        let mut record = [0; 33];
+        record[0] = 3;
+        record[1..5].copy_from_slice(&number.to_le_bytes());
+        record[5..21].copy_from_slice(&INTERFACE);
+        record[21..25].copy_from_slice(&COUNT.to_le_bytes());
+        record[27..29].copy_from_slice(&I4.to_le_bytes());
+        record[29..33].copy_from_slice(&value.to_le_bytes());
+        self.add(&record);
+    }
+
+    fn commit(&mut self) -> io::Result<()> {
+        if self.len == 4 {
+            return Ok(());
+        }
+        let next = self.gate + 1 + self.len as u64;
+        assert!(next < self.end, "the bank is full");
+        let size = (self.len - 4) as u32;
+        self.group[..4].copy_from_slice(&size.to_le_bytes());
+        self.group[self.len] = 0;
+        self.file.write_all_at(&self.group[..self.len + 1], self.gate + 1)?;
+        self.file.sync_data()?;
+        self.file.write_all_at(&[1], self.gate)?;
+        self.file.sync_data()?;
+        (self.gate, self.len) = (next, 4);
+        Ok(())
+    }
+}
+
 /// The values of the property, by the objects' numbers from 1 on.
 struct Server {
     values: Vec<u32>,
+    journal: Option<Journal>,
 }
 
 impl Server {
@@ -87,7 +173,11 @@ impl Server {
         match u16_at(body, 4) {
             CREATE if body.len() == 24 => {
                 self.values.push(0);
-                Reply::number(tag, self.values.len() as u32)
+                let number = self.values.len() as u32;
+                if let Some(journal) = &mut self.journal {
+                    journal.create(number, &body[8..24]);
+                }
+                Reply::number(tag, number)
             }
             INVOKE if body.len() >= 64 => self.invoke(tag, body),
             _ => Reply::bare(tag, BAD_STUB),
@@ -119,6 +209,9 @@ impl Server {
                     return Reply::bare(tag, TYPE_MISMATCH);
                 }
                 *held = u32_at(body, 100);
+                if let Some(journal) = &mut self.journal {
+                    journal.put(place as u32 + 1, *held);
+                }
                 Reply::bare(tag, S_OK)
             }
             _ => Reply::bare(tag, NOT_IMPLEMENTED),
@@ -203,79 +296,289 @@ fn line_end(bytes: &[u8]) -> Option<usize> {
     rest.iter().position(|it| *it == b'\n').map(|at| bytes.len() - rest.len() + at)
 }
 
-/// What is written, kept back until more is to be read.
+/// How requests and replies are framed.
+#[derive(Clone, Copy, PartialEq)]
+enum Framing {
+    Lines,
+    Records,
+    Frames,
+}
+
+/// The replies that were not written yet, and the count of requests since the last commit.
 struct Out {
     bytes: Vec<u8>,
     len: usize,
+    framing: Framing,
+    pending: usize,
 }
 
 impl Out {
-    fn flush(&mut self) -> io::Result<()> {
+    fn write(&mut self) -> io::Result<()> {
         io::stdout().lock().write_all(&self.bytes[..self.len])?;
         self.len = 0;
         Ok(())
     }
 
-    fn put(&mut self, hex: bool, reply: &Reply) -> io::Result<()> {
-        if self.bytes.len() - self.len < 128 {
-            self.flush()?;
+    /// Commits the group, and writes its replies.
+    fn commit(&mut self, server: &mut Server) -> io::Result<()> {
+        self.pending = 0;
+        if let Some(journal) = &mut server.journal {
+            journal.commit()?;
         }
+        self.write()
+    }
+
+    fn put(&mut self, server: &mut Server, client: u32, reply: &Reply) -> io::Result<()> {
         let room = &mut self.bytes[self.len..];
-        if hex {
-            // SAFETY: `main` has found that the processor has SSSE3.
-            unsafe { encode(&reply.bytes, room) };
-            room[2 * reply.len] = b'\n';
-            self.len += 2 * reply.len + 1;
-        } else {
-            room[..4].copy_from_slice(&(reply.len as u32).to_le_bytes());
-            room[4..52].copy_from_slice(&reply.bytes);
-            self.len += 4 + reply.len;
+        match self.framing {
+            Framing::Lines => {
+                // SAFETY: `main` has found that the processor has SSSE3.
+                unsafe { encode(&reply.bytes, room) };
+                room[2 * reply.len] = b'\n';
+                self.len += 2 * reply.len + 1;
+            }
+            Framing::Records => {
+                room[..4].copy_from_slice(&(reply.len as u32).to_le_bytes());
+                room[4..52].copy_from_slice(&reply.bytes);
+                self.len += 4 + reply.len;
+            }
+            Framing::Frames => {
+                room[..4].copy_from_slice(&client.to_le_bytes());
+                room[4..8].copy_from_slice(&(4 + reply.len as u32).to_le_bytes());
+                room[8..12].copy_from_slice(&(reply.len as u32).to_le_bytes());
+                room[12..60].copy_from_slice(&reply.bytes);
+                self.len += 12 + reply.len;
+            }
         }
-        Ok(())
+        self.turn(server)
+    }
+
+    /// A client's stream has ended.
+    fn end(&mut self, server: &mut Server, client: u32) -> io::Result<()> {
+        let room = &mut self.bytes[self.len..];
+        room[..4].copy_from_slice(&client.to_le_bytes());
+        room[4..8].copy_from_slice(&[0; 4]);
+        self.len += 8;
+        self.turn(server)
+    }
+
+    fn turn(&mut self, server: &mut Server) -> io::Result<()> {
+        self.pending += 1;
+        if server.journal.is_some() {
+            if self.pending == GROUP { self.commit(server) } else { Ok(()) }
+        } else if self.bytes.len() - self.len < 128 {
+            self.write()
+        } else {
+            Ok(())
+        }
+    }
+}
+
+/// A client of a session of frames: the bytes of a record whose last ones have not come, and whether its stream has ended.
+#[derive(Default)]
+struct Client {
+    is_there: bool,
+    has_ended: bool,
+    begun: Vec<u8>,
+}
+
+/// The clients by their numbers.
+struct Clients {
+    near: Vec<Client>,
+    far: BTreeMap<u32, Client>,
+}
+
+impl Clients {
+    fn of(&mut self, number: u32) -> &mut Client {
+        let client = match self.near.get_mut(number as usize) {
+            Some(client) => client,
+            None => self.far.entry(number).or_default(),
+        };
+        client.is_there = true;
+        client
+    }
+
+    fn end(&mut self, number: u32) {
+        match self.near.get_mut(number as usize) {
+            Some(client) => *client = Client::default(),
+            None => {
+                self.far.remove(&number);
+            }
+        }
+    }
+}
+
+/// Answers the records of a client's bytes.
+fn take(server: &mut Server, clients: &mut Clients, out: &mut Out, number: u32, bytes: &[u8]) -> io::Result<()> {
+    let client = clients.of(number);
+    if client.has_ended {
+        return Ok(());
+    }
+    if client.begun.is_empty() {
+        let rest = records(server, out, number, bytes)?;
+        return keep(client, server, out, number, rest);
+    }
+    let mut begun = std::mem::take(&mut client.begun);
+    begun.extend_from_slice(bytes);
+    let rest = records(server, out, number, &begun)?;
+    keep(client, server, out, number, rest)
+}
+
+/// Answers the whole records at the front of a client's bytes, and returns the bytes behind them.
+fn records<'b>(server: &mut Server, out: &mut Out, number: u32, mut bytes: &'b [u8]) -> io::Result<&'b [u8]> {
+    while let Some(head) = bytes.first_chunk() {
+        let len = u32::from_le_bytes(*head) as usize;
+        if len == 0 || len > MOST_BYTES || bytes.len() < 4 + len {
+            break;
+        }
+        let reply = server.answer(&bytes[4..4 + len]);
+        out.put(server, number, &reply)?;
+        bytes = &bytes[4 + len..];
+    }
+    Ok(bytes)
+}
+
+/// Keeps the bytes of a record that is not whole, or ends the stream at a length that is none.
+fn keep(client: &mut Client, server: &mut Server, out: &mut Out, number: u32, rest: &[u8]) -> io::Result<()> {
+    if rest.is_empty() {
+        return Ok(());
+    }
+    let len = rest.first_chunk().map_or(1, |it| u32::from_le_bytes(*it) as usize);
+    if len == 0 || len > MOST_BYTES {
+        client.has_ended = true;
+        if len > MOST_BYTES {
+            out.put(server, number, &Reply::bare(0, BAD_STUB))?;
+        }
+        return out.end(server, number);
+    }
+    client.begun.extend_from_slice(rest);
+    Ok(())
+}
+
+/// Ends a client's stream.
+fn leave(server: &mut Server, clients: &mut Clients, out: &mut Out, number: u32) -> io::Result<()> {
+    let client = clients.of(number);
+    let (has_ended, is_cut) = (client.has_ended, !client.begun.is_empty());
+    clients.end(number);
+    if has_ended {
+        return Ok(());
+    }
+    if is_cut {
+        out.put(server, number, &Reply::bare(0, BAD_STUB))?;
+    }
+    out.end(server, number)
+}
+
+/// The input, and the part of it that was read and not yet answered.
+struct Input {
+    bytes: Vec<u8>,
+    from: usize,
+    to: usize,
+}
+
+impl Input {
+    /// Reads more; false at the end.
+    fn more(&mut self, input: &mut impl Read) -> io::Result<bool> {
+        self.bytes.copy_within(self.from..self.to, 0);
+        (self.from, self.to) = (0, self.to - self.from);
+        let most = (self.to + ROOM).min(self.bytes.len());
+        let count = input.read(&mut self.bytes[self.to..most])?;
+        self.to += count;
+        Ok(count != 0)
     }
 }
 
 fn main() -> io::Result<()> {
-    let hex = std::env::args().nth(1).as_deref() == Some("--hex");
+    let mut words = std::env::args().skip(1);
+    let (mut framing, mut journal) = (Framing::Records, None);
+    while let Some(word) = words.next() {
+        match word.as_str() {
+            "--hex" => framing = Framing::Lines,
+            "--shared" => framing = Framing::Frames,
+            "--store" => journal = Some(Journal::open(&words.next().expect("a store's path"))?),
+            _ => panic!("{word}: no option of this server"),
+        }
+    }
     assert!(is_x86_feature_detected!("ssse3"), "this server wants SSSE3");
-    let mut server = Server { values: Vec::new() };
-    let mut out = Out { bytes: vec![0; ROOM], len: 0 };
+    let mut server = Server { values: Vec::new(), journal };
+    // a group's replies have up to 64 bytes each
+    let mut out = Out { bytes: vec![0; ROOM.max(64 * GROUP + 128)], len: 0, framing, pending: 0 };
+    let mut input = Input { bytes: vec![0; ROOM.max(2 * MOST_BYTES + 2)], from: 0, to: 0 };
+    let mut stdin = io::stdin().lock();
+    match framing {
+        Framing::Frames => serve_frames(&mut server, &mut out, &mut input, &mut stdin)?,
+        _ => serve_one(&mut server, &mut out, &mut input, &mut stdin)?,
+    }
+    out.commit(&mut server)
+}
+
+/// A session of lines or of records.
+fn serve_one(server: &mut Server, out: &mut Out, input: &mut Input, stdin: &mut impl Read) -> io::Result<()> {
+    let hex = out.framing == Framing::Lines;
     let mut body = vec![0; MOST_BYTES + 16];
-    let mut read = vec![0; ROOM.max(2 * MOST_BYTES + 2)];
-    let (mut from, mut to) = (0, 0);
-    let mut input = io::stdin().lock();
     loop {
-        let front = &read[from..to];
+        let front = &input.bytes[input.from..input.to];
         let whole = if hex {
-            // SAFETY: the processor has SSSE3.
+            // SAFETY: `main` has found that the processor has SSSE3.
             unsafe { line_end(front) }.map(|at| (0, at, at + 1))
         } else {
             let len = front.first_chunk().map(|it| u32::from_le_bytes(*it) as usize);
             len.filter(|it| *it <= MOST_BYTES && front.len() >= 4 + it).map(|it| (4, 4 + it, 4 + it))
         };
         let Some((start, end, next)) = whole else {
-            out.flush()?;
-            read.copy_within(from..to, 0);
-            (from, to) = (0, to - from);
-            let most = (to + ROOM).min(read.len());
-            match input.read(&mut read[to..most])? {
-                0 => return Ok(()),
-                count => to += count,
+            if server.journal.is_none() {
+                out.write()?;
+            }
+            if !input.more(stdin)? {
+                return Ok(());
             }
             continue;
         };
         let reply = if hex {
             // SAFETY: the processor has SSSE3.
             match unsafe { decode(&front[..end], &mut body) } {
-                Some(0) | None => return out.flush(),
+                Some(0) | None => return Ok(()),
                 Some(count) => server.answer(&body[..count]),
             }
         } else if end == 4 {
-            return out.flush();
+            return Ok(());
         } else {
             server.answer(&front[start..end])
         };
-        out.put(hex, &reply)?;
-        from += next;
+        out.put(server, 0, &reply)?;
+        input.from += next;
     }
+}
+
+/// A session of the frames of many clients.
+fn serve_frames(server: &mut Server, out: &mut Out, input: &mut Input, stdin: &mut impl Read) -> io::Result<()> {
+    let mut clients = Clients { near: Vec::new(), far: BTreeMap::new() };
+    clients.near.resize_with(NEAR, Client::default);
+    loop {
+        let front = &input.bytes[input.from..input.to];
+        let head = front.first_chunk::<8>().map(|it| (u32_at(it, 0), u32_at(it, 4) as usize));
+        let Some((number, len)) = head.filter(|(_, len)| *len > MOST_FRAME || front.len() >= 8 + len) else {
+            if server.journal.is_none() {
+                out.write()?;
+            }
+            if !input.more(stdin)? {
+                break;
+            }
+            continue;
+        };
+        if len > MOST_FRAME || number == ALL_CLIENTS && len != 0 {
+            break;
+        }
+        if number == ALL_CLIENTS {
+            out.commit(server)?;
+        } else if len == 0 {
+            leave(server, &mut clients, out, number)?;
+        } else {
+            take(server, &mut clients, out, number, &front[8..8 + len])?;
+        }
+        input.from += 8 + len;
+    }
+    let near = clients.near.iter().enumerate().filter(|(_, it)| it.is_there).map(|(at, _)| at as u32);
+    let left: Vec<u32> = near.chain(clients.far.keys().copied()).collect();
+    left.into_iter().try_for_each(|it| leave(server, &mut clients, out, it))
 }

@@ -1,9 +1,9 @@
 """A Calc document's macro: a table of a store's objects, whose cells go back into the store.
 
-`fill` writes a row for each object of a coclass, a column for each of its properties that is one
-value without parameters. From then on a cell that is changed there is put into its object at once;
-what the server refuses stands beside "status", and the cell has the value of before again. Each
-call is a session of its own, so that others may have the store between them. README.md says how.
+`fill` writes a row for each object of a coclass, and a column for each of its properties that is one
+value without parameters. After that, a cell that you change is put into its object at once. If the
+server refuses it, the reason is beside "status", and the cell has its former value again. Each
+call is a session of its own, so others may use the store in between. README.md has the steps.
 """
 import decimal
 
@@ -28,7 +28,7 @@ def session(sheet):
 
 
 def value_of(cell, old):
-    """What stands in a cell: a number, a text or None. `old` is what the property has now."""
+    """The content of a cell: a number, a text or None. `old` is what the property has now."""
     if cell.Type.value == "EMPTY":
         return None
     if cell.Type.value == "TEXT":
@@ -39,7 +39,7 @@ def value_of(cell, old):
 
 
 def show(cell, value):
-    """Writes a value into a cell: as a number where the cell can give the same one back."""
+    """Writes a value into a cell: as a number if the cell can give the same one back."""
     number = isinstance(value, (int, decimal.Decimal))
     if number and decimal.Decimal(repr(float(value))) == value:
         cell.Value = float(value)
@@ -73,7 +73,7 @@ def fill(*_):
             with server.batch():
                 rows = [[getattr(item, head) for head in heads] for item in items]
         said = f"{len(items)} objects"
-    except (oaut.Fault, LookupError, OSError) as fault:
+    except (oaut.Error, LookupError, OSError) as fault:
         heads, items, rows, said = [], [], [], str(fault)
     last = sheet.RangeAddress
     old = sheet.getCellRangeByPosition(0, HEADS, min(last.EndColumn, 255), last.EndRow)
@@ -115,7 +115,7 @@ def changed(where, *_):
                 except (oaut.Refused, TypeError, ValueError) as refusal:
                     said = str(refusal)
                 back.append((cell, getattr(item, head)))
-    except (oaut.Fault, LookupError, OSError) as fault:
+    except (oaut.Error, LookupError, OSError) as fault:
         said = str(fault)
     # (a cell that is written calls this again, and finds what it holds in the store)
     for cell, value in back:

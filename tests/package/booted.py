@@ -56,9 +56,10 @@ def overlaid(room):
             yield f"{room}/root"
 
 
-def run(script, files, seconds=240):
+def run(script, files, seconds=240, take=None):
     """Boots a container that holds these files beside this machine's own, runs a script of the shell in it as the superuser, and gives the
-    script's status, output and errors, or None and what the boot has said."""
+    script's status, output and errors, or None and what the boot has said. The files that `take` names are put into the dictionaries there, by
+    their names."""
     with tempfile.TemporaryDirectory() as room, overlaid(room) as root:
         for path, content in {**files, "/tried.sh": script.encode(), "/etc/systemd/system/tried.service": UNIT.encode(), "/etc/machine-id": b""}.items():
             os.makedirs(os.path.dirname(root + path), exist_ok=True)
@@ -74,6 +75,9 @@ def run(script, files, seconds=240):
             said = boot.stdout
         except subprocess.TimeoutExpired as late:
             said = late.stdout or b""
+        for path, taken in (take or {}).items():
+            with contextlib.suppress(OSError), open(root + path, "rb") as file:
+                taken[path] = file.read()
         try:
             with open(f"{root}/tried.status") as status, open(f"{root}/tried.out") as out, open(f"{root}/tried.err") as err:
                 return int(status.read() or -1), out.read(), err.read()

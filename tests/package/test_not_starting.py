@@ -1,4 +1,4 @@
-"""docs/it-does-not-start.md: the cause of each row is made, its text is seen, and what mends it is done."""
+"""docs/operations/it-does-not-start.md: the cause of each row is made, its text is seen, and what mends it is done."""
 import contextlib
 import fcntl
 import os
@@ -29,7 +29,7 @@ def rows_of(page):
     return rows
 
 
-with open(f"{ROOT}/docs/it-does-not-start.md", encoding="utf-8") as page:
+with open(f"{ROOT}/docs/operations/it-does-not-start.md", encoding="utf-8") as page:
     ROWS = rows_of(page.read())
 
 

@@ -3,12 +3,16 @@
 
     python3 tools/cases.py [--program PATH] [-k NAME].. [PART ..]
 
-PATH is crates/oaut/out/oaut, as `rt ci` leaves it, where none is given. `-k NAME` runs the tests whose names have NAME in them, `PART` those of one
+Default of PATH: crates/oaut/out/oaut, as `rt ci` leaves it. `-k NAME` runs the tests whose names have NAME in them, `PART` those of one
 file; `--list` prints the names. A test whose tools are not installed is left out, with a line that names it and them. Each part gets a line with its
-seconds; the last line counts all cases, and the status is 1 where one failed. A test that takes longer than 15 minutes ends all, with a line for each
-place where one of its threads stands.
+seconds; the last line counts all cases, and the tests that were left out by their reasons; the status is 1 if one failed. A test that takes longer
+than 45 minutes ends all, with a line for the place of each of its threads.
+
+With `--again N`, up to N tests that failed run again after all others, when nothing else runs, at most twice. One that then passes counts as passed, and
+a line `unstable TEST` reports it. No further run excuses a test of the program, or of a part that looks for lost or changed data.
 """
 import argparse
+import collections
 import ctypes
 import faulthandler
 import glob
@@ -19,17 +23,23 @@ import unittest
 
 ROOT = os.path.dirname(os.path.dirname(os.path.abspath(__file__)))
 FOLDERS = sorted(glob.glob(f"{ROOT}/tests/*/"))
+# the parts outside tests/program that look for lost or changed data
+ONCE = {"client_forks", "client_interrupts", "com_kills", "gateway_histories", "haproxy_stores", "many_stores", "upgrading"}
 # the seconds that a test may take: the longest takes a fiftieth of them
-LONGEST = 900
+LONGEST = 2_700
+# how often a test that failed may run again
+FURTHER = 2
 
 
 class Counts(unittest.TestResult):
-    """Counts the cases: each sub-test, and each test that has none. What failed is told at once."""
+    """Counts the cases: each sub-test, and each test that has none. Failures are printed at once."""
 
     def __init__(self):
         super().__init__()
         self.passed = self.failed = 0
         self.within = False
+        # how many cases failed, of each test by its name
+        self.failed_in = collections.Counter()
 
     def startTest(self, test):
         super().startTest(test)
@@ -66,13 +76,14 @@ class Counts(unittest.TestResult):
 
     def tell(self, test, err, failure):
         self.failed += 1
+        self.failed_in[getattr(test, "test_case", test).id()] += 1
         kind, what, _ = err
         said = str(what) if failure and issubclass(kind, failure) else self._exc_info_to_string(err, test)
         print(f"FAILED {named(test)}: {said}", flush=True)
 
 
 def watch():
-    """Ends all where the next test, or what stands before or behind it, takes too long."""
+    """Ends all if the next test, or its setup or cleanup, takes too long."""
     faulthandler.dump_traceback_later(LONGEST, exit=True)
 
 
@@ -89,8 +100,29 @@ def parts_of(words):
     found = sorted(os.path.basename(it)[len("test_") : -len(".py")] for it in glob.glob(f"{ROOT}/tests/*/test_*.py"))
     unknown = {*words} - {*found}
     if unknown:
-        raise SystemExit(f"run.py: no part is named {', '.join(sorted(unknown))}; there are {', '.join(found)}")
+        raise SystemExit(f"cases.py: no part is named {', '.join(sorted(unknown))}; there are {', '.join(found)}")
     return [it for it in found if it in (words or found)]
+
+
+def run_again(loader, failed_in):
+    """Runs failed tests again, and returns how many of their cases failed that are now known to pass, and the names of these tests."""
+    excused, names = 0, []
+    for name, cases in failed_in.items():
+        for _ in range(FURTHER):
+            counts = Counts()
+            print(f"again: {name}", flush=True)
+            loader.loadTestsFromName(name).run(counts)
+            faulthandler.cancel_dump_traceback_later()
+            if counts.passed and not counts.failed:
+                excused, names = excused + cases, [*names, name]
+                break
+    return excused, names
+
+
+def may_run_again(name):
+    """Whether a further run may excuse a failed test. An error in the setup of a class or file has a name of another form: it may not."""
+    module = sys.modules.get(name.split(".")[0])
+    return module is not None and os.path.basename(os.path.dirname(module.__file__)) != "program" and module.__name__[len("test_") :] not in ONCE
 
 
 def tests_of(suite):
@@ -102,7 +134,7 @@ def tests_of(suite):
 
 
 def keep_freed_memory():
-    """Has the C library keep what is freed. A store has 75 MB, and else the system would hand out the pages of each that is made, one by one."""
+    """Has the C library keep what is freed. A store has 75 MB, and otherwise the system would allocate the pages of each new one, one by one."""
     mallopt = getattr(ctypes.CDLL(None), "mallopt", None)
     if mallopt:
         M_TRIM_THRESHOLD, M_MMAP_MAX = -1, -4
@@ -115,6 +147,7 @@ def main():
     parser.add_argument("--program", metavar="PATH", help="the program")
     parser.add_argument("-k", metavar="NAME", action="append", dest="names", help="tests with this in their names")
     parser.add_argument("--list", action="store_true", help="print the names of the tests")
+    parser.add_argument("--again", metavar="N", type=int, default=0, help="run failed tests again if they are at most N (default: 0)")
     parser.add_argument("--sessions", nargs=2, metavar=("FIRST", "COUNT"), help="the seeds of the part `random`")
     parser.add_argument("--kills", metavar="N", help="how often the part `kills` kills")
     parser.add_argument("--seed", metavar="S", help="from which seed")
@@ -127,11 +160,16 @@ def main():
         "OAUT_SEED": given.seed,
     }
     os.environ.update({name: it for name, it in told.items() if it})
+    program = os.environ.get("OAUT_PROGRAM") or f"{ROOT}/crates/oaut/out/oaut"
+    pages = {os.path.basename(it)[len("test_") : -len(".py")] for it in glob.glob(f"{ROOT}/tests/pages/test_*.py")}
+    if not given.list and not os.path.exists(program) and not (given.parts and {*given.parts} <= pages):
+        raise SystemExit(f"{program} does not exist: `(cd crates/oaut && rt run -- --version)` builds it, or name another with --program")
     sys.path[:0] = FOLDERS
     keep_freed_memory()
     loader = unittest.TestLoader()
     loader.testNamePatterns = [it if "*" in it else f"*{it}*" for it in given.names or []] or None
     passed = failed = left = 0
+    reasons, failed_in = collections.Counter(), collections.Counter()
     for part in parts_of(given.parts):
         suite = loader.loadTestsFromName(f"test_{part}")
         if not suite.countTestCases():
@@ -145,9 +183,16 @@ def main():
         faulthandler.cancel_dump_traceback_later()
         print(f"{part}: {counts.passed} passed, {counts.failed} failed, {len(counts.skipped)} tests left out, {time.monotonic() - begun:.1f} s", flush=True)
         passed, failed, left = passed + counts.passed, failed + counts.failed, left + len(counts.skipped)
+        reasons.update(reason for _, reason in counts.skipped)
+        failed_in.update(counts.failed_in)
     if given.list:
         return 0
-    print(f"{passed} passed, {failed} failed, {left} tests left out")
+    if 0 < len(failed_in) <= given.again and all(map(may_run_again, failed_in)):
+        excused, unstable = run_again(unittest.TestLoader(), failed_in)
+        passed, failed = passed + excused, failed - excused
+        print("".join(f"unstable {name}\n" for name in unstable), end="")
+    why = "; ".join(f"{count}: {reason}" for reason, count in sorted(reasons.items()))
+    print(f"{passed} passed, {failed} failed, {left} tests left out{why and f' ({why})'}")
     return 1 if failed or not passed else 0
 
 

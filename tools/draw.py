@@ -1,15 +1,15 @@
 #!/usr/bin/env python3
-"""Draws docs/map.svg, the crates and what stands on what, and docs/put.svg, the way of a put, from crates.txt.
+"""Draws docs/internals/map.svg, the crates and what they use, and docs/internals/put.svg, the way of a put, from crates.txt.
 
     python3 tools/draw.py            writes both
-    python3 tools/draw.py --check    ends with status 1 where one is not what it would write
+    python3 tools/draw.py --check    ends with status 1 if one differs from that
 """
 import argparse
 import os
 import sys
 
 ROOT = os.path.dirname(os.path.dirname(os.path.abspath(__file__)))
-DOCS = f"{ROOT}/docs"
+DOCS = f"{ROOT}/docs/internals"
 WIDTH, BOX, HIGH, ROW = 980, 118, 26, 62
 STYLE = """<style>
 text { font: 12px sans-serif; fill: #222 } .box { fill: #eef3fa; stroke: #5b7aa5 } .disk { fill: #fdf3e3; stroke: #b58a3c }
@@ -19,35 +19,35 @@ path { fill: none; stroke: #8899aa; stroke-width: 1 } .way { stroke: #444; strok
 STORAGE = {"oa_disk", "oa_journal", "oa_store", "oa_keeper", "oa_groups"}
 # the way of a put: what happens, and in which crate
 PUT = [
-    ("oaut", "standard input, a line or a record"),
-    ("oa_stream", "what has been read ahead"),
+    ("oaut", "standard input: a line or a record"),
+    ("oa_stream", "a buffer of bytes that were read ahead"),
     ("oa_frame", "the body of the line or record"),
-    ("oa_record", "the request that the body asks, or its refusal"),
-    ("oa_wire_variant", "the values that its fields spell"),
+    ("oa_record", "the request that the body encodes, or a refusal"),
+    ("oa_wire_variant", "the values in the request's fields"),
     ("oa_typelib", "coclass, interface and member"),
-    ("oa_bind", "the cell's name, of the arguments"),
-    ("oa_coerce", "the new value as one of the declared type"),
-    ("oa_decision", "the change that is decided, within the limits"),
-    ("oa_table", "the cell in memory, changed by an event"),
-    ("oa_image", "the event's bytes, held for the group"),
-    ("oa_groups", "the group's last request: it is committed"),
-    ("oa_journal", "length and events behind the closed gate; sync"),
-    ("oa_disk", "1 at the gate; sync: from here on it is acknowledged"),
-    ("oa_server", "the replies of the group, handed out"),
-    ("oaut", "standard output, before the program waits"),
+    ("oa_bind", "the cell that the arguments select"),
+    ("oa_coerce", "the new value, converted to the declared type"),
+    ("oa_decision", "the change, if it is within the limits"),
+    ("oa_image", "the bytes of its log record, kept until the commit"),
+    ("oa_table", "the cell in memory gets the new value"),
+    ("oa_groups", "the group is complete: commit"),
+    ("oa_journal", "write length and log records after the commit flag; sync"),
+    ("oa_disk", "set the commit flag; sync: the change survives a crash"),
+    ("oa_server", "the replies of the group are written"),
+    ("oaut", "standard output, before the program waits for input"),
 ]
 
 
 def crates():
-    """Of each crate of crates.txt the crates of this workspace that it stands on."""
+    """Of each crate of crates.txt the crates of this workspace that it uses."""
     with open(f"{ROOT}/crates.txt") as file:
         lines = [line.split(":") for line in file if ":" in line and not line.startswith("#")]
-    names = {name.strip() for name, _ in lines}
-    return {name.strip(): [it for it in used.split() if it in names] for name, used in lines}
+    names = {name.split()[0] for name, _ in lines}
+    return {name.split()[0]: [it for it in used.split() if it in names] for name, used in lines}
 
 
 def reduced(uses):
-    """The same without what another use implies: those that no other used crate stands on."""
+    """Returns the uses without those that another use implies: those that no other used crate uses."""
     below = {}
 
     def all_below(name):
@@ -59,7 +59,7 @@ def reduced(uses):
 
 
 def rows(uses):
-    """The crates by level, the lowest first, each row ordered by what stands below it."""
+    """The crates by level, the lowest first, each row ordered by what is below it."""
     levels = {}
 
     def level(name):
@@ -94,7 +94,7 @@ def page(height, width, parts):
 
 
 def map_of(uses):
-    """The picture of the crates: a line leads from a crate down to each that it stands on."""
+    """The picture of the crates: a line leads from a crate down to each that it uses."""
     uses = reduced(uses)
     levels = rows(uses)
     height = 20 + ROW * len(levels)
@@ -136,7 +136,7 @@ def main():
         if check:
             with open(path) as file:
                 if file.read() != text:
-                    print(f"docs/{name} is not drawn from crates.txt as it stands: python3 tools/draw.py")
+                    print(f"docs/internals/{name} is not drawn from crates.txt as it is: python3 tools/draw.py")
                     well = False
         else:
             with open(path, "w") as file:

@@ -1,17 +1,17 @@
 #!/usr/bin/env python3
-"""Prints how large the crates are, for the table of docs/map.md: functions as the prover counts them, lines of src/, specs/ and proofs/.
+"""Prints how large the crates are, for the table of docs/benchmarks.md: functions as the prover counts them, lines of src/, specs/ and proofs/.
 
     python3 tools/sizes.py LOG       LOG is what rt ci printed, from nothing
 
-A function is what was proved: of a file with a derive, its methods too. A line is a line of a file, whatever is on it. What a crate takes
-to check is not in the log, and stays as the table has it.
+A function is what was proved: of a file with a derive, its methods too. A line is a line of a file, whatever is on it. The time to check a crate is not in the
+log, and stays as the table has it.
 """
 import os
 import re
 import sys
 
 ROOT = os.path.dirname(os.path.dirname(os.path.abspath(__file__)))
-DOCS = f"{ROOT}/docs"
+PAGE = f"{ROOT}/docs/benchmarks.md"
 
 
 def lines_of(folder, ending):
@@ -40,10 +40,10 @@ def functions_of(log):
 
 
 def minutes_so_far():
-    """The last column of the table as it stands."""
-    with open(os.path.join(DOCS, "map.md"), encoding="utf-8") as file:
+    """The last column of the table as it is."""
+    with open(PAGE, encoding="utf-8") as file:
         rows = (line.split("|") for line in file if line.startswith("| oa"))
-        return {row[1].strip(): row[-2].strip() for row in rows if len(row) == 8}
+        return {row[1].strip(): row[-2].strip() for row in rows if len(row) == 6}
 
 
 def main():
@@ -59,7 +59,7 @@ def main():
             lines_of(os.path.join(folder, "specs"), ".antt"),
             lines_of(os.path.join(folder, "proofs"), ".antt"),
         )
-        cells = [crate, str(counts.get(crate, "")), *(f"{size:,}" for size in sizes), minutes.get(crate, "")]
+        cells = [crate, str(counts.get(crate, "")), "/".join(f"{size:,}" for size in sizes), minutes.get(crate, "")]
         print("| " + " | ".join(cells) + " |")
 
 

@@ -1,14 +1,13 @@
 #!/usr/bin/env python3
-"""The book of the promise: what a reader of one of README's nine sentences has to read, and how much that is.
+"""The definitions of README's promises, and how much a reader of each has to read.
 
     python3 tools/spec.py FOLDER      writes a page for each word below: its definition, and each that it names, down to lists and numbers
-    python3 tools/spec.py --write     writes the two tables of docs/reading-the-proofs.md anew
-    python3 tools/spec.py --check     compares these, and holds the counts to the limits below
+    python3 tools/spec.py --write     writes the two tables of docs/internals/reading-the-proofs.md anew
+    python3 tools/spec.py --check     compares these, holds the counts to the limits below, and compares the promises of README and of that page
 
-A page begins with the word itself. Behind it stands what it names, in the order in which it names them, each followed by what it names in turn, once. With
-each stands the file that it is copied from, whose comments tell its source: a section of a standard, or this project's choice. What the prover's library
-defines, and structs and enums of the code, are named and not copied. Nor are the lemmas that some descriptions of bytes have among their fields: what is
-neither a record nor unfolds is a proof, of a law which the record of such descriptions states.
+A page begins with the definition itself. Then comes each definition that it names, in that order, each followed by those that it names in turn, once. With
+each is the file that it is copied from. Its comments name its source: a section of a standard, or this project's choice. Definitions of the prover's library,
+structs and enums are named and not copied. Lemmas among the fields of some descriptions of bytes are left out, because they are proofs.
 """
 import collections
 import os
@@ -16,37 +15,38 @@ import re
 import sys
 
 ROOT = os.path.dirname(os.path.dirname(os.path.abspath(__file__)))
-PAGE = f"{ROOT}/docs/reading-the-proofs.md"
+PAGE = f"{ROOT}/docs/internals/reading-the-proofs.md"
 
-# of each sentence the words to read, each with its module
+README = f"{ROOT}/README.md"
+
+# the definitions of each promise of README, each with its module; those of a disk count as one
+DISK = tuple(f"oa_disk.specs.Disk.{it}" for it in ("WritesUnsynced", "Syncs", "TakesTime", "FailsAs"))
 SENTENCES = {
-    1: ["oa_turn.specs.Turns.Turn"],
-    2: ["oa_frame.specs.Sessions.Session"],
-    3: ["oa_wire_variant.specs.Variants.Spells"],
-    4: ["oa_idl.specs.IsTree.IsTree"],
-    5: ["oa_checks.specs.IsLibrary.IsLibrary"],
-    6: ["oa_disk.specs.Disk." + it for it in ("WritesUnsynced", "Syncs", "TakesTime", "FailsAs")],
-    7: ["oa_store.specs.Stores.IsStore"],
-    8: ["oa_history.specs.Lived.IsLived", "oa_history.specs.SharedLived.IsSharedLived", "oa_history.specs.Survived.IsSurvived"],
-    9: ["oa_keeps.specs.Keeps.KeepsLibrary", "oa_server.specs.Answers.ReplacesInStore", "oa_store.specs.Changes.IsUpgrade", "oa_store.specs.Faults.IsBrought"],
+    1: ["oa_turn.specs.Turns.Turn", "oa_frame.specs.Sessions.Session"],
+    2: ["oa_history.specs.Lived.IsLived", "oa_history.specs.Survived.IsSurvived", "oa_store.specs.Stores.IsStore", DISK],
+    3: ["oa_linearizable.specs.Crashes.ServersAreDurable", "oa_linearizable.specs.Tables.SeenHistoriesAreLinearizable"],
+    4: ["oa_wire_variant.specs.Variants.Spells", "oa_idl.specs.IsTree.IsTree", "oa_checks.specs.IsLibrary.IsLibrary"],
+    5: ["oa_keeps.specs.Keeps.KeepsLibrary", "oa_server.specs.Answers.ReplacesInStore", "oa_store.specs.Changes.IsUpgrade", "oa_store.specs.Faults.IsBrought"],
 }
 # more than this nobody should have to read
-LIMITS = {"Turn": 810, "IsLived": 1_175}
+LIMITS = {"Turn": 810, "IsLived": 1_335}
 
-# what IsLived speaks of, each with the crates that say it
+PROMISE = re.compile(r"^(\d)\. (.*?)(?=^\d\. |^#|^\S|\Z)", re.MULTILINE | re.DOTALL)
+
+# the subjects of IsLived, each with the crates that define it
 SUBJECTS = {
     "a library: its text, its canonical text, its checks, its members, its description": "tokens idl canonical checks typelib keeps description",
-    "what is decided of a request, and what its turn makes of the table": "bind coerce decision turn table fits",
-    "images of values, events and tables, the disk, the store": "layout image disk journal store keeper",
-    "sessions over streams, groups, openings, stops": "stream frame groups server history",
-    "values, and how they lie in the bytes of a request or a reply": "array bstr variant ndr wire_text wire_array wire_variant",
+    "decisions on requests, and their effect on the table": "bind coerce decision turn table fits",
+    "encodings of values, events and tables, the disk, the store": "layout image disk journal store keeper",
+    "sessions over streams, commit groups, locks and their owners, recovery, crashes": "stream frame share groups owners server history",
+    "values, and their bytes in a request or reply": "array bstr variant ndr wire_text wire_array wire_variant",
     "codes, limits, types and their numbers": "model",
     "requests and replies": "record",
 }
 
-COLUMNS = "| Sentence | Word | Definitions | Lines | Files | Crates |"
+COLUMNS = "| Promise | Definition | Definitions below | Lines | Files | Crates |"
 TABLE = re.compile(rf"^{re.escape(COLUMNS)}\n(?:\|.*\n)*", re.MULTILINE)
-SUBJECT_COLUMNS = "| What `IsLived` speaks of | Definitions | Lines |"
+SUBJECT_COLUMNS = "| Subject of `IsLived` | Definitions | Lines |"
 SUBJECT_TABLE = re.compile(rf"^{re.escape(SUBJECT_COLUMNS)}\n(?:\|.*\n)*", re.MULTILINE)
 
 NAME = r"[A-Za-z_][\w'\-]*"
@@ -62,11 +62,14 @@ class Book:
     """The definitions of all specs/, each by its module and its name; `laws` are those that are none, but are proved."""
 
     def __init__(self):
-        self.definitions, self.imports, self.modules, self.laws = {}, {}, {}, set()
+        self.definitions, self.imports, self.modules, self.laws, self.names = {}, {}, {}, set(), {}
         for crate in sorted(os.listdir(f"{ROOT}/crates")):
             for folder, _, names in os.walk(f"{ROOT}/crates/{crate}/specs"):
                 for name in sorted(it for it in names if it.endswith(".antt")):
                     self.read(os.path.relpath(f"{folder}/{name}", f"{ROOT}/crates"))
+        self.own = collections.defaultdict(dict)
+        for key in self.definitions:
+            self.own[key[0]][key[1]] = key
 
     def read(self, path):
         module = path[: -len(".antt")].replace("/", ".")
@@ -110,10 +113,18 @@ class Book:
         return module, name
 
     def named_by(self, key):
-        """What a definition names, in the order in which it does: other definitions, and what is not to be read on."""
+        """The names in a definition, in their order: other definitions, and names that end the reading. Each definition is read once."""
+        if key not in self.names:
+            self.names[key] = self.names_in(key)
+        return self.names[key]
+
+    def names_in(self, key):
         module, own = key
         text = "\n".join(re.sub(r"--.*", "", line) for line in self.definitions[key].lines)
-        known = {**self.imports[module], **{name: (of, name) for of, name in self.definitions if of == module and name != own}}
+        known = {**self.imports[module], **self.own[module]}
+        known.pop(own, None)
+        if own in self.imports[module]:
+            known[own] = self.imports[module][own]
         signs = {it: it.strip("◌") for it in known if it.startswith("◌")}
         # steps of a `do` are joined by the operator of the module
         meant = [it for it, sign in signs.items() if f" {sign} " in text or sign == ">>=" and "←" in text]
@@ -122,7 +133,7 @@ class Book:
         return list(dict.fromkeys(self.where(it) for it in found if it))
 
     def where(self, key):
-        """Where a definition stands that may be imported by way of another module."""
+        """The place of a definition that may be imported by way of another module."""
         module, name = key
         further = None if key in self.definitions else self.imports.get(module, {}).get(name)
         return self.where(further) if further else key
@@ -146,13 +157,24 @@ def root_of(word):
     return module, name
 
 
+def roots_of(word):
+    """The definitions of an entry of SENTENCES."""
+    return [root_of(it) for it in ([word] if isinstance(word, str) else word)]
+
+
+def promises(path):
+    """The promises that a page lists below its heading, in words, by their numbers."""
+    with open(path, encoding="utf-8") as file:
+        section = file.read().split("## What is proved\n", 1)[-1].split("## The promises\n", 1)[-1].split("\n## ", 1)[0]
+    return {int(number): " ".join(text.split()) for number, text in PROMISE.findall(section)}
+
+
 def counts(book):
     rows = []
     for number, words in SENTENCES.items():
-        for word in words if number in (8, 9) else [words[0] if len(words) == 1 else words]:
-            roots = [root_of(it) for it in ([word] if isinstance(word, str) else word)]
+        for roots in map(roots_of, words):
             keys = book.closure(roots)
-            name = "what `Disk` says" if number == 6 else f"`{roots[0][1]}`"
+            name = f"`{roots[0][1]}`" if len(roots) == 1 else "the clauses of `Disk`"
             rows.append((number, name, len(keys), book.lines(keys), len({it[0] for it in keys}), len({it[0].split(".")[0] for it in keys})))
     return rows
 
@@ -162,7 +184,7 @@ def table(rows):
 
 
 def subject_table(book):
-    keys = book.closure([root_of(SENTENCES[8][0])])
+    keys = book.closure(roots_of(SENTENCES[2][0]))
     parts = {it: [key for key in keys if key[0].split(".")[0].removeprefix("oa_") in crates.split()] for it, crates in SUBJECTS.items()}
     rows = [f"| {it} | {len(some):,} | {book.lines(some):,} |" for it, some in parts.items()]
     if sum(map(len, parts.values())) != len(keys):
@@ -173,7 +195,7 @@ def subject_table(book):
 def write(book, folder):
     os.makedirs(folder, exist_ok=True)
     for number, words in SENTENCES.items():
-        keys = book.closure([root_of(it) for it in words])
+        keys = book.closure([root for it in words for root in roots_of(it)])
         with open(f"{folder}/sentence-{number}.antt", "w", encoding="utf-8") as file:
             for key in keys:
                 definition = book.definitions[key]
@@ -183,7 +205,7 @@ def write(book, folder):
 
 def main(words):
     book = Book()
-    unknown = [it for some in SENTENCES.values() for it in some if root_of(it) not in book.definitions]
+    unknown = [".".join(it) for some in SENTENCES.values() for word in some for it in roots_of(word) if it not in book.definitions]
     if unknown:
         sys.exit(f"no definition is named {', '.join(unknown)}")
     rows = counts(book)
@@ -195,10 +217,14 @@ def main(words):
     elif words == ["--check"]:
         is_told = table(rows) in page and subject_table(book) in page
         if not is_told:
-            print("docs/reading-the-proofs.md has other tables: python3 tools/spec.py --write")
+            print("docs/internals/reading-the-proofs.md has other tables: python3 tools/spec.py --write")
         long = [f"{name}: {many} definitions, for {LIMITS[name.strip('`')]}" for _, name, many, *_ in rows if many > LIMITS.get(name.strip("`"), many)]
         print("\n".join(long), end="\n" if long else "")
-        return 0 if is_told and not long else 1
+        told = promises(README)
+        is_one_list = told == promises(PAGE) and {*told} == {*SENTENCES}
+        if not is_one_list:
+            print("README.md and docs/internals/reading-the-proofs.md have other promises, or other numbers than this file")
+        return 0 if is_told and is_one_list and not long else 1
     elif len(words) == 1 and not words[0].startswith("-"):
         write(book, words[0])
     else:

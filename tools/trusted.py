@@ -1,12 +1,12 @@
 #!/usr/bin/env python3
-"""What the proofs of the program stand on, in the build's own words: the block of docs/trusted.md.
+"""The premises of the program's proofs, in the build's own words: the block of docs/internals/trusted.md.
 
     python3 tools/trusted.py LOG PROGRAM            compares the page with LOG, what `rt ci` printed, and with the built program
     python3 tools/trusted.py --write LOG PROGRAM    writes it into the page
 
-Of the program's crate the build names each library whose statements it took as proved (the kit's: those of this repository it has proved in the same run, or
-in an earlier one over the same files), and how many functions in C of each have contracts that it assumed. `nm` names the functions that the linked program
-takes of the C library.
+The build names each library of the program's crate whose statements it took as proved, and how many functions in C of each have contracts that it assumed.
+These libraries are the kit's: those of this repository it has proved, in the same run or an earlier one. `nm` names the functions that the linked program takes
+of the C library.
 """
 import os
 import re
@@ -16,13 +16,13 @@ import sys
 import textwrap
 
 ROOT = os.path.dirname(os.path.dirname(os.path.abspath(__file__)))
-PAGE = f"{ROOT}/docs/trusted.md"
+PAGE = f"{ROOT}/docs/internals/trusted.md"
 BLOCK = re.compile(r"(?<=```text\n).*?(?=```)", re.DOTALL)
 NOT_OF_C = ("_ITM_", "__gmon_start__", "__cxa_finalize", "__libc_start_main")  # of the loader
 
 
 def said_of(log):
-    """What the log says of the program's crate, or None where it was kept from an earlier run of the same files, of which the build says no more."""
+    """The log's lines about the program's crate, or None if it was kept from an earlier run of the same files."""
     with open(log, encoding="utf-8", errors="replace") as file:
         lines = file.read().split("\n")
     if "rt: oaut proved" not in lines:
@@ -40,7 +40,7 @@ def said_of(log):
 
 
 def taken_by(program):
-    """The functions of the C library that a program takes, or None where nm is not there."""
+    """The functions of the C library that a program takes, or None if nm is not installed."""
     if shutil.which("nm") is None:
         return None
     told = subprocess.run(["nm", "-D", "--undefined-only", program], check=True, capture_output=True, text=True).stdout
@@ -84,7 +84,7 @@ def main(words):
         rows = []
     other = [it for it in rows + linked if it not in block]
     for it in other:
-        print(f"docs/trusted.md does not say: {it}", end="")
+        print(f"docs/internals/trusted.md does not say: {it}", end="")
     print(f"{len(rows) + len(linked) - len(other)} passed, {len(other)} failed")
     return 1 if other else 0
 

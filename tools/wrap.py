@@ -58,7 +58,7 @@ def main():
     parser.add_argument("pages", metavar="PAGE", nargs="*")
     given = parser.parse_args()
     well = True
-    for path in given.pages or sorted(glob.glob(f"{ROOT}/docs/*.md") + glob.glob(f"{ROOT}/*.md")):
+    for path in given.pages or sorted(glob.glob(f"{ROOT}/docs/**/*.md", recursive=True) + glob.glob(f"{ROOT}/*.md")):
         with open(path, encoding="utf-8") as file:
             text = file.read()
         long = [line for line in text.split("\n") if len(line) > COLUMNS]

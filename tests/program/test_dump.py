@@ -273,7 +273,7 @@ class Dump(Dumped):
         self.tell("dump: memory refused", (status, out, err) == (5, b"", fault("out of memory")), (status, short(out), err))
 
     def test_the_bytes_of_the_page_on_stores(self):
-        with open(f"{ROOT}/docs/store.md", encoding="utf-8") as file:
+        with open(f"{ROOT}/docs/reference/store.md", encoding="utf-8") as file:
             page = file.read().split("A store after four requests\n")[-1]
         before, rest = page.split("A checkpoint then writes")
         behind, old = rest.split("### The same in format 1")
@@ -282,7 +282,7 @@ class Dump(Dumped):
         for part, disk, least in ((before, TWO, 6), (behind, settled, 6), (old, OLD, 2)):
             rows = re.findall(r"^    ([0-9a-f]{8})((?: +[0-9a-f]{2})+)(?:  \|.*\|)?$", part, re.MULTILINE)
             wrong = [place for place, found in rows if not disk[int(place, 16) :].startswith(bytes.fromhex(found))]
-            self.tell("docs/store.md: each byte that is shown stands at its place", len(rows) > least and not wrong, wrong or len(rows))
+            self.tell("docs/reference/store.md: each byte that is shown stands at its place", len(rows) > least and not wrong, wrong or len(rows))
 
 
 @unittest.skipIf(STRACE is None, "strace is not there: the calls of the system are not looked at, and no call is made to fail")

@@ -12,15 +12,17 @@ import model
 import store
 from model import LIBRARY
 from preloaded import fast_folder
-from running import Cases, fill, rows_of
+from running import Cases, fill, goes_on, rows_of
 
 SECONDS, SEED = float(os.environ.get("OAUT_FUZZ") or 8), int(os.environ.get("OAUT_SEED") or 1)
+LEAST = 101  # of each kind, however slow the machine is
 
 
-def found_by(part, seconds=SECONDS, most=5):
+def found_by(part, seconds=SECONDS, most=5, least=LEAST):
+    goes_on()
     with tempfile.TemporaryDirectory(dir=fast_folder()) as room:
         fill(room, {"lib.idl": LIBRARY})
-        return part(room, seconds, SEED, most)
+        return part(room, seconds, SEED, most, least)
 
 
 def away_from_zero(count, scale, places):
@@ -57,7 +59,7 @@ class Fuzzed(Cases):
     def fuzzed(self, part):
         found = found_by(part)
         print(f"fuzz: {found}", flush=True)
-        self.tell(f"{found.what}", not found.differ and found.tried > 100, "\n  ".join(found.differ) or f"only {found.tried} were tried")
+        self.tell(f"{found.what}", not found.differ and found.tried >= LEAST, "\n  ".join(found.differ) or f"only {found.tried} were tried")
 
     def test_records(self):
         self.fuzzed(fuzz.records)
@@ -82,5 +84,5 @@ class Fuzzed(Cases):
     def test_that_a_wrong_rule_is_found(self):
         for name, part, rule, wrong in WRONG_RULES:
             with mock.patch(rule, wrong):
-                found = found_by(part, seconds=15 * SECONDS, most=1)  # (it ends with the first difference)
+                found = found_by(part, seconds=60 * SECONDS, most=1)  # (it ends with the first difference)
             self.tell(f"{name}: found in {found.tried} {found.what}", found.differ, f"{found}")

@@ -6,7 +6,7 @@ import store
 import wire
 from calls import held, text_held
 from codes import E_OUTOFMEMORY
-from running import ARRAYS, CREATE, FULL, SMALL, Talk, fault, fill, run_in, short, within
+from running import ARRAYS, CREATE, FULL, SMALL, TIMEOUT, Talk, fault, fill, run_in, short, within
 from stores import TWO, WITH_ITEM, Served, get, got, put, table, text_put, words
 
 # of puts of texts with these lengths into groups of 4: how many events each group has, and the bytes of the first group's
@@ -51,7 +51,7 @@ class Groups(Served):
                 with Talk(FULL, ("--hex", "--group", "4"), room=room, command=("serve", "it.store")) as session:
                     for tag, length in enumerate(lengths):
                         session.send(text_put(bytes(length), tag)[1])
-                    told = bool(select.select([session.process.stdout], [], [], 20 if ended else 0.5)[0])
+                    told = bool(select.select([session.process.stdout], [], [], TIMEOUT if ended else 0.5)[0])
                     self.tell(f"serve: replies to texts of {lengths} bytes before more is sent, groups of 4: {ended}", told == ended)
                     session.process.stdin.close()
                     self.tell(

@@ -167,12 +167,13 @@ class Records(Cases):
         claims += [changed(request, place, "I", MOST) for _, request, place in COUNTED]
         bodies = tagged(claims)
         asked, due = oaut.Raw.pack(bodies), oaut.Raw.pack(map(stub, bodies))
-        with Talk(LIBRARY, words=()) as session:
+        # (the system counts the pages of a process on each processor, and tells a sum that lacks up to 31 of some kinds)
+        with Talk(LIBRARY, words=(), under=("taskset", "-c", str(min(os.sched_getaffinity(0))))) as session:
             session.send(oaut.Raw.pack(tagged([oaut.ask_create(worked.ITEM)])))
             session.bytes(28)
             session.send(asked)
             begins = session.bytes(len(due)) == due, session.peak()
-            times = 60
+            times = 240
             well = True
             for _ in range(times):
                 session.send(asked)
@@ -180,7 +181,7 @@ class Records(Cases):
             more = session.peak() - begins[1]
             self.tell(
                 f"{times * len(bodies)} claims take no more memory than {len(bodies)}",
-                (begins[0], well, more <= 64) == (True, True, True),
+                (begins[0], well, more <= 256) == (True, True, True),
                 (begins, well, more),
             )
 

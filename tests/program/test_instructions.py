@@ -11,6 +11,7 @@ class Instructions(Cases):
     def test_a_put_into_a_large_table(self):
         few, many = (instructions.of_requests(it, ("put",))["put"] for it in (10, 60_000))
         self.tell("a put among 60,000 objects takes at most twice the instructions of one among 10", 0 < many <= 2 * few, (few, many))
+        self.compare({"put-among-60000-objects": many})
 
     def test_a_put_into_a_large_object(self):
         few, many = map(instructions.of_a_put, (10, 3_000))
@@ -19,6 +20,7 @@ class Instructions(Cases):
     def test_a_new_cell_of_a_large_object(self):
         few, many = map(instructions.of_a_new_cell, (1_000, 300_000))
         self.tell("a put of a new cell among 300,000 of an object takes at most twice the instructions of one among 1,000", 0 < many <= 2 * few, (few, many))
+        self.compare({"put-among-300000-cells": many})
 
     def test_no_rise_above_what_is_committed(self):
         found = {way: instructions.of_longs(way) for way in instructions.LONGS}

@@ -19,7 +19,7 @@ from turns import COCLASS
 LARGER, MANY = 67_108_864, 536_870_912  # bytes of a bank
 RESERVED = 5_242_880  # of these, beside a table
 OBJECTS, EACH = 60_000, 8_000
-HUGE = 4_000  # objects with one of the longest texts each
+HUGE = 4_075  # objects with one of the longest texts each: more would not fit the largest banks
 MEMORY = os.sysconf("SC_PAGE_SIZE") * os.sysconf("SC_PHYS_PAGES")
 TEXT = EACH - 24 - full.CELL - 6  # bytes of the text of an object that has one cell
 

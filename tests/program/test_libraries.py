@@ -56,8 +56,9 @@ class Libraries(Played):
         self.case("a folder for a library", ["play", ".", "--hex"], 1, b"", cannot("read", ".", "EISDIR"))
 
     def test_words_of_other_idl(self):
-        """Each word of the page's table gets a line behind the place, and the first lines are as they were."""
-        with open(f"{ROOT}/docs/idl.md", encoding="utf-8") as file:
+        """Each word of the page's table gets a line below the place, which names the page, and the first lines are as they were."""
+        page = "docs/reference/idl.md"
+        with open(f"{ROOT}/{page}", encoding="utf-8") as file:
             section = file.read().split("## Words that are left out\n")[1].split("\n## ")[0]
         words = [word for row in re.findall(r"^\| (`.*?) \|", section, re.MULTILINE) for word in re.findall(r"`(\w+)`", row)]
         self.tell(
@@ -88,7 +89,7 @@ class Libraries(Played):
             status, out, err = run(["check", "--where", "lib.idl"], files={"lib.idl": text})
             lines = err.decode().splitlines()
             alone = run(["check", "lib.idl"], files={"lib.idl": text})
-            told = [f'note: automation IDL has {word}, which is left out here: docs/idl.md, "Words that are left out"'] if word else []
+            told = [f'note: {word} is not supported: see {page}, "Words that are left out"'] if word else []
             well = (status, out, alone) == (2, b"", (2, b"", err[: err.find(b"\n") + 1])) and lines[0].startswith("oaut: syntax at byte ") and lines[3:] == told
             self.tell(f"check --where: {new.decode()[:40]}", well, err)
 

@@ -20,7 +20,7 @@ from stores import CLASS, DUE_ASKED, OLD, nearly_full
 from wire import oaut
 
 MEBIBYTE = 1_024  # KiB
-PAGES = 256  # KiB that may come and go without a growth of the program
+PAGES = 512  # KiB that may come and go without a growth of the program, and what the system's count of pages lacks on one processor
 LARGE = 65_536
 OLD_FULL = 14_680_064  # bytes of the image of a table, the most that a server kept in format 1
 LITTLE = 32 * 2**20  # for a session that begins: a line has 8 MiB, a body 4

@@ -1,10 +1,11 @@
 """The memory of a shared session: of a client that is there no more is kept than what came of one record, whatever its length says, and twice of that at most."""
 import struct
 
-from running import SMALL, Cases, Talk
+from running import SMALL, Cases, Talk, run
 from sharing import BODY_LIMIT, STUB, oaut
 
 CLIENTS = 1_000
+MOST = 65_536  # clients that are there at once in one session
 ASKS = 5_000  # the number of who asks whether all before was read
 NONE = struct.pack("<IIHH", 8, 77, 99, 0)
 NO_REQUEST = struct.pack("<IIIII", 16, 77, 0x8007_06F7, oaut.NO_INDEX, 0)
@@ -63,3 +64,11 @@ class SharedMemory(Cases):
             session.process.stdin.close()
             ends = oaut.frames.join([*((it, b"") for it in range(20)), (ASKS, b"")])
             self.tell("its end", session.status() == 0 and session.process.stdout.read() == ends)
+
+    def test_sixty_five_thousand_clients_are_there_at_once(self):
+        """None of them is refused: each has sent half of its record before any has sent the other half."""
+        everybody = range(MOST)
+        given = oaut.frames.join([*((it, NONE[:6]) for it in everybody), *((it, NONE[6:]) for it in everybody)])
+        wanted = oaut.frames.join([*((it, NO_REQUEST) for it in everybody), *((it, b"") for it in everybody)])
+        status, out, err = run(("play", "--shared", "small.idl"), given, {"small.idl": SMALL})
+        self.tell("each is answered, and then told its end", (status, out == wanted, err) == (0, True, b""), (status, len(out), err[:200]))

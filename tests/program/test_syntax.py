@@ -147,6 +147,14 @@ class Where(Played):
             b"oaut: syntax at byte 0\na\\u{a}:1:1: ;\n            ^\n",
             files={"a\n": b";"},
         )
+        self.case(
+            "check --where: a file's name with more bytes than characters",
+            ["check", "--where", "\u00e9\u20ac\U0001f600.idl"],
+            2,
+            b"",
+            "oaut: syntax at byte 0\n\u00e9\u20ac\U0001f600.idl:1:1: ;\n             ^\n".encode(),
+            files={"\u00e9\u20ac\U0001f600.idl": b";"},
+        )
         self.case("check --where: standard input", ["check", "--where", "-"], 2, b"", b"oaut: syntax at byte 0\n-:1:1: ;\n       ^\n", given=b";")
         self.case("check --where: a library", ["check", "--where", "lib.idl"], 0, FULL_TEXT, b"", files={"lib.idl": FULL})
         self.case(

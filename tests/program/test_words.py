@@ -52,11 +52,11 @@ class Words(Cases):
             (["--help"], b"\n  oaut play examples/small.idl --hex < examples/first.hex\n"),
             (["play", "--help"], b"Usage: " + CALLED + b" play [OPTIONS] <LIB>"),
             (["play", "--help"], b"\n  oaut play examples/small.idl --hex < examples/first.hex\n"),
-            (["play", "--help"], b"\n      --shared  Take the records of many clients in frames"),
+            (["play", "--help"], b"\n      --shared  Read the records of many clients in frames"),
             (["serve", "--help"], b"--shared"),
             (["check", "--help"], b"Usage: " + CALLED + b" check [OPTIONS] <LIB>"),
             (["check", "--help"], b"\n  oaut check examples/full.idl\n  oaut check --where - < examples/full.idl\n"),
-            (["--version"], b"oaut 0.1.0"),
+            (["--version"], b"oaut 0.2.0"),
         ):
             status, out, err = run(words)
             self.tell(f"the words {words} are answered", (status, said in out, err) == (0, True, b""), (status, out, err))
@@ -65,10 +65,10 @@ class Words(Cases):
             (["--help"], b"\n  dump"),
             (["--help"], b"\n  upgrade"),
             (["format", "--help"], b"Usage: " + CALLED + b" format [OPTIONS] <STORE> <LIB>"),
-            (["format", "--help"], b"One that is there begins anew"),
+            (["format", "--help"], b"An existing file keeps its length, and its objects are erased"),
             (["format", "--help"], b"--bank <B>"),
             (["upgrade", "--help"], b"Usage: " + CALLED + b" upgrade [OPTIONS] <STORE>"),
-            (["upgrade", "--help"], b"There is no way back."),
+            (["upgrade", "--help"], b"There is no conversion back."),
             (["dump", "--help"], b"Usage: " + CALLED + b" dump [OPTIONS] <STORE>"),
             (["dump", "--help"], b"--library"),
         ):

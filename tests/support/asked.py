@@ -1,4 +1,5 @@
-"""Requests read from their bytes, by docs/records.md and docs/wire.md alone, and answered by the model: what the server has to reply to any body at all.
+"""Requests read from their bytes, by docs/reference/records.md and docs/reference/wire.md alone, and answered by the model: what the server has to reply to any
+body at all.
 
 `Answering().reply(body)` is the reply to a body, refused or not; its `model` has the objects that are there then.
 """

@@ -1,9 +1,10 @@
 """What a crash may leave of a real store's file, image by image, and what the program makes of each.
 
 A command runs under strace, which tells each write and sync of its store's file with the bytes, and each write of standard output between them. At each moment of that run a crash
-may leave what was there at the last sync that had ended, with any bytes in the ranges that were written since (docs/faults.md). So at each moment images are made of the writes that
-no sync has followed: dropped, kept, filled with 0, 1, 7 and 0xFF, cut at many places, torn by sectors, some of them kept and others not, in another order. One file is patched for each
-image, opened by `oaut dump` and by tests/support/store.py, which share no code, and put back. What both say has to be a state that is allowed at that moment, by the model in cli/.
+may leave what was there at the last sync that had ended, with any bytes in the ranges that were written since (docs/internals/faults.md). So at each moment
+images are made of the writes that no sync has followed: dropped, kept, filled with 0, 1, 7 and 0xFF, cut at many places, torn by sectors, some of them kept and
+others not, in another order. One file is patched for each image, opened by `oaut dump` and by tests/support/store.py, which share no code, and put back. What
+both say has to be a state that is allowed at that moment, by the model in cli/.
 """
 import collections
 import itertools

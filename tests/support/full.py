@@ -1,4 +1,5 @@
 """Stores whose table is as large as it may be, and the memory of a server over one while it is asked something."""
+import os
 import re
 import struct
 import subprocess
@@ -103,12 +104,18 @@ def laid_objects(room, text, objects, form=2):
     return len(image)
 
 
+def on_one_processor():
+    """Keeps this process, and what it starts, on one processor: the system counts the pages of a process on each, and tells a sum that lacks some of them."""
+    os.sched_setaffinity(0, {min(os.sched_getaffinity(0))})
+
+
 class Serving:
     """A server over the store of a folder, which is asked one thing at a time."""
 
     def __init__(self, room):
         self.room = room
-        self.child = subprocess.Popen([PROGRAM, "serve", f"{room}/it.store", f"{room}/lib.idl"], stdin=subprocess.PIPE, stdout=subprocess.PIPE)
+        words = [PROGRAM, "serve", f"{room}/it.store", f"{room}/lib.idl"]
+        self.child = subprocess.Popen(words, stdin=subprocess.PIPE, stdout=subprocess.PIPE, preexec_fn=on_one_processor)
 
     def __enter__(self):
         return self
@@ -162,7 +169,7 @@ def opening(room):
 
 def peak_of_run(*words):
     """The most memory that a run of the program takes, in KiB, where that is more than some 9 MiB, which what starts it takes; and its seconds."""
-    act = "import os, sys, time; t = time.perf_counter(); it = os.wait4(os.posix_spawn(sys.argv[1], sys.argv[1:], os.environ), 0); print(it[1], it[2].ru_maxrss, time.perf_counter() - t, file=sys.stderr)"
+    act = "import os, sys, time; os.sched_setaffinity(0, {min(os.sched_getaffinity(0))}); t = time.perf_counter(); it = os.wait4(os.posix_spawn(sys.argv[1], sys.argv[1:], os.environ), 0); print(it[1], it[2].ru_maxrss, time.perf_counter() - t, file=sys.stderr)"
     run = subprocess.run(
         [sys.executable, "-S", "-c", act, PROGRAM, *words], check=True, stdin=subprocess.DEVNULL, stdout=subprocess.DEVNULL, stderr=subprocess.PIPE
     )

@@ -95,6 +95,7 @@ class Found:
 
 
 # --- records
+# (each kind goes on for so many seconds, and until it has tried at least so many)
 
 OPCODES = range(1, 12)
 REQUESTS = 1_000  # of one session
@@ -122,10 +123,10 @@ def bodies(dice, answering):
         yield body
 
 
-def records(room, seconds, seed, most=5):
+def records(room, seconds, seed, most=5, least=0):
     """Sessions of records against the model."""
     found, until = Found("records"), time.monotonic() + seconds
-    while time.monotonic() < until and len(found.differ) < most:
+    while (time.monotonic() < until or found.tried < least) and len(found.differ) < most:
         dice, answering, asked, due = Dice(seed), Answering(), [], []
         for body in bodies(dice, answering):
             asked.append(body)
@@ -184,10 +185,10 @@ def stream(dice, shared):
     return bytes(given), told
 
 
-def frames(room, seconds, seed, most=5):
+def frames(room, seconds, seed, most=5, least=0):
     """Sessions of many clients against the model, in memory and over a store."""
     found, until = Found("requests in frames"), time.monotonic() + seconds
-    while time.monotonic() < until and len(found.differ) < most:
+    while (time.monotonic() < until or found.tried < least) and len(found.differ) < most:
         dice, shared = Dice(seed), sharing.Sharing()
         given, due = stream(dice, shared)
         due += shared.told(b"")
@@ -292,10 +293,10 @@ def judged_text(room, content):
     return kind, f"--where tells {placed}" if placed[0] != 2 or placed[1] or not placed[2].startswith(said) else None
 
 
-def libraries(room, seconds, seed, most=5):
+def libraries(room, seconds, seed, most=5, least=0):
     """Texts for `check`."""
     found, until, texts = Found("libraries"), time.monotonic() + seconds, known_texts()
-    while time.monotonic() < until and len(found.differ) < most:
+    while (time.monotonic() < until or found.tried < least) and len(found.differ) < most:
         dice = Dice(seed)
         content = spoiled_text(dice, dice.choice(texts), texts)
         kind, wrong = judged_text(room, content)
@@ -461,11 +462,11 @@ def judged_store(room, file, library):
     return refusal, None
 
 
-def stores(room, seconds, seed, most=5):
+def stores(room, seconds, seed, most=5, least=0):
     """Stores for `dump` and `serve`."""
     found, (files, library) = Found("stores"), known_stores(room)
     until = time.monotonic() + seconds
-    while time.monotonic() < until and len(found.differ) < most:
+    while (time.monotonic() < until or found.tried < least) and len(found.differ) < most:
         dice = Dice(seed)
         file, layout = dice.choice(files)
         file.lay()

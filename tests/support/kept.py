@@ -1,4 +1,5 @@
-"""Libraries of the model: their canonical text, what a second one has to keep of the first, and random changes of one. Written from docs/idl.md and docs/library.md alone."""
+"""Libraries of the model: their canonical text, what a second one has to keep of the first, and random changes of one. Written from docs/reference/idl.md and
+docs/reference/library.md alone."""
 import copy
 import uuid
 

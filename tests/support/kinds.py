@@ -35,7 +35,7 @@ def with_parameters(count):
     }
 
 
-# how many times a put of a long a kind takes at most, and which takes more (docs/DECISIONS.md, "Speed")
+# how many times a put of a long a kind takes at most, and which takes more (docs/internals/decisions/instruction-counts.md)
 MOST, SLOWER = 3, {
     **{f"{way}-{count}-keys": 4.5 for count in (1, 2, 3) for way in ("put", "get")},
     **{"put-array": 6.5, "put-element": 6.5, "redim": 6, "get-array": 4, "get-element": 4, "lock": 4, "unlock": 4},

@@ -1,4 +1,5 @@
-"""A small model of the server, written from docs/records.md, docs/binding.md, docs/coercion.md, docs/arrays.md, docs/images.md and docs/library.md alone.
+"""A small model of the server, written from docs/reference/records.md, docs/reference/binding.md, docs/reference/coercion.md, docs/internals/arrays.md,
+docs/reference/images.md and docs/reference/library.md alone.
 
 A value of the model is a pair of a type and its content, as `oaut.scalar_field` takes them, or an `Array`.
 """

@@ -10,6 +10,7 @@ import resource
 import select
 import signal
 import subprocess
+import sys
 import tempfile
 import time
 import unittest
@@ -40,7 +41,14 @@ REPLIES = text_of("first.out")
 CREATE = REQUESTS.splitlines()[0]
 CREATED = REPLIES.splitlines()[0]
 
-TIMEOUT = 120
+TIMEOUT = 400  # seconds that a run may take, on a machine with other work: it is there for one that hangs
+
+
+def goes_on():
+    """Says that a test has got something done: tools/cases.py, which ends all where nothing happens for long, waits as long again."""
+    watch = getattr(sys.modules["__main__"], "watch", None)
+    if watch:
+        watch()
 
 
 PIECE = 1 << 18
@@ -197,7 +205,7 @@ def cannot(act, name, why):
 
 
 def short(it):
-    return it if it is None or len(it) <= 420 else it[:300] + b" .. " + it[-100:]
+    return it if it is None or len(it) <= 420 else it[:300] + (" .. " if isinstance(it, str) else b" .. ") + it[-100:]
 
 
 def told(wanted, got):

@@ -1,5 +1,5 @@
-"""What a shared session is to hand out, by docs/shared.md and the model alone: `Sharing().told(stream)` is what is told behind a stream of frames, as pairs of a client and a reply behind its
-length, or of a client and no bytes at its end."""
+"""What a shared session is to hand out, by docs/reference/shared.md and the model alone: `Sharing().told(stream)` is what is told behind a stream of frames, as
+pairs of a client and a reply behind its length, or of a client and no bytes at its end."""
 import collections
 import struct
 

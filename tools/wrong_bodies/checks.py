@@ -6,12 +6,12 @@ import subprocess
 
 from .sources import functions_of
 
-# What makes the prover print no help for a function's open goals, which takes it a second run of their searches: an answer that it refuses at once.
+# Keeps the prover from printing help for a function's open goals, which would need a second run of their searches: a proof step that it refuses at once.
 SILENT = "\n-- (no help is wanted for what is open)\nno-help : not-said\nno-help = not-said\n"
 
 
 def copy(kept, to):
-    """Copies what checks kept. The prover replaces files and writes into none, so links serve, where both lie on one disk."""
+    """Copies what checks kept. The prover replaces files and writes into none, so links are enough if both are on one disk."""
     if subprocess.run(["cp", "-al", kept, to], stderr=subprocess.DEVNULL).returncode:
         shutil.rmtree(to, ignore_errors=True)
         subprocess.run(["cp", "-a", kept, to], check=True)
@@ -36,8 +36,8 @@ class Checks:
     def cut(self, folder, texts, spared):
         """Takes the bodies and proofs of all functions but these, by their files and paths, out of the copy.
 
-        What stands instead is a body that never ends, with an empty file as its proof, which is refused at once. Whoever calls it is proved by its contract all
-        the same, and is told apart from one that falls by itself; the rest of the crate need not be proved again. Where a cycle of calls has its proof, all
+        Its place has a body that never ends, with an empty file as its proof, which is refused at once. Its callers are proved by its contract all the same,
+        and can be distinguished from those that fall by themselves. The rest of the crate need not be proved again. If a cycle of calls has its proof, all
         functions of the module stay."""
         for path in {path for path, _ in self.sources.functions}:
             text = texts.get(path) or self.sources.text(path)
@@ -66,7 +66,7 @@ class Checks:
                 made.write(own.sub(twin.path.replace("::", "."), it.read()))
 
     def silence(self, folder, function):
-        """Adds the answer that spares the help for a function's open goals, where its proof is of answers. Its own goals are searched as before."""
+        """Adds the answer that spares the help for a function's open goals, if its proof consists of answers. Its own goals are searched as before."""
         *outer, name = function.path.split("::")
         outer = "/".join([f"{folder}/proofs", *outer])
         if os.path.isfile(f"{outer}/{name}/Proof.antt") or os.path.isdir(f"{outer}/+{name}"):
@@ -76,7 +76,7 @@ class Checks:
             it.write(SILENT)
 
     def check(self, texts, only, spared=None, twins=(), silent=()):
-        """Checks a copy of the crate with these texts, where twins are pairs of a function and its twin, and returns the exit status and what was said. Where spared is
+        """Checks a copy of the crate with these texts, and returns the exit status and the output. `twins` are pairs of a function and its twin. If `spared` is
         given, no other function keeps its body; of the silent ones no help is printed."""
         folder = self.make(texts, twins)
         if spared is not None:
@@ -86,7 +86,7 @@ class Checks:
         return self.run(folder, only)
 
     def compile(self, texts, twins=()):
-        """Returns the exit status and what was said of such a copy before any proof: the status is 0 where all compiles."""
+        """Returns the exit status and what was said of such a copy before any proof: the status is 0 if all compiles."""
         return self.run(self.make(texts, twins), [""])
 
     def make(self, texts, twins):

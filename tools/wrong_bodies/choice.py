@@ -1,7 +1,7 @@
 """Which wrong bodies the gate tries: all of each crate whose sources, specs, proofs or wrong bodies have changed since all of them were tried, and of the others one part in eight.
 
 The part is chosen by the commit: its hash says which of eight stretches of the list of all edits is tried, so each comes again and again, and none is left out for good. The list is
-by crates, so that a part has few of them: most of what a check costs is read before its first edit. The file wrong-bodies/TRIED names, crate by crate, the commit over which
+by crates, so that a part has few of them: most of what a check costs is read before its first edit. The file tools/wrong_bodies/TRIED names, crate by crate, the commit over which
 all of the crate's edits were tried and refused, and the seconds that this took: by them the stretches take equally long."""
 import datetime
 import functools
@@ -10,17 +10,17 @@ import re
 import subprocess
 
 PARTS = 8
-# what of a crate counts; that a crate below it changed does not, since a crate is proved by the contracts of those below it
+# the files of a crate that count; a change of a crate below does not, since a crate is proved by the contracts of those below it
 SOURCES = ("src", "specs", "proofs")
 FOLDERS = (*SOURCES, "wrong-bodies")
-TRIED = "wrong-bodies/TRIED"
-HEAD = "# CRATE COMMIT DAY COUNT SECONDS: the commit over which all wrong bodies of the crate were tried, how many were refused, and how long it took. bin/wrong-bodies writes it."
+TRIED = "tools/wrong_bodies/TRIED"
+HEAD = "# CRATE COMMIT DAY COUNT SECONDS: the commit over which all wrong bodies of the crate were tried, how many were refused, and how long it took. tools/wrong_bodies writes it."
 # how many crates are named one by one
 NAMED = 6
 
 
 def git(root, *words):
-    """Returns what git says, or None where it fails."""
+    """Returns the output of git, or None if it fails."""
     try:
         ran = subprocess.run(["git", "-C", root, *words], stdout=subprocess.PIPE, stderr=subprocess.DEVNULL, text=True)
     except FileNotFoundError:
@@ -54,7 +54,8 @@ def seconds_of(tried):
 
 
 def said_by(text):
-    """Returns what a text of definitions or proofs names from elsewhere, and what it says: without comments and white space, and without what stands behind a record's last field."""
+    """Returns what a text of definitions or proofs names from elsewhere, and what it says: without comments and white space, and without the text after a
+    record's last field."""
     text, named = re.sub("(?m)--.*", "", text), set()
 
     def name(found):
@@ -65,17 +66,33 @@ def said_by(text):
     return named, re.sub(r" ?([][(){},;]) ?", r"\1", " ".join(rest.split())).replace(";}", "}")
 
 
+# a string, a character, or a comment, of Rust
+RUST = re.compile(r'"(?:\\.|[^"\\])*"|\'(?:\\.|[^\'\\])\'|//[^\n]*', re.DOTALL)
+
+
+def code_of(text):
+    """Returns the code of a source file: its strings, and the words between them, without comments."""
+    code, at = [], 0
+    for found in RUST.finditer(text):
+        code += text[at : found.start()].split()
+        at = found.end()
+        if not found[0].startswith("//"):
+            code.append(found[0])
+    return [*code, *text[at:].split()]
+
+
 def says_the_same(root, commit, path):
-    """Returns whether a file of definitions or proofs is the one of a commit but for comments, and for the lines that it is laid out in."""
-    before = git(root, "show", f"{commit}:{path}") if path.endswith(".antt") else None
+    """Returns whether a file of code, definitions or proofs is the one of a commit but for comments, and for the lines that it is laid out in."""
+    says = {".antt": said_by, ".rt": code_of}.get(os.path.splitext(path)[1])
+    before = git(root, "show", f"{commit}:{path}") if says else None
     if before is None or not os.path.isfile(f"{root}/{path}"):
         return False
     with open(f"{root}/{path}", encoding="utf-8") as it:
-        return said_by(before) == said_by(it.read())
+        return says(before) == says(it.read())
 
 
 def changed_crates(root, commit, folders=FOLDERS):
-    """Returns the crates whose folders differ, committed or not, from how they stood in a commit, or None where it is not in the history."""
+    """Returns the crates whose folders differ, committed or not, from a commit, or None if it is not in the history."""
     if git(root, "merge-base", "--is-ancestor", commit, "HEAD") is None:
         return None
     paths = (git(root, "diff", "--name-only", "-z", commit, "--", "crates") or "") + (
@@ -121,8 +138,8 @@ class Choice:
 
 
 def write_tried(root, counts, below):
-    """Says of these crates, by their counts and seconds, that all of their edits were tried and refused over the commit as it stands; a crate gets no line while it, or one of those
-    below it, is not as in the commit. Returns what was written."""
+    """Says of these crates, by their counts and seconds, that all of their edits were tried and refused over the commit as it is. A crate gets no line while
+    it, or one of those below it, differs from the commit. Returns what was written."""
     head, tried = git(root, "rev-parse", "HEAD"), read_tried(root)
     changed = changed_crates(root, "HEAD") if head else None
     written = [] if changed is None else sorted(it for it in counts if not {it, *below[it]} & changed)

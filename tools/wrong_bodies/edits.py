@@ -1,4 +1,4 @@
-"""Wrong bodies: edits of a crate's files, where they stand, and which of them can be told from one check."""
+"""Wrong bodies: edits of a crate's files, their places, and which of them one check can decide."""
 import os
 import re
 
@@ -6,7 +6,7 @@ from .sources import functions_of
 
 
 class Edit:
-    """A wrong body: its pairs of texts, the functions that it stands in, and those that must fall."""
+    """A wrong body: its pairs of texts, the functions that it is in, and those that must fall."""
 
     def __init__(self, file, sources):
         self.label = f"{os.path.basename(sources.folder)}/{os.path.basename(file)[: -len('.edit')]}"
@@ -37,14 +37,14 @@ class Edit:
             elif line.startswith("new:"):
                 new = line[len("new:") :]
                 if not path or not old:
-                    raise ValueError("a 'new:' line stands before any 'file:' or 'old:' line")
+                    raise ValueError("a 'new:' line is before any 'file:' or 'old:' line")
                 self.pairs.append((path, old, new[1:] if new.startswith(" ") else new))
                 old = None
         if not self.pairs or old is not None:
             raise ValueError("it has no 'old:' and 'new:' pair" if not self.pairs else "an 'old:' line has no 'new:' line")
 
     def apply(self, texts, sources):
-        """Makes the edit in these texts, or raises ValueError and leaves them. What another edit has brought there does not stand in its way."""
+        """Makes the edit in these texts, or raises ValueError and leaves them. Text that another edit has added there is no obstacle."""
         made = dict(texts)
         for path, old, new in self.pairs:
             try:
@@ -60,7 +60,7 @@ class Edit:
         texts.update(made)
 
     def place_of(self, old, path, text, sources):
-        """Returns where the text has what stands once in the file as it is, within the function that holds it there, or -1 where neither is so."""
+        """Returns the place of a text that occurs once in the file as it is, within the function that has it there, or -1 if there is none."""
         whole = sources.text(path)
         holds = [it.path for file, it in sources.functions if file == path and it.start <= whole.find(old) < it.end]
         if whole.count(old) != 1 or not holds:
@@ -71,7 +71,7 @@ class Edit:
         return text.find(old, spans[0][0])
 
     def place(self, sources):
-        """Finds the functions that the edit stands in, and those whose verdict it may change."""
+        """Finds the functions that the edit is in, and those whose verdict it may change."""
         self.apply({}, sources)
         outside = []
         for path, old, _ in self.pairs:
@@ -90,7 +90,7 @@ class Edit:
                 raise ValueError(f"its 'falls:' names {name}, which fits {len(fits)} functions")
             named += fits
         if outside and not named:
-            raise ValueError(f"its text {outside[0][1].strip()[:60]!r} stands in no function, and no line 'falls:' names those that must fall by it")
+            raise ValueError(f"its text {outside[0][1].strip()[:60]!r} is in no function, and no line 'falls:' names those that must fall by it")
         self.touched = {*self.stands, *named}
         for path, old in outside:
             words = re.match(r"\s*(?:pub(?:\([a-z]+\))? )?(?:const|use (?:\w+::)*)\s*(\w+)", old)
@@ -102,8 +102,8 @@ class Edit:
         self.all_must = bool(named)
 
     def for_twin(self, sources):
-        """Returns the edited text of its function with the attributes above it, where a second function with that text and the same contract and proof can stand
-        beside the first, and else None: what a trait names cannot, nor what calls itself or is proved by hand, nor the edit of anything else too."""
+        """Returns the edited text of its function with the attributes above it, if a second function with that text and the same contract and proof can be
+        beside the first, else None. A function that a trait names cannot, nor one that calls itself or is proved by hand, nor an edit of anything else too."""
         if self.alone or self.all_must or len(self.touched) != 1 or len({path for path, _, _ in self.pairs}) != 1:
             return None
         path, function = sources.functions[self.stands[0]]
@@ -125,11 +125,11 @@ class Edit:
         return "\n".join([*attributes, text])
 
     def is_apart(self, other):
-        """Whether the two can be told from one check."""
+        """Whether one check can decide both."""
         return not self.alone and not other.alone and not self.touched & other.touched
 
     def can_be_twin_of(self, other):
-        """Whether one can stand in a twin of the function that the other stands in."""
+        """Whether one can be in a twin of the function that the other is in."""
         return self.twin_text is not None and other.twin_text is not None and self.touched == other.touched
 
 
@@ -151,7 +151,7 @@ def made_of(batch, sources):
 
 
 def batches_of(edits, sources, has_twins):
-    """Sorts edits into batches whose members are apart, or twins where there may be any: those that are apart from fewest go first."""
+    """Sorts edits into batches whose members are apart, or twins if there may be any: those that are apart from fewest go first."""
     is_apart = lambda one, other: one.is_apart(other) or has_twins and one.can_be_twin_of(other)
     apart = {(i, j): is_apart(edits[i], edits[j]) for i in range(len(edits)) for j in range(len(edits)) if i != j}
     order = sorted(range(len(edits)), key=lambda i: sum(apart[i, j] for j in range(len(edits)) if j != i))

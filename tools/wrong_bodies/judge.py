@@ -10,12 +10,22 @@ from .sources import functions_of
 
 BY_CLAUSE, BY_PROOF, STANDS, NOT_TRIED = "refused by a clause", "refused by a proof file alone", "NOT REFUSED", "not tried"
 BY_ANSWER, BY_EDIT = "refused at a term that an answer spells out", "refused for an operation that it brings"
-# what says little of a contract
+# verdicts that say little of a contract
 WEAK = (BY_EDIT, BY_PROOF, BY_ANSWER)
 
 
+# the results for a function that an edit has to fell; the third waits for the functions that it calls
+FELL, STOOD, MASKED_ONLY, UNCLEAR = "fell", "stood", "masked", "unclear"
+
 # the end of the name of a twin's folder
 TWIN = re.compile(r"_twin\d*/")
+
+
+def weak_word(found):
+    """The reason for the refusal of an edit by which no clause fell."""
+    if any(it.is_of_answer for it in found):
+        return BY_ANSWER
+    return BY_PROOF if any(it.is_of_proof for it in found) else BY_EDIT
 
 
 class Verdict(collections.namedtuple("Verdict", "word why")):
@@ -74,7 +84,7 @@ class Judge:
         return {path: functions_of(path, text, self.sources.homes) for path, text in texts.items() if path.endswith(".rt")}
 
     def judge(self, batch, is_last, cuts):
-        """Tries a batch, where cuts over a crate whose other proofs are taken out; returns the edits that are to be tried again."""
+        """Tries a batch; returns the edits that are to be tried again."""
         if time.monotonic() > self.args.until:
             for it in batch:
                 it.verdict = Verdict(NOT_TRIED, "its time was over")
@@ -108,7 +118,7 @@ class Judge:
         return again
 
     def parts_of(self, batch, twins, edited, text):
-        """Where a check did not reach the prover: takes out the edits whose lines its errors name, or halves the batch. One alone gets its verdict."""
+        """If a check did not reach the prover: takes out the edits whose lines its errors name, or halves the batch. One alone gets its verdict."""
         if len(batch) == 1:
             lines = [it for it in text.split("\n") if "error" in it or it.startswith("rattle")] or text.strip().split("\n")[-1:]
             batch[0].verdict = Verdict(NOT_TRIED, f"it did not reach the prover: {lines[0][:200]}")
@@ -121,7 +131,7 @@ class Judge:
         return [part for part in parts if part]
 
     def findings(self, said, function, same, path, texts):
-        """Returns what is open of a function, which stands in a file so now."""
+        """Returns what is open of a function, as a file has it now."""
         span = same.head_in(texts.get(path) or self.sources.text(path)), same.last, path
         return said.findings(same, span, changed_calls(function.text, same.text), function.text, self.answers)
 
@@ -133,7 +143,7 @@ class Judge:
             return ""
 
     def judge_twin(self, it, twin, edited, texts, said, cuts):
-        """Refuses an edit that stands in a twin, where a goal fell. Where none did, or a name in its proof is not found, the edit is tried in the function itself."""
+        """Refuses an edit in a twin if a goal fell. If none did, or a name in its proof is not found, the edit is tried in the function itself."""
         path, function = self.sources.functions[it.stands[0]]
         bad = [v for v in said.of(twin).values() if not v.startswith(("proved", "could not tell"))]
         same = next((f for f in edited[path] if f.path == twin.path), twin)
@@ -146,43 +156,56 @@ class Judge:
         return self.judge([it], False, cuts)
 
     def judge_one(self, it, edited, texts, said, elsewhere, is_last, cuts):
-        """Gives an edit its verdict, or answers that it has to be tried again."""
-        fell, stood, masked, unclear = [], [], [], []
+        """Gives an edit its verdict, or returns that it has to be tried again."""
+        found = collections.defaultdict(list)
         for i in it.must:
-            path, function = self.sources.functions[i]
-            told = said.of(function)
-            bad = [v for v in told.values() if not v.startswith("proved")]
-            name = function.path
-            if not told:
-                unclear.append(f"the prover says nothing of {name}")
-            elif not bad:
-                stood.append(name)
-            elif not any(not MASKED.search(v) and not BLOCKED.search(v) for v in bad):
-                is_open = any(BLOCKED.search(v) for v in bad) or any(function.is_told_by(it) for it in said.waiting)
-                (masked if is_open else stood).append(f"{name}: {bad[0][:100]}" if is_open else name)
-            elif any(v.startswith("could not tell") for v in bad):
-                unclear.append(f"{name}: {bad[0][:100]}")
-            else:
-                same = next((f for f in edited.get(path, []) if f.path == name), function)
-                found = self.findings(said, function, same, path, texts)
-                if cuts and not found and not any(OPEN.search(v) for v in bad):
-                    # (the answer that spares the help was refused, and nothing else was told)
-                    unclear.append(f"{name}: {bad[0][:100]}")
-                    continue
-                clause = next((f.text for f in found if says_of_clause(f)), "" if found else bad[0][:120])
-                word = BY_CLAUSE if clause else BY_ANSWER if any(f.is_of_answer for f in found) else BY_PROOF if any(f.is_of_proof for f in found) else BY_EDIT
-                fell.append((word, f"{name}: {clause or found[0].text}"))
-        if it.all_must and fell and not stood and not masked and not unclear or not it.all_must and fell:
-            it.verdict = Verdict(*max(fell, key=lambda found: [*WEAK, BY_CLAUSE].index(found[0])))
-        elif (masked or unclear or elsewhere) and not is_last:
+            outcome, what = self.outcome_of(i, edited, texts, said, cuts)
+            found[outcome].append(what)
+        if self.is_refused(it, found):
+            it.verdict = Verdict(*max(found[FELL], key=lambda what: [*WEAK, BY_CLAUSE].index(what[0])))
+            return False
+        open_ = found[MASKED_ONLY] or found[UNCLEAR]
+        if (open_ or elsewhere) and not is_last:
             return True
-        elif not it.all_must and not masked and self.by_this_edit(elsewhere):
-            it.verdict = Verdict(BY_CLAUSE, self.by_this_edit(elsewhere)[0])
-        elif masked or unclear:
-            it.verdict = Verdict(NOT_TRIED, (masked or unclear)[0])
+        others = [] if it.all_must or found[MASKED_ONLY] else self.by_this_edit(elsewhere)
+        if others:
+            it.verdict = Verdict(BY_CLAUSE, others[0])
+        elif open_:
+            it.verdict = Verdict(NOT_TRIED, open_[0])
         else:
-            it.verdict = Verdict(STANDS, f"{', '.join(stood)}: proved with this edit")
+            it.verdict = Verdict(STANDS, f"{', '.join(found[STOOD])}: proved with this edit")
         return False
+
+    def is_refused(self, it, found):
+        """Whether the functions that an edit has to fell have fallen: all of them, or one is enough."""
+        return bool(found[FELL]) and not (it.all_must and (found[STOOD] or found[MASKED_ONLY] or found[UNCLEAR]))
+
+    def outcome_of(self, i, edited, texts, said, cuts):
+        """The effect of an edit on a function, and its reason."""
+        function = self.sources.functions[i][1]
+        told, name = said.of(function), function.path
+        bad = [v for v in told.values() if not v.startswith("proved")]
+        if not told:
+            return UNCLEAR, f"the prover says nothing of {name}"
+        if not bad:
+            return STOOD, name
+        if all(MASKED.search(v) or BLOCKED.search(v) for v in bad):
+            is_open = any(BLOCKED.search(v) for v in bad) or any(function.is_told_by(it) for it in said.waiting)
+            return (MASKED_ONLY, f"{name}: {bad[0][:100]}") if is_open else (STOOD, name)
+        if any(v.startswith("could not tell") for v in bad):
+            return UNCLEAR, f"{name}: {bad[0][:100]}"
+        return self.fall_of(i, edited, texts, said, cuts, bad)
+
+    def fall_of(self, i, edited, texts, said, cuts, bad):
+        """Returns the cause of the failure of a function: a clause, its proof, an answer or the text that the edit added."""
+        path, function = self.sources.functions[i]
+        same = next((f for f in edited.get(path, []) if f.path == function.path), function)
+        found = self.findings(said, function, same, path, texts)
+        if cuts and not found and not any(OPEN.search(v) for v in bad):
+            # (the answer that spares the help was refused, and nothing else was told)
+            return UNCLEAR, f"{function.path}: {bad[0][:100]}"
+        clause = next((f.text for f in found if says_of_clause(f)), "" if found else bad[0][:120])
+        return FELL, (BY_CLAUSE if clause else weak_word(found), f"{function.path}: {clause or found[0].text}")
 
     def fallen_elsewhere(self, said, touched, twins):
         """Returns what is not proved of functions that no edit of the batch touches, and not for a function that they call."""
@@ -207,7 +230,7 @@ class Judge:
         return self.bad
 
     def control(self):
-        """Sees that each edited function is proved without its edit; where it is not, a refusal says nothing."""
+        """Sees that each edited function is proved without its edit. If it is not, a refusal says nothing."""
         refused = [it for it in self.edits if it.verdict.is_refusal()]
         for i in sorted({i for it in refused for i in it.must} - self.proved_unedited):
             function = self.sources.functions[i][1]

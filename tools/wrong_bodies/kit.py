@@ -35,8 +35,8 @@ def newest(crate):
 
 
 def build_below(crates, is_proved):
-    """Builds what is lacking of the libraries below these crates, and returns the name of one that is not proved, or None. What rt ci built has no stamp: it is taken
-    where it is newer than its sources."""
+    """Builds what is lacking of the libraries below these crates, and returns the name of one that is not proved, or None. The output of rt ci has no stamp: it
+    is used if it is newer than its sources."""
     built = {}
     for crate in crates:
         for dep in crate.below():

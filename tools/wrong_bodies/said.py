@@ -1,4 +1,4 @@
-"""What the prover says of a check: which functions are proved, which goals are open, and whether more fell than what a proof names."""
+"""The prover's output for a check: which functions are proved, which goals are open, and whether more fell than what a proof names."""
 import collections
 import re
 
@@ -8,13 +8,13 @@ TOLD = re.compile(r"^(?:fn) ([^:\s]\S*?): (.*)$", re.M)
 MASKED = re.compile(r"no proof: it calls .*not proved$")
 BLOCKED = re.compile(r"no proof: the borrow checker's part in its proof is not made yet: a call of ")
 WAITS = re.compile(r"`search` has not tried the goals of `([^`]*)`")
-# What is said of a goal that no file has an answer for.
+# The message for a goal that no file has an answer for.
 OPEN = re.compile(r"`search` did not prove `")
 # A goal of the source, with its name; and what is said at a line of a proof's file, to its end.
 GOAL = re.compile(r"^(?:note: )?(?:\./)?(\S+?):(\d+):\d+: (?:error: |it is not proved that |(?=`search` found no proof))(.*)$", re.M)
 ERROR = re.compile(r"^(?:note: )?(?:\./)?(proofs/(\S+?)/\w+\.antt):(\d+):\d+: error: (.*(?:\n  .*)*)$", re.M)
 NAME = re.compile(r"`([^`\s]+)`")
-# What is said at a name of a proof that stands for nothing: a goal, a fact or a field of before the edit.
+# The message at a name of a proof that does not exist: a goal, a fact or a field of before the edit.
 GONE = re.compile(r"has no field|is not in scope|has no `|was not admitted")
 # The name of a place of the code in a proof, as c.match-read.in-Ok or c.sync-2: the words of it are those of what is called there.
 PLACE = re.compile(r"\bc\.([\w.-]+)")
@@ -31,7 +31,7 @@ Finding = collections.namedtuple("Finding", "text is_of_proof is_of_answer is_of
 
 
 def says_of_clause(finding):
-    """Whether it tells that a clause refuses the edit."""
+    """Returns whether it means that a clause refuses the edit."""
     return not (finding.is_of_proof or finding.is_of_answer or finding.is_of_edit)
 
 
@@ -70,7 +70,7 @@ def kind_of(goal):
 
 
 class Said:
-    """What a check of a crate said."""
+    """The output of a check of a crate."""
 
     def __init__(self, crate_name, status, text):
         self.status, self.text = status, text
@@ -87,9 +87,9 @@ class Said:
         return {name: verdict for name, verdict in self.told if function.is_told_by(name)}
 
     def findings(self, function, span, calls=frozenset(), before="", answers=lambda path: ""):
-        """Returns what the prover left open in a function, in its words, and of each whether it says less than that a clause refuses the edit: the function calls these
-        names more or less often, its text was this before, and these are its answers by their files. The span is that of the function in a file: its first and last
-        line, and the path."""
+        """Returns the goals that the prover left open in a function, and of each whether it says less than that a clause refuses the edit. The function calls
+        the names `calls` more or less often, its text was `before`, and `answers` returns its answers by their files. The span is that of the function in a
+        file: its first and last line, and the path."""
         first, last, path = span
         owner = function.of_type + function.of_trait
         folder = "/".join([*function.modules, *([owner] if owner else []), function.name])

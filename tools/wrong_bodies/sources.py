@@ -1,4 +1,4 @@
-"""What the source files of a crate hold: their types and their functions, in rt fmt's layout, by the names that the prover has for them."""
+"""The contents of a crate's source files: their types and their functions, in rt fmt's layout, by the names that the prover has for them."""
 import os
 import re
 
@@ -16,7 +16,7 @@ class Function:
         return "::".join([*self.modules, *owner, self.name])
 
     def body_at(self):
-        """Returns where in the text the line stands that opens the body, or -1 where no line of its own does so."""
+        """Returns the place in the text of the line that opens the body, or -1 if there is no such line."""
         depth, at = len(self.text) - len(self.text.lstrip()), 0
         for line in self.text.split("\n"):
             if line[depth : depth + 1].strip() and not line[:depth].strip() and (line[depth:] == "{" or line.endswith(" {")):
@@ -35,7 +35,7 @@ class Function:
         return f"{self.text[:at]}{opening} loop {{}} }}" + "\n" * len(others)
 
     def head_in(self, text):
-        """Returns the line of a file's text on which what stands right above the function begins: its attributes, at which the prover tells some goals."""
+        """Returns the line of a file's text on which what is right above the function begins: its attributes, at which the prover tells some goals."""
         lines, first = text.split("\n"), self.first
         while first > 1 and lines[first - 2].strip() and not lines[first - 2].endswith(("{", "}", ";")):
             first -= 1
@@ -66,7 +66,7 @@ class Function:
 
 IMPL = re.compile(r"^(\s*)(?:unsafe )?(impl|trait|pub trait|pub\(\w+\) trait)\b(.*)$")
 FN_CONST = re.compile(r"^\s*(?:pub(?:\([a-z ]+\))? )?const ")
-FN = re.compile(r"^(\s*)(?:pub(?:\([a-z ]+\))? )?(?:const )?(?:unsafe )?fn (\w+)")
+FN = re.compile(r"^(\s*)(?:pub(?:\([a-z ]+\))? )?(?:const )?(?:unsafe )?(?:extern \"C\" )?fn (\w+)")
 
 
 def without_generics(text):
@@ -119,9 +119,9 @@ def modules_of(path):
 
 
 def functions_of(path, text, homes):
-    """Returns the functions of a file in rt fmt's layout, by which an item ends at a brace that stands as deep as its first line.
+    """Returns the functions of a file in rt fmt's layout, by which an item ends at a brace that is as deep as its first line.
 
-    The prover names a type's own method by the module of the type, wherever its impl stands: homes has the modules of each type of the crate."""
+    The prover names a type's own method by the module of the type, wherever its impl is: homes has the modules of each type of the crate."""
     modules = modules_of(path)
     lines, starts, at = text.split("\n"), [], 0
     for line in lines:
@@ -160,7 +160,7 @@ def functions_of(path, text, homes):
 
 
 def is_declared(lines, number, indent):
-    """Whether a trait's function has no body: a line ends in a semicolon before any brace stands as deep as its first line."""
+    """Whether a trait's function has no body: a line ends in a semicolon before any brace that is as deep as its first line."""
     for line in lines[number:]:
         if line.startswith(indent + "{"):
             return False
@@ -170,7 +170,7 @@ def is_declared(lines, number, indent):
 
 
 def is_whole(line, indent):
-    """Whether the line is a body that stands on one line, as deep as its function: '{ .. }'."""
+    """Whether the line is a body of one line, as deep as its function: '{ .. }'."""
     return line.startswith(indent + "{") and line.rstrip().endswith("}") and line.count("{") == line.count("}")
 
 

@@ -1,7 +1,7 @@
 #!/usr/bin/env python3
-"""The test of bin/wrong-bodies: on a crate of nine functions it must tell edits that turn a meaning from one that turns none, and in the gate it must try what it should.
+"""The test of this tool: on a crate of nine functions it must tell edits that turn a meaning from one that turns none, and in the gate it must try what it should.
 
-    python3 tests/wrong_bodies/tool.py
+    python3 tools/wrong_bodies/test_tool.py
 
 The crates are made in a temporary folder, with a history of their own. The edits are tried as anybody would try them and as the gate does (--gate): there the first crate has
 changed since all were tried, and of the second one part in eight is tried.
@@ -14,7 +14,7 @@ import sys
 import tempfile
 
 ROOT = os.path.dirname(os.path.dirname(os.path.dirname(os.path.abspath(__file__))))
-TOOL = os.path.join(ROOT, "bin", "wrong-bodies")
+TOOL = os.path.join(ROOT, "tools", "wrong_bodies")
 sys.dont_write_bytecode = True
 sys.path.insert(0, os.path.join(ROOT, "tools"))
 from wrong_bodies.choice import PARTS, SOURCES, TRIED, Choice, parts_of, read_tried, write_tried
@@ -196,7 +196,7 @@ def commit(root, text):
 
 def ran(root, wanted, last, *flags):
     """Runs the tool, whose lines must begin as wanted, which must end with this line and answer 1."""
-    done = subprocess.run([TOOL, "--jobs", "1", *flags], cwd=root, stdout=subprocess.PIPE, stderr=subprocess.STDOUT, text=True)
+    done = subprocess.run([sys.executable, TOOL, "--jobs", "1", *flags], cwd=root, stdout=subprocess.PIPE, stderr=subprocess.STDOUT, text=True)
     lines = done.stdout.splitlines()
     said = dict(line.partition(": ")[::2] for line in lines if not line.startswith(" "))
     for label, want in wanted.items():
@@ -212,7 +212,7 @@ def tried_over(root, seconds=None, **commits):
 
 
 def answers():
-    """An answer that fails at a term which it spells out itself is told from one that fails elsewhere."""
+    """The tool distinguishes an answer that fails at a term which it spells out from one that fails elsewhere."""
     function = Function(["rows"], "", "", "place", 1, 9, 0, 0, "fn place() {}", False)
     text = "pub one : goal.one\none g c =\n    let row = c.args.near / 64 in\n    there row (c.index.is)\n\npub two : goal.two\ntwo g c =\n    there c.is\n"
     for line, term, is_of_answer in ((4, "c.args.near / 64", True), (4, "c.args.near", False), (4, "c.args.far / 64", False), (8, "c.args.near / 64", False)):
@@ -222,7 +222,7 @@ def answers():
 
 
 def choices(root):
-    """Looks at what is chosen, commit by commit, where nothing but the commits changes: each edit comes again and again."""
+    """Checks the choice, commit by commit, if nothing but the commits changes: each edit comes again and again."""
     crates, below = ["steps", "above"], {"steps": [], "above": ["steps"]}
     labels, seen = [f"{name}/{count}" for name in crates for count in range(31)], {}
     chosen = lambda: Choice(root, labels, True)
@@ -285,9 +285,23 @@ def choices(root):
         write(f"{root}/crates/above/specs/S.antt", text)
         tell(f"a definition {name} has changed: {is_counted}", chosen().whole == ({"above"} if is_counted else set()), chosen().why)
     git(root, "checkout", "-q", ".")
+    code = '/// One.\nfn f(c: char) -> bool {\n    c == \'"\' || c == one("// two") // a digit\n}\n'
+    write(f"{root}/crates/above/src/f.rt", code)
+    tried_over(root, steps=git(root, "rev-parse", "HEAD"), above=commit(root, "a function"))
+    for name, old, text, is_counted in (
+        ("with another comment above it", "/// One.", "/// Another one,\n/// of two lines.", False),
+        ("with another comment in a line", "// a digit", "// a number", False),
+        ("with another string", "// two", "// three", True),
+        ("without its comment", "// a digit", "", False),
+        ("of other words", "bool", "u8", True),
+        ("in a comment", "    c ==", "    // c ==", True),
+    ):
+        write(f"{root}/crates/above/src/f.rt", code.replace(old, text))
+        tell(f"a function {name} has changed: {is_counted}", chosen().whole == ({"above"} if is_counted else set()), chosen().why)
+    git(root, "checkout", "-q", ".")
     # each crate by its own line
     older = git(root, "rev-parse", "HEAD")
-    write(f"{root}/crates/steps/src/lib.rt", SOURCE + "\n// changed again\n")
+    write(f"{root}/crates/steps/src/lib.rt", SOURCE + "\nconst CHANGED_AGAIN: u32 = 2;\n")
     newer = commit(root, "the lower crate changed")
     for name, lines, whole in (
         ("a crate that changed since its own commit", {"steps": older, "above": older}, {"steps"}),
@@ -372,7 +386,7 @@ def main():
             write(f"{root}/crates/above/wrong-bodies/{name}.edit", f"file: src/lib.rt\n{text}")
         before = commit(root, "all tried")
         tried_over(root, steps=before, above=before)
-        write(f"{root}/crates/steps/src/lib.rt", SOURCE + "\n// changed\n")
+        write(f"{root}/crates/steps/src/lib.rt", SOURCE + "\nconst CHANGED: u32 = 1;\n")
         parts = parts_of([*sorted(steps), *above], {})
         tell(
             "the parts of the second crate's edits",

@@ -8,8 +8,9 @@ file; `--list` prints the names. A test whose tools are not installed is left ou
 seconds; the last line counts all cases, and the tests that were left out by their reasons; the status is 1 if one failed. A test that takes longer
 than 45 minutes ends all, with a line for the place of each of its threads.
 
-With `--again N`, up to N tests that failed run again after all others, when nothing else runs, at most twice. One that then passes counts as passed, and
-a line `unstable TEST` reports it. No further run excuses a test of the program, or of a part that looks for lost or changed data.
+With `--again N`, up to N tests that failed run again after all others, when nothing else runs, at most twice. The function `anew` of a file that has one sees
+to it that they meet nothing of what ran before. One that then passes counts as passed, and a line `unstable TEST` reports it. No further run excuses a test of
+the program, or of a part that looks for lost or changed data.
 """
 import argparse
 import collections
@@ -17,6 +18,7 @@ import ctypes
 import faulthandler
 import glob
 import os
+import re
 import sys
 import time
 import unittest
@@ -111,7 +113,10 @@ def run_again(loader, failed_in):
         for _ in range(FURTHER):
             counts = Counts()
             print(f"again: {name}", flush=True)
-            loader.loadTestsFromName(name).run(counts)
+            for module in [*sys.modules.values()]:
+                if callable(anew := getattr(module, "anew", None)):
+                    anew()
+            loader.loadTestsFromName(class_of(name) or name).run(counts)
             faulthandler.cancel_dump_traceback_later()
             if counts.passed and not counts.failed:
                 excused, names = excused + cases, [*names, name]
@@ -119,9 +124,15 @@ def run_again(loader, failed_in):
     return excused, names
 
 
+def class_of(name):
+    """The class whose setup failed, where the name is that of such an error. All of its tests run again."""
+    found = re.fullmatch(r"setUpClass \((\S+)\)", name)
+    return found and found[1]
+
+
 def may_run_again(name):
-    """Whether a further run may excuse a failed test. An error in the setup of a class or file has a name of another form: it may not."""
-    module = sys.modules.get(name.split(".")[0])
+    """Whether a further run may excuse a failed test, or setup of a class. An error in the setup of a file has a name of another form: it may not."""
+    module = sys.modules.get((class_of(name) or name).split(".")[0])
     return module is not None and os.path.basename(os.path.dirname(module.__file__)) != "program" and module.__name__[len("test_") :] not in ONCE
 
 

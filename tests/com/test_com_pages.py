@@ -91,6 +91,8 @@ class OfImport(UnderWine):
         place = reserved()
         port = str(place.getsockname()[1])
         self.addCleanup(place.close)
+        # (the page's last command removes it, too, unless Wine ends that before its first word)
+        self.addCleanup(self.wine.said, "regsvr32", "/s", "/u", "/n", "/i:Test", self.bridge.dll)
         with Room() as room:
             for it in ("tlb2idl.exe", "oautcom.dll"):
                 shutil.copy(f"{self.bridge.room}/built/{it}", f"{room.path}/{it}")

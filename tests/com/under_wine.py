@@ -421,6 +421,11 @@ def bridge(bits=64):
     return made
 
 
+def anew():
+    """Has a test that runs again find nothing of what ran before: it gets a bridge of its own."""
+    bridge.cache_clear()
+
+
 class Told(Cases):
     def each(self, name, output):
         """The cases that a script or a program of the tests tells, of those that stand in its text. Wine's cscript has the status 0 also where a

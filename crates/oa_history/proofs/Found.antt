@@ -47,7 +47,7 @@ module _ {D : Type 0} {g : Ghosts D} (disk : D) (library : TreeValue) (state : S
       ⊎_elim (λ one. one) (λ two. two) ((is.found (honest store.disk)).one state state (λ c image. inl (subst (λ (l : List ℕ). HoldsState requests state l) (sym (alone c image)) holds))) in
       same_state (state_of (body_bytes store.bank.shape) library table) state finds.bank_is is_its (finds.table_is ∙ ap (λ (s : State). s.table) unlocked)
 
-  pub sits : OpenedBegins g → (storage : Storage D g) (table : TableValue) → OverStore storage (λ store. IsOpened g disk library store table) → OverStore storage (λ store. Sits requests disk store state)
+  pub sits : OpenedBegins requests (λ s. s) g → (storage : Storage D g) (table : TableValue) → OverStore storage (λ store. IsOpened g disk library store table) → OverStore storage (λ store. Sits requests disk store state)
   sits begins (Memory d) table is = absurd is
   sits begins (Disk store) table is = record {
     goes_on = is.goes_on;

@@ -1,4 +1,5 @@
 -- What a session of many clients over streams in memory comes to.
+use mathlib.Core.Path.{path_j, subst_refl}
 use Rattle.std.proofs.Common.{◌≡◌, ◌⊎◌, inl, inr, ⊎_elim, ℕ, ◌+◌, length, List, [], ◌∷◌, ◌++◌, Bor, refl, sym, ◌∙◌, ap, subst, append_assoc}
 use Rattle.oa_disk.specs.declared.disk.Disk.{Ghosts}
 use Rattle.oa_disk.specs.declared.memory.MemoryDisk.{MemoryDisk}
@@ -23,12 +24,10 @@ use Rattle.oa_share.specs.Readers.{Brought}
 use Rattle.oa_share.specs.Shared.{starting}
 use Rattle.oa_share.specs.Talking.{AllTurned, FailsToTell, ServesClients, TellsAll, ends_at, parted}
 use Rattle.oa_share.specs.declared.session_end.SessionEnd.{SessionEnd}
-use Rattle.oa_store.specs.declared.store.Store.{Store}
 use Rattle.oa_decision.specs.States.{State}
-use Rattle.oa_history.specs.Framed.{AreTurnsOf, HasWrittenFrames, MakesCalls, ServesShared, TurnsAreCalls, turns_asked, turns_told}
+use Rattle.oa_history.specs.Framed.{AreTurnsOf, MakesCalls, ServesShared, TurnsAreCalls, ends_of_turns, turns_asked, turns_ended, turns_told}
 use Rattle.oa_history.specs.Stops.{Done, Made}
 use Rattle.oa_history.specs.declared.session.SharedInput.{SharedInput}
-use Rattle.oa_history.specs.declared.session.WrittenFrames.{WrittenFrames}
 use Rattle.oa_history.proofs.Streams.{reads_from}
 
 module _ {D : Type 0} {g : Ghosts D} {input input' : Read} {out out' : Output} {old new : Engine D g} {why : SessionEnd} (is : ServesClients is_replacement asked_written starting input input' out out' old new why) where
@@ -39,19 +38,39 @@ module _ {D : Type 0} {g : Ghosts D} {input input' : Read} {out out' : Output} {
   asked_are : turns_asked is ≡ asked ++ Now ∷ []
   asked_are = sym (append_assoc (parted is_replacement is.asked) (⊎_elim (λ all. ends_at why is.streams.clients) (λ fails. fails.ends) is.done) (Now ∷ []))
 
-  pub turns_made : AllTurned asked_written old (turns_asked is) (turns_told is) new
-  turns_made = by is.done
+  abbrev pub IsDone : Type 0
+  IsDone = TellsAll asked_written (parted is_replacement is.asked) why is.streams (is.calls + length is.taken) input' out out' old new ⊎ FailsToTell asked_written (parted is_replacement is.asked) why is.streams.clients out out' old new
+
+  abbrev pub run_made : (done : IsDone)
+      → AllTurned asked_written old (parted is_replacement is.asked ++ (⊎_elim (λ all. ends_at why is.streams.clients) (λ fails. fails.ends) done ++ Now ∷ []))
+      (⊎_elim (λ all. all.told.tolds) (λ fails. fails.loses.given ++ fails.loses.unheard) done) new
+  run_made (inl all) = all.told.run
+  run_made (inr fails) = fails.loses.run
+
+  abbrev pub turns_made : AllTurned asked_written old (turns_asked is) (turns_told is) new
+  turns_made = run_made is.done
+
+  pub turns_ended_are : ends_of_turns old new (turns_asked is) (turns_told is) turns_made ≡ turns_ended is
+  turns_ended_are = of is.done
     where
-      by : (done : TellsAll asked_written (parted is_replacement is.asked) why is.streams (is.calls + length is.taken) input' out out' old new ⊎ FailsToTell asked_written (parted is_replacement is.asked) why is.streams.clients out out' old new)
-          → AllTurned asked_written old (parted is_replacement is.asked ++ (⊎_elim (λ all. ends_at why is.streams.clients) (λ fails. fails.ends) done ++ Now ∷ []))
-          (⊎_elim (λ all. all.told.tolds) (λ fails. fails.loses.given ++ fails.loses.unheard) done) new
-      by (inl all) = all.told.run
-      by (inr fails) = fails.loses.run
+      of : (done : IsDone)
+          → ends_of_turns old new (parted is_replacement is.asked ++ (⊎_elim (λ all. ends_at why is.streams.clients) (λ fails. fails.ends) done ++ Now ∷ [])) (⊎_elim (λ all. all.told.tolds) (λ fails. fails.loses.given ++ fails.loses.unheard) done) (run_made done)
+          ≡ ⊎_elim (λ all. ends_of_turns old new (parted is_replacement is.asked ++ (ends_at why is.streams.clients ++ Now ∷ [])) all.told.tolds all.told.run)
+          (λ fails. ends_of_turns old new (parted is_replacement is.asked ++ (fails.ends ++ Now ∷ [])) (fails.loses.given ++ fails.loses.unheard) fails.loses.run) done
+      of (inl all) = refl
+      of (inr fails) = refl
+
+-- the same turns, whatever equal list they are asked by
+ends_same : {D : Type 0} {g : Ghosts D} (old new : Engine D g) {asks asks' : List (Owned Brought)} (e : asks ≡ asks') (tolds : List (List (ℕ × List ℕ))) (run : AllTurned asked_written old asks tolds new)
+    → ends_of_turns old new asks' tolds (subst (λ (l : List (Owned Brought)). AllTurned asked_written old l tolds new) e run) ≡ ends_of_turns old new asks tolds run
+ends_same old new {asks = asks} e tolds run = path_j
+    (λ l p. ends_of_turns old new l tolds (subst (λ (k : List (Owned Brought)). AllTurned asked_written old k tolds new) p run) ≡ ends_of_turns old new asks tolds run)
+    (ap (λ (r : AllTurned asked_written old asks tolds new). ends_of_turns old new asks tolds r) (subst_refl (λ (k : List (Owned Brought)). AllTurned asked_written old k tolds new) run)) e
 
 -- over a store the turns are calls
 module _ {g : Ghosts MemoryDisk} (law : TurnsAreCalls g) (input unread : Read) (out out' : Output) (size : ℕ) (old new : Engine MemoryDisk g) (why : SessionEnd) (served : HasServedClients input unread out out' size old new why) where
   abbrev AreCalls : Type 0
-  AreCalls = (calls : List (Done ClientReply)) × AreTurnsOf size calls (turns_asked served.serves) (turns_told served.serves)
+  AreCalls = (calls : List (Done ClientReply)) × AreTurnsOf size calls (turns_asked served.serves) (turns_told served.serves) (turns_ended served.serves)
       × Made ServesShared old.storage (shared old.host []) calls new.storage (shared served.left.host served.left.desk.owners)
 
   first_same : shared served.begun.host served.begun.desk.owners ≡ shared old.host []
@@ -60,11 +79,13 @@ module _ {g : Ghosts MemoryDisk} (law : TurnsAreCalls g) (input unread : Read) (
   calls_over : (storage : Storage MemoryDisk g) → old.storage ≡ storage → OverStore storage (λ store. Unit {0}) → AreCalls
   calls_over (Memory disk) is over = absurd over
   calls_over (Disk start) is over =
-      let all = law served.begun served.left start (asked served.serves) (turns_told served.serves) (served.storage ∙ is) served.no_replies served.no_events
-      (subst (λ (l : List (Owned Brought)). AllTurned asked_written served.begun l (turns_told served.serves) served.left) (asked_are served.serves) (turns_made served.serves)) in (
+      let run = subst (λ (l : List (Owned Brought)). AllTurned asked_written served.begun l (turns_told served.serves) served.left) (asked_are served.serves) (turns_made served.serves) in
+      let ends = ends_of_turns served.begun served.left (asked served.serves ++ Now ∷ []) (turns_told served.serves) run in
+      let all = law served.begun served.left start (asked served.serves) (turns_told served.serves) (served.storage ∙ is) served.no_replies served.no_events run in (
         all.0,
-        subst (λ (l : List (Owned Brought)). AreTurnsOf size all.0 l (turns_told served.serves)) (sym (asked_are served.serves))
-            (subst (λ (n : ℕ). AreTurnsOf n all.0 (asked served.serves ++ Now ∷ []) (turns_told served.serves)) served.size_is all.1),
+        subst (λ (l : List ℕ). AreTurnsOf size all.0 (turns_asked served.serves) (turns_told served.serves) l) (ends_same served.begun served.left (asked_are served.serves) (turns_told served.serves) (turns_made served.serves) ∙ turns_ended_are served.serves)
+            (subst (λ (l : List (Owned Brought)). AreTurnsOf size all.0 l (turns_told served.serves) ends) (sym (asked_are served.serves))
+            (subst (λ (n : ℕ). AreTurnsOf n all.0 (asked served.serves ++ Now ∷ []) (turns_told served.serves) ends) served.size_is all.1)),
         subst (λ (s : Storage MemoryDisk g). Made ServesShared old.storage (shared old.host []) all.0 s (shared served.left.host served.left.desk.owners)) (sym served.kept)
             (subst (λ (s : Storage MemoryDisk g). Made ServesShared s (shared old.host []) all.0 served.left.storage (shared served.left.host served.left.desk.owners)) served.storage
             (subst (λ (s : Shared). Made ServesShared served.begun.storage s all.0 served.left.storage (shared served.left.host served.left.desk.owners)) first_same all.2)),

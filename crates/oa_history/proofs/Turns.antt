@@ -1,5 +1,5 @@
 -- The turns of many clients over a store are calls, one after another.
-use Rattle.std.proofs.Common.{◌≡◌, ◌⊎◌, inl, inr, ⊎_elim, ℕ, IsTrue, true, false, true≢false, List, [], ◌∷◌, ◌++◌, map, refl, sym, ap, ◌∙◌, subst, append_assoc}
+use Rattle.std.proofs.Common.{◌≡◌, ◌⊎◌, inl, inr, ⊎_elim, ℕ, ◌+◌, IsTrue, true, false, true≢false, List, [], ◌∷◌, ◌++◌, length, map, refl, sym, ap, ◌∙◌, subst, append_assoc, length-append}
 use Rattle.std.proofs.lemmas.List.{append-nil}
 use Rattle.oa_disk.specs.declared.disk.Disk.{Ghosts}
 use Rattle.oa_groups.specs.Going.{Underway}
@@ -13,8 +13,9 @@ use Rattle.oa_record.specs.Replies.{ReplyValue}
 use Rattle.oa_store.specs.declared.store.Store.{Store}
 use Rattle.oa_server.specs.Desks.{all_frames, desk_grouping, told_to}
 use Rattle.oa_server.specs.SharedRequests.{shared_requests}
-use Rattle.oa_server.specs.SharedTalks.{AsksIn, TakesOver, asked_written}
+use Rattle.oa_server.specs.SharedTalks.{AsksIn, asked_written}
 use Rattle.oa_server.specs.Sharing.{ClientReply, Shared, failed, shared, tagged}
+use Rattle.oa_server.specs.Storages.{disk_of}
 use Rattle.oa_server.specs.Stretches.{IsLateFor, ServesStretch}
 use Rattle.oa_server.specs.declared.desk.Asker.{Asker}
 use Rattle.oa_server.specs.declared.desk.Desk.{Desk}
@@ -25,7 +26,7 @@ use Rattle.oa_share.specs.Marks.{Owned, Of, Now}
 use Rattle.oa_share.specs.Readers.{Brought}
 use Rattle.oa_share.specs.Talking.{AllTurned}
 use Rattle.oa_decision.specs.States.{State}
-use Rattle.oa_history.specs.Framed.{AreTurnsOf, ServesShared, TurnsAreCalls, at_last_turn, requests_in}
+use Rattle.oa_history.specs.Framed.{AreTurnsOf, ServesShared, TurnsAreCalls, at_last_turn, ends_of_turns, requests_in}
 use Rattle.oa_history.specs.Stops.{Done, Made}
 
 no_frames : all_frames [] ≡ []
@@ -59,6 +60,9 @@ pub requests_same : (own : List (Owned Brought)) → requests_in (own ++ Now ∷
 requests_same [] = refl
 requests_same (Of other x ∷ own) = ap (λ (l : List (List ℕ)). tagged other x ∷ l) (requests_same own)
 requests_same (Now ∷ own) = requests_same own
+
+one_more : (own : List (Owned Brought)) (ask : Owned Brought) (gone : List ℕ) (at : ℕ) → length own ≡ length gone → length (own ++ ask ∷ []) ≡ length (gone ++ at ∷ [])
+one_more own ask gone at each = length-append own (ask ∷ []) ∙ ap (λ (n : ℕ). n + 1) each ∙ sym (length-append gone (at ∷ []))
 
 module _ {D : Type 0} {g : Ghosts D} (only : (d : D) (c : List ℕ) → IsTrue (g.is_honest d) → g.image_since d (g.moment d) c → g.image d c) (size : ℕ) where
   abbrev pub at_start : Store D g → Shared → Grouping Shared ClientReply D g
@@ -228,63 +232,74 @@ module _ {D : Type 0} {g : Ghosts D} (only : (d : D) (c : List ℕ) → IsTrue (
       }
 
   -- ---- all turns, behind some that were made since the last call
-  record AllCalls (start : Store D g) (first : Shared) (own asks : List (Owned Brought)) (tolds : List (List (ℕ × List ℕ))) (new : Engine D g) : Type 0 where
+  record AllCalls (start : Store D g) (first : Shared) (own asks : List (Owned Brought)) (tolds : List (List (ℕ × List ℕ))) (gone ends : List ℕ) (new : Engine D g) : Type 0 where
     calls : List (Done ClientReply)
-    are : AreTurnsOf size calls (own ++ asks) (silent own ++ tolds)
+    are : AreTurnsOf size calls (own ++ asks) (silent own ++ tolds) (gone ++ ends)
     made : Made ServesShared (Disk start) first calls new.storage (shared new.host new.desk.owners)
 
-  more_held : (start : Store D g) (first : Shared) (own : List (Owned Brought)) (ask : Owned Brought) (asks : List (Owned Brought)) (told : List (ℕ × List ℕ)) (tolds : List (List (ℕ × List ℕ))) (new : Engine D g)
-      → told ≡ [] → AllCalls start first (own ++ ask ∷ []) asks tolds new → AllCalls start first own (ask ∷ asks) (told ∷ tolds) new
-  more_held start first own ask asks told tolds new none rest = record {
+  more_held : (start : Store D g) (first : Shared) (own : List (Owned Brought)) (ask : Owned Brought) (asks : List (Owned Brought)) (told : List (ℕ × List ℕ)) (tolds : List (List (ℕ × List ℕ))) (gone : List ℕ) (at : ℕ) (ends : List ℕ) (new : Engine D g)
+      → told ≡ [] → AllCalls start first (own ++ ask ∷ []) asks tolds (gone ++ at ∷ []) ends new → AllCalls start first own (ask ∷ asks) (told ∷ tolds) gone (at ∷ ends) new
+  more_held start first own ask asks told tolds gone at ends new none rest = record {
     calls = rest.calls;
-    are = subst (λ (l : List (Owned Brought)). AreTurnsOf size rest.calls l (silent own ++ told ∷ tolds)) (append_assoc own (ask ∷ []) asks)
-        (subst (λ (l : List (List (ℕ × List ℕ))). AreTurnsOf size rest.calls ((own ++ ask ∷ []) ++ asks) l)
-        (silent_more own ask tolds ∙ ap (λ (l : List (ℕ × List ℕ)). silent own ++ l ∷ tolds) (sym none)) rest.are);
+    are = subst (λ (l : List ℕ). AreTurnsOf size rest.calls (own ++ ask ∷ asks) (silent own ++ told ∷ tolds) l) (append_assoc gone (at ∷ []) ends)
+        (subst (λ (l : List (Owned Brought)). AreTurnsOf size rest.calls l (silent own ++ told ∷ tolds) ((gone ++ at ∷ []) ++ ends)) (append_assoc own (ask ∷ []) asks)
+        (subst (λ (l : List (List (ℕ × List ℕ))). AreTurnsOf size rest.calls ((own ++ ask ∷ []) ++ asks) l ((gone ++ at ∷ []) ++ ends))
+        (silent_more own ask tolds ∙ ap (λ (l : List (ℕ × List ℕ)). silent own ++ l ∷ tolds) (sym none)) rest.are));
     made = rest.made;
   }
 
-  more_called : (start : Store D g) (first : Shared) (own : List (Owned Brought)) (ask : Owned Brought) (asks : List (Owned Brought)) (told : List (ℕ × List ℕ)) (tolds : List (List (ℕ × List ℕ))) (mid new : Engine D g)
-      → (call : CallIn start first (own ++ ask ∷ []) told mid.storage mid.host mid.desk) → AllCalls call.mid (shared mid.host mid.desk.owners) [] asks tolds new → AllCalls start first own (ask ∷ asks) (told ∷ tolds) new
-  more_called start first own ask asks told tolds mid new call rest = record {
-    calls = record { call = record { size = size; bodies = requests_in (own ++ ask ∷ []); replies = call.told }; moment = g.moment call.mid.disk } ∷ rest.calls;
+  more_called : (start : Store D g) (first : Shared) (own : List (Owned Brought)) (ask : Owned Brought) (asks : List (Owned Brought)) (told : List (ℕ × List ℕ)) (tolds : List (List (ℕ × List ℕ))) (gone ends : List ℕ) (mid new : Engine D g)
+      → length own ≡ length gone → (call : CallIn start first (own ++ ask ∷ []) told mid.storage mid.host mid.desk) → AllCalls call.mid (shared mid.host mid.desk.owners) [] asks tolds [] ends new
+      → AllCalls start first own (ask ∷ asks) (told ∷ tolds) gone (g.moment (disk_of mid.storage) ∷ ends) new
+  more_called start first own ask asks told tolds gone ends mid new each call rest = record {
+    calls = record { call = record { size = size; bodies = requests_in (own ++ ask ∷ []); replies = call.told }; moment = g.moment (disk_of mid.storage) } ∷ rest.calls;
     are = (
       own ++ ask ∷ [],
       asks,
       tolds,
+      gone,
+      ends,
       refl,
       refl,
       sym (append_assoc own (ask ∷ []) asks),
       ap (λ (l : List (ℕ × List ℕ)). silent own ++ l ∷ tolds) call.are ∙ last_turn own ask (all_frames call.told) tolds,
+      refl,
+      length-append own (ask ∷ []) ∙ ap (λ (n : ℕ). n + 1) each,
       rest.are,
     );
-    made = (Disk call.mid, shared mid.host mid.desk.owners, call.serves, refl, rest.made);
+    made = (Disk call.mid, shared mid.host mid.desk.owners, call.serves, ap (λ (s : Storage D g). g.moment (disk_of s)) call.mid_is, rest.made);
   }
 
   -- nothing follows
-  none_more : (start : Store D g) (mid new : Engine D g) → mid.storage ≡ Disk start → new ≡ mid → AllCalls start (shared mid.host mid.desk.owners) [] [] [] new
+  none_more : (start : Store D g) (mid new : Engine D g) → mid.storage ≡ Disk start → new ≡ mid → AllCalls start (shared mid.host mid.desk.owners) [] [] [] [] [] new
   none_more start mid new at same = record {
     calls = [];
-    are = (refl, refl);
+    are = (refl, refl, refl);
     made = (ap (λ (e : Engine D g). e.storage) same ∙ at, ap (λ (e : Engine D g). shared e.host e.desk.owners) same);
   }
 
   -- the last of them is *now*
-  all_calls : (start : Store D g) (first : Shared) (old new : Engine D g) (own asks : List (Owned Brought)) (tolds : List (List (ℕ × List ℕ)))
-      → SoFarIn start first old.storage old.host old.desk (requests_in own) → AllTurned asked_written old (asks ++ Now ∷ []) tolds new → AllCalls start first own (asks ++ Now ∷ []) tolds new
-  all_calls start first old new own [] (told ∷ []) was run =
+  all_calls : (start : Store D g) (first : Shared) (old new : Engine D g) (own asks : List (Owned Brought)) (tolds : List (List (ℕ × List ℕ))) (gone : List ℕ) → length own ≡ length gone
+      → SoFarIn start first old.storage old.host old.desk (requests_in own) → (run : AllTurned asked_written old (asks ++ Now ∷ []) tolds new) → AllCalls start first own (asks ++ Now ∷ []) tolds gone (ends_of_turns old new (asks ++ Now ∷ []) tolds run) new
+  all_calls start first old new own [] (told ∷ []) gone each was run =
       let call = turned_now start first old.storage run.0.storage old.host run.0.host old.desk run.0.desk own told was run.1 in
-      more_called start first own Now [] told [] run.0 new call (none_more call.mid run.0 new call.mid_is run.2)
-  all_calls start first old new own [] [] was run = absurd run
-  all_calls start first old new own [] (told ∷ (more ∷ tolds)) was run = absurd run.2
-  all_calls start first old new own (Of client brought ∷ asks) (told ∷ tolds) was run = ⊎_elim
-      (λ held. more_held start first own (Of client brought) (asks ++ Now ∷ []) told tolds new held.0 (all_calls start first run.0 new (own ++ Of client brought ∷ []) asks tolds held.1 run.2))
-      (λ call. more_called start first own (Of client brought) (asks ++ Now ∷ []) told tolds run.0 new call (all_calls call.mid (shared run.0.host run.0.desk.owners) run.0 new [] asks tolds call.next run.2))
+      more_called start first own Now [] told [] gone [] run.0 new each call (none_more call.mid run.0 new call.mid_is run.2)
+  all_calls start first old new own [] [] gone each was run = absurd run
+  all_calls start first old new own [] (told ∷ (more ∷ tolds)) gone each was run = absurd run.2
+  all_calls start first old new own (Of client brought ∷ asks) (told ∷ tolds) gone each was run =
+      let at = g.moment (disk_of run.0.storage) in
+      let ends = ends_of_turns run.0 new (asks ++ Now ∷ []) tolds run.2 in
+      ⊎_elim
+      (λ held. more_held start first own (Of client brought) (asks ++ Now ∷ []) told tolds gone at ends new held.0
+          (all_calls start first run.0 new (own ++ Of client brought ∷ []) asks tolds (gone ++ at ∷ []) (one_more own (Of client brought) gone at each) held.1 run.2))
+      (λ call. more_called start first own (Of client brought) (asks ++ Now ∷ []) told tolds gone ends run.0 new each call (all_calls call.mid (shared run.0.host run.0.desk.owners) run.0 new [] asks tolds [] refl call.next run.2))
       (turned start first old.storage run.0.storage old.host run.0.host old.desk run.0.desk own client brought told was run.1)
-  all_calls start first old new own (Now ∷ asks) (told ∷ tolds) was run =
+  all_calls start first old new own (Now ∷ asks) (told ∷ tolds) gone each was run =
       let call = turned_now start first old.storage run.0.storage old.host run.0.host old.desk run.0.desk own told was run.1 in
-      more_called start first own Now (asks ++ Now ∷ []) told tolds run.0 new call (all_calls call.mid (shared run.0.host run.0.desk.owners) run.0 new [] asks tolds call.next run.2)
-  all_calls start first old new own (Of client brought ∷ asks) [] was run = absurd run
-  all_calls start first old new own (Now ∷ asks) [] was run = absurd run
+      more_called start first own Now (asks ++ Now ∷ []) told tolds gone (ends_of_turns run.0 new (asks ++ Now ∷ []) tolds run.2) run.0 new each call
+          (all_calls call.mid (shared run.0.host run.0.desk.owners) run.0 new [] asks tolds [] refl call.next run.2)
+  all_calls start first old new own (Of client brought ∷ asks) [] gone each was run = absurd run
+  all_calls start first old new own (Now ∷ asks) [] gone each was run = absurd run
 
 pub calls_of_turns : {D : Type 0} {g : Ghosts D} → ((d : D) (c : List ℕ) → IsTrue (g.is_honest d) → g.image_since d (g.moment d) c → g.image d c) → TurnsAreCalls g
 calls_of_turns {D} {g} only old new start asks tolds is none empty run =
@@ -292,5 +307,5 @@ calls_of_turns {D} {g} only old new start asks tolds is none empty run =
     let first : Shared = shared old.host old.desk.owners in
     let nothing : told_to old.desk.askers.items old.desk.open_group.replies.items ≡ [] = ap (λ (l : List ReplyValue). told_to old.desk.askers.items l) none ∙ told_none old.desk.askers.items in
     let begun = subst (λ (s : Storage D g). SoFarIn {g = g} only size start first s old.host old.desk (requests_in [])) (sym is) (refl, begins {g = g} only size (desk_grouping start old.host old.desk) (λ going. (nothing, empty))) in
-    let all = all_calls {g = g} only size start first old new [] asks tolds begun run in
+    let all = all_calls {g = g} only size start first old new [] asks tolds [] refl begun run in
     (all.calls, all.are, subst (λ (s : Storage D g). Made ServesShared s first all.calls new.storage (shared new.host new.desk.owners)) (sym is) all.made)

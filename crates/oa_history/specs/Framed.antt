@@ -1,5 +1,5 @@
 -- A session of many clients over streams in memory, and the calls that it is.
-use Rattle.std.proofs.Common.{◌≡◌, ⊎_elim, ℕ, List, [], ◌∷◌, ◌++◌, map}
+use Rattle.std.proofs.Common.{◌≡◌, ⊎_elim, ℕ, ◌+◌, List, [], ◌∷◌, ◌++◌, length, map}
 use Rattle.oa_disk.specs.declared.disk.Disk.{Ghosts}
 use Rattle.oa_record.specs.Replacement.{is_replacement}
 use Rattle.oa_stream.specs.Memory.{gathered_output}
@@ -10,7 +10,7 @@ use Rattle.oa_server.specs.Desks.{all_frames}
 use Rattle.oa_server.specs.SharedSessions.{HasServedClients}
 use Rattle.oa_server.specs.SharedTalks.{asked_written}
 use Rattle.oa_server.specs.Sharing.{ClientReply, Leaves, Replies, Shared, client_in, shared, tagged}
-use Rattle.oa_server.specs.Storages.{OverStore}
+use Rattle.oa_server.specs.Storages.{OverStore, disk_of}
 use Rattle.oa_server.specs.Stretches.{ServesStretch}
 use Rattle.oa_server.specs.declared.engine.Engine.{Engine}
 use Rattle.oa_server.specs.declared.server.Server.{Server}
@@ -60,15 +60,28 @@ at_last_turn [] frames = []
 at_last_turn (ask ∷ []) frames = frames ∷ []
 at_last_turn (ask ∷ (next ∷ asks)) frames = [] ∷ at_last_turn (next ∷ asks) frames
 
--- These turns are these calls, in groups of a size: each call has the requests of the next turns, and the frames that
--- are sent at the last of these are those of its replies.
-abbrev pub AreTurnsOf : ℕ → List (Done ClientReply) → List (Owned Brought) → List (List (ℕ × List ℕ)) → Type 0
-AreTurnsOf size [] asks tolds = (asks ≡ []) × (tolds ≡ [])
-AreTurnsOf size (one ∷ calls) asks tolds =
+-- the points in time of the disk's clock at which these turns ended
+abbrev pub ends_of_turns : {D : Type 0} {g : Ghosts D} (old new : Engine D g) (asks : List (Owned Brought))
+    (tolds : List (List (ℕ × List ℕ)))
+    → AllTurned asked_written old asks tolds new → List ℕ
+ends_of_turns old new [] tolds run = []
+ends_of_turns old new (ask ∷ asks) [] run = []
+ends_of_turns {g = g} old new (ask ∷ asks) (told ∷ tolds) run =
+    g.moment (disk_of run.0.storage) ∷ ends_of_turns run.0 new asks tolds run.2
+
+-- These turns, which ended at these points in time, are these calls, in groups of a size: each call has the requests
+-- of the next turns, and ends when the last of these does. The frames that are sent then are those of its replies.
+abbrev pub AreTurnsOf : ℕ → List (Done ClientReply) → List (Owned Brought) → List (List (ℕ × List ℕ)) → List ℕ
+    → Type 0
+AreTurnsOf size [] asks tolds ends = (asks ≡ []) × (tolds ≡ []) × (ends ≡ [])
+AreTurnsOf size (one ∷ calls) asks tolds ends =
     (own : List (Owned Brought)) × (later : List (Owned Brought)) × (others : List (List (ℕ × List ℕ)))
+    × (before : List ℕ) × (after : List ℕ)
     × (one.call.size ≡ size)
     × (one.call.bodies ≡ requests_in own) × (asks ≡ own ++ later)
-    × (tolds ≡ at_last_turn own (all_frames one.call.replies) ++ others) × AreTurnsOf size calls later others
+    × (tolds ≡ at_last_turn own (all_frames one.call.replies) ++ others)
+    × (ends ≡ before ++ one.moment ∷ after) × (length own ≡ length before + 1)
+    × AreTurnsOf size calls later others after
 
 -- Over a store without an open group: the turns up to a last *now* are calls that were served, each of which ends
 -- when frames are sent, or at a *now*.
@@ -76,8 +89,9 @@ abbrev pub TurnsAreCalls : {D : Type 0} → Ghosts D → Type 0
 TurnsAreCalls {D} g =
     (old new : Engine D g) (start : Store D g) (asks : List (Owned Brought)) (tolds : List (List (ℕ × List ℕ)))
     → old.storage ≡ Disk start → old.desk.open_group.replies.items ≡ [] → old.desk.open_group.batch ≡ []
-    → AllTurned asked_written old (asks ++ Now ∷ []) tolds new
-    → (calls : List (Done ClientReply)) × AreTurnsOf old.desk.open_group.size calls (asks ++ Now ∷ []) tolds
+    → (run : AllTurned asked_written old (asks ++ Now ∷ []) tolds new)
+    → (calls : List (Done ClientReply))
+    × AreTurnsOf old.desk.open_group.size calls (asks ++ Now ∷ []) tolds (ends_of_turns old new (asks ++ Now ∷ []) tolds run)
     × Made ServesShared old.storage (shared old.host old.desk.owners) calls new.storage
     (shared new.host new.desk.owners)
 
@@ -97,6 +111,17 @@ abbrev pub turns_told : {D : Type 0} {g : Ghosts D} {input input' : Read} {out o
     → ServesClients is_replacement asked_written starting input input' out out' old new why → List (List (ℕ × List ℕ))
 turns_told is = ⊎_elim (λ all. all.told.tolds) (λ fails. fails.loses.given ++ fails.loses.unheard) is.done
 
+-- and when each ended
+abbrev pub turns_ended : {D : Type 0} {g : Ghosts D} {input input' : Read} {out out' : Output}
+    {old new : Engine D g} {why : SessionEnd}
+    → ServesClients is_replacement asked_written starting input input' out out' old new why → List ℕ
+turns_ended {old = old} {new = new} {why = why} is = ⊎_elim
+    (λ all. ends_of_turns old new (parted is_replacement is.asked ++ (ends_at why is.streams.clients ++ Now ∷ []))
+        all.told.tolds all.told.run)
+    (λ fails. ends_of_turns old new (parted is_replacement is.asked ++ (fails.ends ++ Now ∷ []))
+        (fails.loses.given ++ fails.loses.unheard) fails.loses.run)
+    is.done
+
 -- A server received this input of many clients, none of which has a lock, and an empty writer. What was read,
 -- answered and written is as `serve_shared` states: the requests of the clients' streams, in one order, and the
 -- frames of the replies. These are the calls; and the state at the last turn, when the clients that had not ended
@@ -112,6 +137,7 @@ pub record HasWrittenFrames {D : Type 0} {g : Ghosts D} (input : SharedInput) (w
       (gathered_output written.output) input.group
       old.engine new.engine written.why
   pub are : AreTurnsOf input.group done (turns_asked served.serves) (turns_told served.serves)
+      (turns_ended served.serves)
   pub last_is : new.engine.storage ≡ last
   pub end_is : shared served.left.host served.left.desk.owners ≡ end
 

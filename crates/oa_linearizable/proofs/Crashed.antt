@@ -311,7 +311,8 @@ module _ {D : Type 0} {g : Ghosts D} (start : D) (before : Shared) where
       crashed (ask ∷ (next ∷ asks)) tolds last one turn may = absurd (omega (arith, one))
 
 pub each_era : {D : Type 0} {g : Ghosts D} → ((d : D) (c : List ℕ) → IsTrue (g.is_honest d) → g.image_since d (g.moment d) c → g.image d c) → EachEraIsLinearizable g
-each_era {D} {g} only f before era is =
+each_era {D} {g} only before era is =
+    let f = era.has_failed in
     let size = is.first.desk.open_group.size in
     let none = front_none {g = g} only size era.start before is.first is.store is.over refl is.sits is.serves is.no_replies is.no_events in
     let front = front_all {g = g} only size era.start before [] [] is.first is.mid era.served is.tolds none is.run in

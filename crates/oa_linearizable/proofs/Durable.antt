@@ -15,7 +15,7 @@ use Rattle.oa_server.specs.Sharing.{ClientReply, Shared, TurnOf, shared}
 use Rattle.oa_share.specs.Readers.{Brought}
 use Rattle.oa_decision.specs.States.{State}
 use Rattle.oa_history.proofs.ForMany.{turn_of}
-use Rattle.oa_linearizable.specs.Crashes.{AreHistoriesOf, EachEraIsLinearizable, EraIsLinearizable, FindsState, IsDurable, ServersAreDurable}
+use Rattle.oa_linearizable.specs.Crashes.{AreHistoriesOf, EachEraIsLinearizable, EraIsLinearizable, FindsState, IsDurable, ServersAreDurable, failed_in}
 use Rattle.oa_linearizable.specs.Histories.{History, IsDurablyLinearizable, IsLegal, Operation}
 use Rattle.oa_linearizable.specs.Tables.{FailsFor, the_table}
 
@@ -50,7 +50,7 @@ module _ (turn_begins : (old new : State) (body : List ℕ) (reply : ReplyValue)
         (record { done = []; later = []; groups_are = refl; enough = omega arith; state = after.state; run = refl; holds = holds }) finds.holds finds.unlocked))
 
     pub all_eras : {D : Type 0} {g : Ghosts D} → EachEraIsLinearizable g → ServersAreDurable g
-    all_eras {D} {g} law f before found [] begins holds runs = record {
+    all_eras {D} {g} law before found [] begins holds runs = record {
       replies = [];
       frames_are = tt;
       after = before;
@@ -58,14 +58,14 @@ module _ (turn_begins : (old new : State) (body : List ℕ) (reply : ReplyValue)
       holds = holds;
     }
       where
-        none : (histories : List (History Brought ClientReply)) → AreHistoriesOf {D = D} [] [] histories → IsDurablyLinearizable (the_table f) before histories before
+        none : (histories : List (History Brought ClientReply)) → AreHistoriesOf {D = D} [] [] histories → IsDurablyLinearizable the_table before [] histories before
         none [] are = refl
         none (history ∷ histories) are = absurd are
-    all_eras {D} {g} law f before found (era ∷ eras) begins holds runs =
-        let one = law f before era runs.1 in
-        let after_begins = legal_begins f before one.after one.order begins one.legal in
+    all_eras {D} {g} law before found (era ∷ eras) begins holds runs =
+        let one = law before era runs.1 in
+        let after_begins = legal_begins era.has_failed before one.after one.order begins one.legal in
         let next : runs.2 ≡ opened one.after = found_state one.after runs.2 era.left after_begins one.holds runs.3 in
-        let rest = all_eras {g = g} law f runs.2 era.left eras (subst (λ (s : Shared). CanBegin s.state) (sym next) (opens one.after.state after_begins))
+        let rest = all_eras {g = g} law runs.2 era.left eras (subst (λ (s : Shared). CanBegin s.state) (sym next) (opens one.after.state after_begins))
         (subst (λ (s : Shared). HoldsState shared_requests s era.left) (sym next) (holds_opened one.after era.left one.holds)) runs.4 in
         record {
           replies = one.replies ∷ rest.replies;
@@ -75,11 +75,11 @@ module _ (turn_begins : (old new : State) (body : List ℕ) (reply : ReplyValue)
           holds = rest.holds;
         }
       where
-        more : (one : EraIsLinearizable f before era) (rest : IsDurable f runs.2 era.left eras) → runs.2 ≡ opened one.after → (histories : List (History Brought ClientReply)) → AreHistoriesOf (era ∷ eras) (one.replies ∷ rest.replies) histories
-            → IsDurablyLinearizable (the_table f) before histories rest.after
+        more : (one : EraIsLinearizable before era) (rest : IsDurable runs.2 era.left eras) → runs.2 ≡ opened one.after → (histories : List (History Brought ClientReply)) → AreHistoriesOf (era ∷ eras) (one.replies ∷ rest.replies) histories
+            → IsDurablyLinearizable the_table before (failed_in (era ∷ eras)) histories rest.after
         more one rest next [] are = absurd are
         more one rest next (history ∷ histories) are = (
           one.after,
           record { order = one.order; linearized = one.linearized history are.0; legal = one.legal },
-          subst (λ (s : Shared). IsDurablyLinearizable (the_table f) s histories rest.after) next (rest.linearizable histories are.1),
+          subst (λ (s : Shared). IsDurablyLinearizable the_table s (failed_in eras) histories rest.after) next (rest.linearizable histories are.1),
         )

@@ -16,17 +16,19 @@ seen_by history seen order is was = record {
   real_time = λ a i b j precedes. was.real_time a i b j (is.later a i b j precedes);
 }
 
-pub all_seen : (f : Bool) (before : Shared) (histories seen : List (History Brought ClientReply)) (after : Shared) → AreSeenAs histories seen
-    → IsDurablyLinearizable (the_table f) before histories after → IsDurablyLinearizable (the_table f) before seen after
-all_seen f before [] [] after are is = is
-all_seen f before (history ∷ histories) (seen ∷ others) after are is = (
+pub all_seen : (failed : List Bool) (before : Shared) (histories seen : List (History Brought ClientReply)) (after : Shared) → AreSeenAs histories seen
+    → IsDurablyLinearizable the_table before failed histories after → IsDurablyLinearizable the_table before failed seen after
+all_seen [] before [] [] after are is = is
+all_seen (f ∷ failed) before [] [] after are is = absurd is
+all_seen [] before (history ∷ histories) (seen ∷ others) after are is = absurd is
+all_seen (f ∷ failed) before (history ∷ histories) (seen ∷ others) after are is = (
   is.0,
   record {
     order = is.1.order;
     linearized = seen_by history seen is.1.order are.0 is.1.linearized;
     legal = is.1.legal;
   },
-  all_seen f (opened is.0) histories others after are.1 is.2,
+  all_seen failed (opened is.0) histories others after are.1 is.2,
 )
-all_seen f before [] (seen ∷ others) after are is = absurd are
-all_seen f before (history ∷ histories) [] after are is = absurd are
+all_seen failed before [] (seen ∷ others) after are is = absurd are
+all_seen failed before (history ∷ histories) [] after are is = absurd are

@@ -30,10 +30,12 @@ use Rattle.oa_linearizable.specs.Histories.{ComesInOrder, History, IsDurablyLine
 use Rattle.oa_linearizable.specs.Histories.{Operation}
 use Rattle.oa_linearizable.specs.Tables.{inputs_in, result_for, the_table}
 
--- One era: the disk at its start; the requests that were answered by whole turns, in order; the other requests that
--- were made before the crash; the frames that were sent; and what the crash has left of the disk.
+-- One era: the disk at its start; whether a call of the device failed in it; the requests that were answered by whole
+-- turns, in order; the other requests that were made before the crash; the frames that were sent; and what the crash
+-- has left of the disk.
 pub record Era (D : Type 0) : Type 0 where
   pub start : D
+  pub has_failed : Bool
   pub served : List (Owned Brought)
   pub waiting : List (Owned Brought)
   pub frames : List (ℕ × List ℕ)
@@ -41,8 +43,7 @@ pub record Era (D : Type 0) : Type 0 where
 
 -- A server was opened on the disk, in the state that it found, and received requests. Each was answered by a turn,
 -- with the frames that it sends, before the next. The crash came after these turns, within the next one or before it.
-pub record RunsUntilCrash {D : Type 0} (g : Ghosts D) (has_failed : Bool) (before : Shared) (era : Era D)
-    : Type 0 where
+pub record RunsUntilCrash {D : Type 0} (g : Ghosts D) (before : Shared) (era : Era D) : Type 0 where
   pub store : Store D g
   pub first : Engine D g
   pub over : first.storage ≡ Disk store
@@ -54,7 +55,7 @@ pub record RunsUntilCrash {D : Type 0} (g : Ghosts D) (has_failed : Bool) (befor
   pub mid : Engine D g
   pub run : AllTurned asked_written first era.served tolds mid
   pub frames_are : era.frames ≡ all_told tolds
-  pub well : has_failed ≡ false → OverStore mid.storage (λ store. store.stopped ≡ false)
+  pub well : era.has_failed ≡ false → OverStore mid.storage (λ store. store.stopped ≡ false)
   -- the turn within which the crash came, if it came within one
   pub next : List (Owned Brought)
   pub others : List (Owned Brought)
@@ -76,20 +77,20 @@ IsHistoryOf era replies history =
 
 -- One era is linearizable: one order of requests linearizes each such history, and the crash leaves a store of the
 -- state after that order. The frames are those of the replies.
-pub record EraIsLinearizable {D : Type 0} (has_failed : Bool) (before : Shared) (era : Era D) : Type 0 where
+pub record EraIsLinearizable {D : Type 0} (before : Shared) (era : Era D) : Type 0 where
   pub replies : List ClientReply
   pub frames_are : era.frames ≡ all_frames replies
   pub order : List (Operation Brought ClientReply)
   pub after : Shared
   pub linearized : (history : History Brought ClientReply) → IsHistoryOf era replies history
       → IsLinearizedBy history order
-  pub legal : IsLegal (the_table has_failed) before order after
+  pub legal : IsLegal (the_table era.has_failed) before order after
   pub holds : HoldsState shared_requests after era.left
   pub each_client : (client : ℕ) → ClientIsServed client (era.served ++ era.waiting) era.frames order
 
 abbrev pub EachEraIsLinearizable : {D : Type 0} → Ghosts D → Type 0
-EachEraIsLinearizable {D} g = (has_failed : Bool) (before : Shared) (era : Era D)
-    → RunsUntilCrash g has_failed before era → EraIsLinearizable has_failed before era
+EachEraIsLinearizable {D} g = (before : Shared) (era : Era D)
+    → RunsUntilCrash g before era → EraIsLinearizable before era
 
 -- ---- one era after another
 
@@ -105,11 +106,16 @@ pub record FindsState (left : List ℕ) (found : Shared) : Type 0 where
   pub is : found ≡ shared (state_of bank library table) []
 
 -- Each era begins on what the crash before it has left, in the state that its recovery finds there.
-abbrev pub RunsThroughCrashes : {D : Type 0} → Ghosts D → Bool → Shared → List ℕ → List (Era D) → Type 0
-RunsThroughCrashes g has_failed before found [] = Unit {0}
-RunsThroughCrashes g has_failed before found (era ∷ eras) =
-    (g.contents era.start ≡ found) × RunsUntilCrash g has_failed before era × (next : Shared) × FindsState era.left next
-    × RunsThroughCrashes g has_failed next era.left eras
+abbrev pub RunsThroughCrashes : {D : Type 0} → Ghosts D → Shared → List ℕ → List (Era D) → Type 0
+RunsThroughCrashes g before found [] = Unit {0}
+RunsThroughCrashes g before found (era ∷ eras) =
+    (g.contents era.start ≡ found) × RunsUntilCrash g before era × (next : Shared) × FindsState era.left next
+    × RunsThroughCrashes g next era.left eras
+
+-- whether a call of the device failed, of each era
+abbrev pub failed_in : {D : Type 0} → List (Era D) → List Bool
+failed_in [] = []
+failed_in (era ∷ eras) = era.has_failed ∷ failed_in eras
 
 -- what the last crash left
 abbrev pub left_at_last : {D : Type 0} → List ℕ → List (Era D) → List ℕ
@@ -135,17 +141,16 @@ AreHistoriesOf (era ∷ eras) (replies ∷ others) [] = ⊥
 
 -- However often the server crashes: each history of its clients' requests and replies is durably linearizable, and
 -- the disk is a store of the last state.
-pub record IsDurable {D : Type 0} (has_failed : Bool) (before : Shared) (found : List ℕ) (eras : List (Era D))
-    : Type 0 where
+pub record IsDurable {D : Type 0} (before : Shared) (found : List ℕ) (eras : List (Era D)) : Type 0 where
   pub replies : List (List ClientReply)
   pub frames_are : AreFramesOf eras replies
   pub after : Shared
   pub linearizable : (histories : List (History Brought ClientReply)) → AreHistoriesOf eras replies histories
-      → IsDurablyLinearizable (the_table has_failed) before histories after
+      → IsDurablyLinearizable the_table before (failed_in eras) histories after
   pub holds : HoldsState shared_requests after (left_at_last found eras)
 
 abbrev pub ServersAreDurable : {D : Type 0} → Ghosts D → Type 0
-ServersAreDurable {D} g = (has_failed : Bool) (before : Shared) (found : List ℕ) (eras : List (Era D))
+ServersAreDurable {D} g = (before : Shared) (found : List ℕ) (eras : List (Era D))
     → CanBegin before.state → HoldsState shared_requests before found
-    → RunsThroughCrashes g has_failed before found eras
-    → IsDurable has_failed before found eras
+    → RunsThroughCrashes g before found eras
+    → IsDurable before found eras

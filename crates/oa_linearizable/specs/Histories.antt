@@ -95,11 +95,16 @@ pub record IsLinearizable {S I R : Type 0} (object : Object S I R) (old : S) (hi
 -- A history with crashes: its eras, each ended by a crash. The same number in another era is another client. The
 -- history is durably linearizable if it is linearizable without its crashes, with the operations of an era before
 -- those of the next. So the state that recovery finds contains every operation that had its response before the
--- crash; an operation without a response is contained or lost. (2016, section 3)
-abbrev pub IsDurablyLinearizable : {S I R : Type 0} → Object S I R → S → List (History I R) → S → Type 0
-IsDurablyLinearizable object old [] new = new ≡ old
-IsDurablyLinearizable {S} object old (era ∷ eras) new =
-    (mid : S) × IsLinearizable object old era mid × IsDurablyLinearizable object (object.recovered mid) eras new
+-- crash; an operation without a response is contained or lost. (2016, section 3) Each era has a condition, such as
+-- whether the device failed in it, which the object's specification may depend on. (This project's choice.)
+abbrev pub IsDurablyLinearizable : {C S I R : Type 0} → (C → Object S I R) → S → List C → List (History I R) → S
+    → Type 0
+IsDurablyLinearizable object old [] [] new = new ≡ old
+IsDurablyLinearizable {S = S} object old (condition ∷ conditions) (era ∷ eras) new =
+    (mid : S) × IsLinearizable (object condition) old era mid
+    × IsDurablyLinearizable object ((object condition).recovered mid) conditions eras new
+IsDurablyLinearizable object old [] (era ∷ eras) new = ⊥
+IsDurablyLinearizable object old (condition ∷ conditions) [] new = ⊥
 
 -- ---- histories in which the results come in the order of the invocations
 

@@ -73,9 +73,10 @@ SessionsRunUntilCrash {D} g =
     × ((has_failed : Bool) (moment : ℕ) (left : List ℕ) (others : List (Owned Brought))
     → (has_failed ≡ false → OverStore cut.mid.storage (λ store. store.stopped ≡ false))
     → g.moment (disk_of cut.mid.storage) ≤ moment → MayBeLeft g (disk_of cut.last.storage) moment left
-    → RunsUntilCrash g has_failed (shared old.host [])
+    → RunsUntilCrash g (shared old.host [])
     (record {
       start = start;
+      has_failed = has_failed;
       served = served;
       waiting = next ++ others;
       frames = all_told cut.tolds;
@@ -96,7 +97,7 @@ EachIsServedInMemory {D} g =
 
 abbrev pub EachIsServedOverStore : {D : Type 0} → Ghosts D → Type 0
 EachIsServedOverStore {D} g =
-    (has_failed : Bool) (before : Shared) (era : Era D) → RunsUntilCrash g has_failed before era
+    (before : Shared) (era : Era D) → RunsUntilCrash g before era
     → (order : List (Operation Brought ClientReply)) × (after : Shared)
-    × IsLegal (the_table has_failed) before order after
+    × IsLegal (the_table era.has_failed) before order after
     × ((client : ℕ) → ClientIsServed client (era.served ++ era.waiting) era.frames order)

@@ -39,6 +39,6 @@ result_for reply = (client_of reply, reply)
 -- What the clients see of durably linearizable histories is durably linearizable.
 abbrev pub SeenHistoriesAreLinearizable : Type 0
 SeenHistoriesAreLinearizable =
-    (has_failed : Bool) (before : Shared) (histories seen : List (History Brought ClientReply)) (after : Shared)
-    → AreSeenAs histories seen → IsDurablyLinearizable (the_table has_failed) before histories after
-    → IsDurablyLinearizable (the_table has_failed) before seen after
+    (failed : List Bool) (before : Shared) (histories seen : List (History Brought ClientReply)) (after : Shared)
+    → AreSeenAs histories seen → IsDurablyLinearizable the_table before failed histories after
+    → IsDurablyLinearizable the_table before failed seen after

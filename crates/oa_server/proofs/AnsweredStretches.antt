@@ -1,5 +1,5 @@
 -- What many clients were answered, one call behind the other.
-use Rattle.std.proofs.Common.{◌≡◌, ◌⊎◌, inl, inr, ℕ, ◌≤◌, IsTrue, true, false, true≢false, List, [], ◌∷◌, ◌++◌, map, refl, sym, ap, ◌∙◌, subst, append_assoc}
+use Rattle.std.proofs.Common.{◌≡◌, inl, inr, ℕ, IsTrue, true, false, true≢false, List, [], ◌∷◌, ◌++◌, map, refl, sym, ap, ◌∙◌, subst, append_assoc}
 use Rattle.std.proofs.lemmas.List.{append-nil, map-append}
 use Rattle.oa_disk.specs.declared.disk.Disk.{Ghosts}
 use Rattle.oa_groups.specs.Going.{Underway}
@@ -12,9 +12,9 @@ use Rattle.oa_server.specs.Desks.{all_frames, desk_grouping, frames_of, told_to}
 use Rattle.oa_server.specs.SharedSessions.{StretchesAreServed}
 use Rattle.oa_server.proofs.Lifted.{told_none}
 use Rattle.oa_server.specs.SharedRequests.{shared_requests}
-use Rattle.oa_server.specs.SharedTalks.{AsksIn, TakesOver, asked_written}
+use Rattle.oa_server.specs.SharedTalks.{AsksIn, asked_written}
 use Rattle.oa_server.specs.Sharing.{ClientReply, Shared, failed, shared, tagged}
-use Rattle.oa_server.specs.Stretches.{AnswersStretches, IsLateFor, ServesStretch, ServesStretches, Stretch, all_told, bodies_of, cut_at_now, told_in}
+use Rattle.oa_server.specs.Stretches.{IsLateFor, ServesStretch, ServesStretches, Stretch, all_told, bodies_of, cut_at_now, told_in}
 use Rattle.oa_server.specs.declared.desk.Desk.{Desk}
 use Rattle.oa_server.specs.declared.engine.Engine.{Engine}
 use Rattle.oa_server.specs.declared.storage.Storage.{Storage}

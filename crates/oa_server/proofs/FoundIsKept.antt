@@ -23,6 +23,8 @@ use Rattle.oa_server.specs.Laws.{FoundIsKept, OpenedBegins, OpenedJoins}
 use Rattle.oa_server.specs.Openings.{IsFound}
 use Rattle.oa_turn.specs.Events.{held_of}
 use Rattle.oa_server.specs.Requests.{requests, text_of_library}
+use Rattle.oa_server.specs.SharedRequests.{shared_requests}
+use Rattle.oa_server.specs.Sharing.{shared}
 use Rattle.oa_decision.specs.States.{State, state_of}
 use Rattle.oa_typelib.specs.Checked.{IsChecked}
 use Rattle.oa_turn.specs.Turns.{Turn}
@@ -62,13 +64,23 @@ module _ (one_tree : (text : List ℕ) (s t : TreeValue) → IsTree text s → I
       rw (size, one, same.table_same) refl
 
 -- an opening of a disk of which a crash leaves its contents alone begins a session
-pub session_begun : {D : Type 0} {g : Ghosts D} → OpenedBegins g
+pub session_begun : {D : Type 0} {g : Ghosts D} → OpenedBegins requests (λ state. state) g
 session_begun {D} {g} disk library store table opened honest alone =
     let found = opened.found honest in
     let first = state_of (body_bytes store.bank.shape) library table in
     let holds : HoldsState requests first (g.contents disk) = rw opened.unlocked (subst (λ (s : Shape). IsStoreIn s (g.contents disk) (canonical library) table) opened.shape found.contents) in
     session_opened requests {g = g} disk store first
     (weakened g.moment g.image_since disk store.disk (g.image disk) (HoldsState requests first) found.reads.moments (λ c is. rw (alone c is) holds))
+    (record { shape = opened.shape; has = opened.text; all = (honest, λ c is. rw opened.unlocked (found.each c is)) })
+
+-- one of many clients, too
+pub begun_for_many : {D : Type 0} {g : Ghosts D} → OpenedBegins shared_requests (λ state. shared state []) g
+begun_for_many {D} {g} disk library store table opened honest alone =
+    let found = opened.found honest in
+    let first = shared (state_of (body_bytes store.bank.shape) library table) [] in
+    let holds : HoldsState shared_requests first (g.contents disk) = rw opened.unlocked (subst (λ (s : Shape). IsStoreIn s (g.contents disk) (canonical library) table) opened.shape found.contents) in
+    session_opened shared_requests {g = g} disk store first
+    (weakened g.moment g.image_since disk store.disk (g.image disk) (HoldsState shared_requests first) found.reads.moments (λ c is. rw (alone c is) holds))
     (record { shape = opened.shape; has = opened.text; all = (honest, λ c is. rw opened.unlocked (found.each c is)) })
 
 -- An opening takes what the disk holds for what a stop has left.

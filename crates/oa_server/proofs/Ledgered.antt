@@ -14,6 +14,7 @@ use Rattle.std.specs.Ordering.{nat_cmp}
 use Rattle.oa_array.specs.Arrays.{ArrayValue}
 use Rattle.oa_array.specs.declared.fault.ArrayFault.{ArrayFault}
 use Rattle.oa_array.specs.declared.fault.ArrayFault.TheVariants as arrays
+use Rattle.oa_frame.specs.declared.ends.End.{End}
 use Rattle.oa_frame.specs.declared.ends.End.TheVariants.{Closed, Cut, TooLong, BadHex, ReadFault, WriteFault}
 use Rattle.oa_groups.specs.Turns.{Exchange}
 use Rattle.oa_image.specs.Tables.{is_numbered, is_used}
@@ -33,7 +34,7 @@ use Rattle.oa_record.specs.declared.request.Request.TheVariants as requests
 use Rattle.oa_record.specs.declared.opcode.ByCall.TheVariants as by_call
 use Rattle.oa_record.specs.declared.opcode.ByNumber.TheVariants as by_number
 use Rattle.oa_server.specs.Ledgers.{ClientsKeepLedger, EndUnlocksAll, HasLedger, IsRunOfOne, IsTurnOfOne, OpeningHasLedger, OwnsAll, RunsKeepLedger, TurnsKeepLedger}
-use Rattle.oa_server.specs.Sharing.{ClientReply, HasOwners, IsSharedTurn, MayChange, RefusesUnlock, Replies, Shared, TakesTurn, TurnOf, TurnsFor, behind_end, brought_by, client_in, relocked_by, shared, tagged, taken_back}
+use Rattle.oa_server.specs.Sharing.{ClientReply, HasOwners, IsSharedTurn, Leaves, MayChange, RefusesUnlock, Replies, Shared, TakesTurn, TurnOf, TurnsFor, behind_end, brought_by, client_in, relocked_by, shared, tagged, taken_back}
 use Rattle.oa_server.proofs.LockTurns.{OneRequest, apart_asks_none, not_apart}
 use Rattle.oa_share.specs.Readers.{Body, Brought, Ends}
 use Rattle.oa_table.specs.Elements.{locks_in, locks_of, redimensioned_value, released_value}
@@ -465,7 +466,7 @@ module _ (one_request : OneRequest) (is_stub : (body : List ℕ) → is_replacem
   brought_is client (Ends WriteFault) = refl
   brought_is client (Ends (BadHex line)) = refl
 
-  body_of_one : (client : ℕ) (body : List ℕ) (reply : ReplyValue) (asked : Exchange ClientReply) (old new : Shared) → asked.body ≡ tagged client (Body body) → asked.reply ≡ Replies client reply → IsSharedTurn asked old new → TurnsFor client body reply old new
+  pub body_of_one : (client : ℕ) (body : List ℕ) (reply : ReplyValue) (asked : Exchange ClientReply) (old new : Shared) → asked.body ≡ tagged client (Body body) → asked.reply ≡ Replies client reply → IsSharedTurn asked old new → TurnsFor client body reply old new
   body_of_one client body reply asked old new is told one = by one.brought (sym (brought_is one.client one.brought) ∙ ap brought_by (sym one.body_is ∙ is)) one.turn
     where
       same_client : one.client ≡ client
@@ -494,6 +495,20 @@ module _ (one_request : OneRequest) (is_stub : (body : List ℕ) → is_replacem
       by : (brought : Brought) → brought ≡ Body body → TurnOf one.client brought asked.reply old new → (reply : ReplyValue) × (asked.reply ≡ Replies client reply)
       by (Ends why) e turn = absurd cc
       by (Body b) e turn = (turn.reply, turn.told_is ∙ ap (λ (c : ℕ). Replies c turn.reply) same_client)
+
+  -- its end is told it, and releases its locks
+  pub end_of_one : (client : ℕ) (end : End) (asked : Exchange ClientReply) (old new : Shared) → asked.body ≡ tagged client (Ends end) → IsSharedTurn asked old new → (asked.reply ≡ Leaves client end) × (new ≡ behind_end client old)
+  end_of_one client end asked old new is one = by one.brought (sym (brought_is one.client one.brought) ∙ ap brought_by (sym one.body_is ∙ is) ∙ brought_is client (Ends end)) one.turn
+    where
+      same_client : one.client ≡ client
+      same_client = ap client_in (sym one.body_is ∙ is)
+
+      by : (brought : Brought) → brought ≡ Ends end → TurnOf one.client brought asked.reply old new → (asked.reply ≡ Leaves client end) × (new ≡ behind_end client old)
+      by (Body b) e turn = absurd cc
+      by (Ends why) e turn = (turn.told_is ∙ ap (λ (c : ℕ). Leaves c why) same_client ∙ ap (λ (w : End). Leaves client w) (same_end why e), turn.behind ∙ ap (λ (c : ℕ). behind_end c old) same_client)
+        where
+          same_end : (why : End) → Ends why ≡ Ends end → why ≡ end
+          same_end why f = cc
 
   pub run_of_one : IsRunOfOne
   run_of_one client old new [] [] [] has own run bodies_are replies_are = sym (ap (λ (s : Shared). s.state) run)

@@ -1,11 +1,10 @@
 -- What is taken for one client is taken for one of many.
-use Rattle.std.proofs.Common.{◌≡◌, ◌≢◌, ◌⊎◌, inl, inr, ℕ, zero, suc, ◌+◌, ◌≤◌, Bool, true, false, true≢false, List, [], ◌∷◌, ◌++◌, length, map, Option, Some, None, refl, sym, ap, ◌∙◌, subst, arith}
-use Rattle.std.proofs.lemmas.List.{append-nil, length-map, length-append}
+use Rattle.std.proofs.Common.{◌≡◌, ◌⊎◌, inl, inr, ℕ, suc, ◌+◌, Bool, true, false, List, [], ◌∷◌, ◌++◌, length, map, Option, Some, None, refl, sym, ap, ◌∙◌, arith}
+use Rattle.std.proofs.lemmas.List.{length-map, length-append}
 use Rattle.oa_disk.specs.declared.disk.Disk.{Ghosts}
 use Rattle.oa_frame.specs.declared.ends.End.{End}
 use Rattle.oa_groups.specs.Groups.{fills}
-use Rattle.oa_groups.specs.Groupings.{FailsAtCheckpoint, Grouping, IsAfterFault, IsAnsweredAlone, IsApart, IsDue, IsEnded, IsFlushed, IsHeld, IsIdle, IsLast, IsSettled, IsTaken}
-use Rattle.oa_groups.specs.Runs.{MakesEvent}
+use Rattle.oa_groups.specs.Groupings.{Grouping, IsAfterFault, IsAnsweredAlone, IsApart, IsDue, IsEnded, IsFlushed, IsHeld, IsIdle, IsLast, IsSettled, IsTaken}
 use Rattle.oa_groups.specs.Turns.{exchange}
 use Rattle.oa_groups.proofs.Entries.{either}
 use Rattle.oa_owners.specs.ClientLocks.{ClientLock}
@@ -17,7 +16,7 @@ use Rattle.oa_server.specs.OpenGroups.{grouping}
 use Rattle.oa_server.specs.Requests.{IsAsked, requests}
 use Rattle.oa_server.specs.Requests as one_client
 use Rattle.oa_server.specs.SharedRequests.{shared_requests}
-use Rattle.oa_server.specs.Sharing.{ClientReply, HasOwners, IsSharedTurn, Leaves, Replies, Shared, failed, faulted, shared, tagged, withdrawn}
+use Rattle.oa_server.specs.Sharing.{ClientReply, HasOwners, IsSharedTurn, Replies, Shared, faulted, shared, tagged, withdrawn}
 use Rattle.oa_server.specs.declared.desk.Asker.{Asker}
 use Rattle.oa_share.specs.Readers.{Body}
 use Rattle.oa_decision.specs.States.{State}

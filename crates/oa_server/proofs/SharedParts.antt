@@ -8,23 +8,18 @@ use Rattle.oa_groups.proofs.Calling.{chained, come_before, goes_on_moments, sess
 use Rattle.oa_groups.proofs.Entries.{either}
 use Rattle.oa_record.specs.Replacement.{is_replacement}
 use Rattle.oa_store.specs.declared.store.Store.{Store}
-use Rattle.oa_stream.specs.Sink.{Output}
-use Rattle.oa_stream.specs.Source.{Input}
 use Rattle.oa_server.specs.SharedCalls.{IsCallsOf, SessionsAreCalls, StretchesCount, StretchesGoOn, stretch_calls}
 use Rattle.oa_server.specs.SharedRequests.{shared_requests}
-use Rattle.oa_server.specs.SharedSessions.{HasServedClients}
 use Rattle.oa_server.specs.SharedTalks.{asked_written}
 use Rattle.oa_server.specs.Sharing.{ClientReply, Shared, shared}
 use Rattle.oa_server.specs.Stretches.{AnswersStretches, ServesStretch, ServesStretches, Stretch, all_told}
 use Rattle.oa_server.specs.declared.engine.Engine.{Engine}
-use Rattle.oa_server.specs.declared.storage.Storage.{Storage}
 use Rattle.oa_server.specs.declared.storage.Storage.TheVariants.{Disk}
 use Rattle.oa_server.proofs.Parting.{BeginsWith, begins_more}
 use Rattle.oa_server.proofs.AnsweredStretches.{stretches_served}
 use Rattle.oa_share.specs.Marks.{Now, Owned}
 use Rattle.oa_share.specs.Readers.{Brought}
 use Rattle.oa_share.specs.Talking.{AllTurned, FailsToTell, TellsAll, ends_at, parted}
-use Rattle.oa_share.specs.declared.session_end.SessionEnd.{SessionEnd}
 
 abbrev call_of : ℕ → Stretch → AnsweredCall ClientReply
 call_of size stretch = record { size = size; bodies = stretch.bodies; replies = stretch.told }
@@ -151,7 +146,7 @@ module _ {D : Type 0} {g : Ghosts D} (only : (d : D) (c : List ℕ) → IsTrue (
 
       by : TellsAll asked_written asks why session.serves.streams (session.serves.calls + length session.serves.taken) input' out out' session.begun session.left
           ⊎ FailsToTell asked_written asks why session.serves.streams.clients out out' session.begun session.left
-          → (end : Store D g) × (new.storage ≡ Disk end) × IsCallsOf session.serves.asked out out' size start end (shared old.host []) (shared new.host new.desk.owners)
+          → (end : Store D g) × (new.storage ≡ Disk end) × IsCallsOf session.serves.asked session.serves.streams.clients why out out' size start end (shared old.host []) (shared new.host new.desk.owners)
       by (inl tells) =
           let ends = ends_at why session.serves.streams.clients in
           let all = to_the_end ends tells.told.tolds tells.told.run in (
@@ -159,8 +154,10 @@ module _ {D : Type 0} {g : Ghosts D} (only : (d : D) (c : List ℕ) → IsTrue (
             all.1,
             record {
               ends = ends;
+              ends_are = inl refl;
               heard = tells.told.tolds;
               unheard = [];
+              few = omega arith;
               last = shared session.left.host session.left.desk.owners;
               answers = subst (λ (l : List (List (ℕ × List ℕ))). AnswersStretches size start all.0 (shared old.host []) (asks ++ (ends ++ Now ∷ [])) (all_told l) (shared session.left.host session.left.desk.owners)) (sym (append-nil tells.told.tolds)) all.2;
               written = inl (tells.told.written, refl);
@@ -173,8 +170,10 @@ module _ {D : Type 0} {g : Ghosts D} (only : (d : D) (c : List ℕ) → IsTrue (
             all.1,
             record {
               ends = fails.ends;
+              ends_are = inr (fails.ended, fails.others, fails.are);
               heard = fails.loses.given;
               unheard = fails.loses.unheard;
+              few = fails.loses.one;
               last = shared session.left.host session.left.desk.owners;
               answers = all.2;
               written = inr fails.loses.torn;

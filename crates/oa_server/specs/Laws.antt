@@ -7,7 +7,7 @@ use Rattle.oa_groups.specs.Runs.{HoldsState, IsAfter}
 use Rattle.oa_groups.specs.Served.{IsServed}
 use Rattle.oa_groups.specs.Sessions.{AnsweredCall, IsSessionOn, Sitting, answered_by}
 use Rattle.oa_groups.specs.Groups.{joined}
-use Rattle.oa_groups.specs.Turns.{Exchange, body_of, reply_of}
+use Rattle.oa_groups.specs.Turns.{Exchange, Turns, body_of, reply_of}
 use Rattle.oa_canonical.specs.Canonical.{canonical}
 use Rattle.oa_idl.specs.Trees.{TreeValue}
 use Rattle.oa_record.specs.Replies.{ReplyValue}
@@ -24,13 +24,14 @@ use Rattle.oa_server.specs.Talks.{Part, Parts, calls_of}
 use Rattle.oa_turn.specs.Turns.{Run}
 use Rattle.oa_server.specs.declared.storage.Storage.TheVariants.{Disk}
 
--- If a crash may leave only the contents of the disk, an opening begins a session with the table that it finds.
-abbrev pub OpenedBegins : {D : Type 0} → Ghosts D → Type 0
-OpenedBegins {D} g =
+-- If a crash may leave only the contents of the disk, an opening begins a session, of one client or of many, with the
+-- table that it finds.
+abbrev pub OpenedBegins : {S R D : Type 0} → Turns S R → (State → S) → Ghosts D → Type 0
+OpenedBegins {D = D} t serving g =
     (disk : D) (library : TreeValue) (store : Store D g) (table : TableValue) → IsOpened g disk library store table
     → IsTrue (g.is_honest store.disk) → NothingPending g.contents g.image disk
-    → Sitting requests disk store (state_of (body_bytes store.bank.shape) library table)
-    (state_of (body_bytes store.bank.shape) library table) []
+    → Sitting t disk store (serving (state_of (body_bytes store.bank.shape) library table))
+    (serving (state_of (body_bytes store.bank.shape) library table)) []
 
 -- If something was pending, an opening continues what came before: a crash at the end of that may leave the contents
 -- of the opened disk, and what a crash during the opening leaves. With these contents, which have the table that was

@@ -1,5 +1,5 @@
 -- A session of many clients over a store, as calls of a session over that store. (This project's choice.)
-use Rattle.std.specs.Prelude.{◌≡◌, ◌⊎◌, ◌≤◌, ℕ, false, List, [], ◌∷◌, ◌++◌}
+use Rattle.std.specs.Prelude.{◌≡◌, ◌⊎◌, ◌≤◌, ℕ, false, List, [], ◌∷◌, ◌++◌, length}
 use Rattle.oa_disk.specs.declared.disk.Disk.{Ghosts}
 use Rattle.oa_groups.specs.Sessions.{AnsweredCall, IsSessionOn, Sitting, answered_by}
 use Rattle.oa_record.specs.Replacement.{is_replacement}
@@ -14,19 +14,29 @@ use Rattle.oa_server.specs.declared.engine.Engine.{Engine}
 use Rattle.oa_server.specs.declared.storage.Storage.TheVariants.{Disk}
 use Rattle.oa_share.specs.Marks.{Now, Owned}
 use Rattle.oa_share.specs.Outgoing.{spelled_told}
-use Rattle.oa_share.specs.Readers.{Brought}
-use Rattle.oa_share.specs.Talking.{parted}
+use Rattle.oa_share.specs.Readers.{Brought, ClientState}
+use Rattle.oa_share.specs.Talking.{ends_at, ends_in, parted}
 use Rattle.oa_share.specs.declared.session_end.SessionEnd.{SessionEnd}
+use Rattle.oa_share.specs.declared.session_end.SessionEnd.TheVariants.{WriteFault}
 
--- A whole session: the requests, some ends, and a last *now* were answered by calls that were served, one for each
--- *now*. The frames of their replies were written, except those that were lost because the writer had failed. After
--- that all locks are released.
-pub record IsCallsOf {D : Type 0} {g : Ghosts D} (asked : List (Owned Brought)) (out out' : Output) (size : ℕ)
-    (old new : Store D g)
+-- The ends at the end of a session: those of the clients that are present then; or the first of them, if the writer
+-- has failed.
+abbrev pub AreLastEnds : SessionEnd → List (ℕ × ClientState) → List (Owned Brought) → Type 0
+AreLastEnds why clients ends = (ends ≡ ends_at why clients)
+    ⊎ (why ≡ WriteFault) × (others : List (Owned Brought)) × (ends ++ others ≡ ends_in clients)
+
+-- A whole session: the requests, the ends of these clients, and a last *now* were answered by calls that were served,
+-- one for each *now*. The frames of their replies were written. If the writer had failed, those of the last turn may
+-- be lost. After that all locks are released.
+pub record IsCallsOf {D : Type 0} {g : Ghosts D} (asked : List (Owned Brought)) (clients : List (ℕ × ClientState))
+    (why : SessionEnd)
+    (out out' : Output) (size : ℕ) (old new : Store D g)
     (before after : Shared) : Type 0 where
   pub ends : List (Owned Brought)
+  pub ends_are : AreLastEnds why clients ends
   pub heard : List (List (ℕ × List ℕ))
   pub unheard : List (List (ℕ × List ℕ))
+  pub few : length unheard ≤ 1
   pub last : Shared
   pub answers : AnswersStretches size old new before (parted is_replacement asked ++ (ends ++ Now ∷ []))
       (all_told (heard ++ unheard)) last
@@ -40,7 +50,7 @@ SessionsAreCalls {D} g =
     (why : SessionEnd)
     → old.storage ≡ Disk start → (session : HasServedClients input input' out out' size old new why)
     → (end : Store D g) × (new.storage ≡ Disk end)
-    × IsCallsOf session.serves.asked out out' size start end (shared old.host [])
+    × IsCallsOf session.serves.asked session.serves.streams.clients why out out' size start end (shared old.host [])
     (shared new.host new.desk.owners)
 
 abbrev pub stretch_calls : ℕ → List Stretch → List (AnsweredCall ClientReply)

@@ -1,5 +1,5 @@
 //! Theorems about groups and sessions over a store, each the contract of a function with an empty body.
-ghost use Rattle.std.specs.Prelude.{◌≡◌, ◌<◌, ◌≤◌, ℕ, false, List, ◌++◌, length};
+ghost use Rattle.std.specs.Prelude.{◌≡◌, ◌<◌, ◌≤◌, ℕ, false, List, [], ◌++◌, length};
 ghost use Rattle.oa_groups.specs.Laws.{CallCounts, CallGoesOn, EndCountsAll, HistoryKeepsAnswered, LateCallCounts, OneFault};
 ghost use Rattle.oa_groups.specs.Laws.{OpeningBegins, OthersAreRun, StopIsLink, StopKeepsAnswered};
 ghost use Rattle.oa_groups.specs.Runs.{MakesEvent, TurnsOver};
@@ -18,6 +18,7 @@ ghost use Rattle.oa_server.specs.Requests.{opened, requests};
 ghost use Rattle.oa_server.specs.SharedCalls.{SessionsAreCalls, StretchesCount, StretchesGoOn};
 ghost use Rattle.oa_server.specs.SharedRequests.{shared_requests};
 ghost use Rattle.oa_server.specs.SharedSessions.{StretchesAreServed};
+ghost use Rattle.oa_server.specs.Sharing.{shared};
 ghost use Rattle.oa_decision.specs.States.{State, state_of};
 ghost use Rattle.oa_turn.specs.Steps.{outcome};
 ghost use Rattle.oa_turn.specs.Turns.{Turn};
@@ -77,9 +78,10 @@ pub fn headline<D: Disk>()
 
 /// What recovery finds after a crash is the state with which the history of the store continues, without locks. If a
 /// crash may leave only the contents, as of a new disk, an opening begins a session from there. So the sessions of
-/// the crash theorem are those of servers that were opened one after the other.
+/// the crash theorem are those of servers that were opened one after the other, for one client and for many.
 pub fn an_opening_finds_what_was_kept<D: Disk>()
-    ensures begins { OpenedBegins D.Disk }
+    ensures begins { OpenedBegins requests (λ state. state) D.Disk }
+    ensures begins_for_many { OpenedBegins shared_requests (λ state. shared state []) D.Disk }
     // (also if something was pending)
     ensures joins { OpenedJoins D.Disk }
     ensures kept { FoundIsKept }
@@ -114,12 +116,14 @@ pub fn parts_go_on<D: Disk>()
 {}
 
 /// A crash at any point in time of a session leaves a store of the state after all groups that were answered by then,
-/// and possibly some more; at its end after all groups.
+/// and possibly some more; at its end after all groups. The same is true of many clients (`stopped` of `many_clients`).
 pub fn a_stop_keeps_what_was_answered<D: Disk>()
     ensures stopped { StopKeepsAnswered requests D.Disk }
     ensures all { EndCountsAll requests D.Disk }
     // (so the session is a step of a crash history)
     ensures link { StopIsLink requests D.Disk }
+    ensures all_of_many { EndCountsAll shared_requests D.Disk }
+    ensures link_of_many { StopIsLink shared_requests D.Disk }
 {}
 
 /// The theorems about sessions, crashes and crash histories, and that refused requests leave no trace, are true of

@@ -5,5 +5,5 @@ returns-clause-memory g c disk old new asks tolds is run =
     let one = c.linearizable_in_memory.ensures disk old new asks tolds is run in (one.order, one.legal, one.each_client)
 
 pub returns-clause-store : goal.returns-clause-store
-returns-clause-store g c has_failed before era runs =
-    let one = c.each_era_is_linearizable.ensures has_failed before era runs in (one.order, one.after, one.legal, one.each_client)
+returns-clause-store g c before era runs =
+    let one = c.each_era_is_linearizable.ensures before era runs in (one.order, one.after, one.legal, one.each_client)

@@ -1,5 +1,6 @@
 use Rattle.oa_groups.proofs.Calling.{session_ended, session_left, session_stopped}
 use Rattle.oa_server.specs.Requests.{requests}
+use Rattle.oa_server.specs.SharedRequests.{shared_requests}
 use Rattle.oa_server.proofs.laws.a_stop_keeps_what_was_answered.Goals as goal
 
 pub returns-clause-stopped : goal.returns-clause-stopped
@@ -10,3 +11,9 @@ returns-clause-all g c old new first calls last session m le = session_ended req
 
 pub returns-clause-link : goal.returns-clause-link
 returns-clause-link g c old new first calls last session m f later since = session_left requests g.D.Disk old new first calls last session m f later since
+
+pub returns-clause-all_of_many : goal.returns-clause-all_of_many
+returns-clause-all_of_many g c old new first calls last session m le = session_ended shared_requests g.D.Disk.moment g.D.Disk.image_since old new first calls last session m le
+
+pub returns-clause-link_of_many : goal.returns-clause-link_of_many
+returns-clause-link_of_many g c old new first calls last session m f later since = session_left shared_requests g.D.Disk old new first calls last session m f later since

@@ -125,7 +125,7 @@ def run_again(loader, failed_in):
 
 
 def class_of(name):
-    """The class whose setup failed, where the name is that of such an error. All of its tests run again."""
+    """The class whose setup failed, if the name is that of such an error. All of its tests run again."""
     found = re.fullmatch(r"setUpClass \((\S+)\)", name)
     return found and found[1]
 

@@ -291,13 +291,13 @@ module _ {D : Type 0} {g : Ghosts D} (only : (d : D) (c : List ℕ) → IsTrue (
       let ends = ends_of_turns run.0 new (asks ++ Now ∷ []) tolds run.2 in
       ⊎_elim
       (λ held. more_held start first own (Of client brought) (asks ++ Now ∷ []) told tolds gone at ends new held.0
-          (all_calls start first run.0 new (own ++ Of client brought ∷ []) asks tolds (gone ++ at ∷ []) (one_more own (Of client brought) gone at each) held.1 run.2))
+      (all_calls start first run.0 new (own ++ Of client brought ∷ []) asks tolds (gone ++ at ∷ []) (one_more own (Of client brought) gone at each) held.1 run.2))
       (λ call. more_called start first own (Of client brought) (asks ++ Now ∷ []) told tolds gone ends run.0 new each call (all_calls call.mid (shared run.0.host run.0.desk.owners) run.0 new [] asks tolds [] refl call.next run.2))
       (turned start first old.storage run.0.storage old.host run.0.host old.desk run.0.desk own client brought told was run.1)
   all_calls start first old new own (Now ∷ asks) (told ∷ tolds) gone each was run =
       let call = turned_now start first old.storage run.0.storage old.host run.0.host old.desk run.0.desk own told was run.1 in
       more_called start first own Now (asks ++ Now ∷ []) told tolds gone (ends_of_turns run.0 new (asks ++ Now ∷ []) tolds run.2) run.0 new each call
-          (all_calls call.mid (shared run.0.host run.0.desk.owners) run.0 new [] asks tolds [] refl call.next run.2)
+      (all_calls call.mid (shared run.0.host run.0.desk.owners) run.0 new [] asks tolds [] refl call.next run.2)
   all_calls start first old new own (Of client brought ∷ asks) [] gone each was run = absurd run
   all_calls start first old new own (Now ∷ asks) [] gone each was run = absurd run
 

@@ -91,7 +91,8 @@ TurnsAreCalls {D} g =
     → old.storage ≡ Disk start → old.desk.open_group.replies.items ≡ [] → old.desk.open_group.batch ≡ []
     → (run : AllTurned asked_written old (asks ++ Now ∷ []) tolds new)
     → (calls : List (Done ClientReply))
-    × AreTurnsOf old.desk.open_group.size calls (asks ++ Now ∷ []) tolds (ends_of_turns old new (asks ++ Now ∷ []) tolds run)
+    × AreTurnsOf old.desk.open_group.size calls (asks ++ Now ∷ []) tolds
+    (ends_of_turns old new (asks ++ Now ∷ []) tolds run)
     × Made ServesShared old.storage (shared old.host old.desk.owners) calls new.storage
     (shared new.host new.desk.owners)
 

@@ -308,8 +308,8 @@ module _ (one_request : OneRequest) (is_stub : (body : List ℕ) → is_replacem
         let there = runs_keep one_request is_stub asks_nothing before two.mid two.front has two.run in
         let ended = told_end client left two.mid after two.back there (run_owns client before two.mid two.front bodies has own two.run two.first) two.rest two.second in
         let replies_are : map reply_of all.entries ≡ map (λ (reply : ReplyValue). Replies client reply) told.replies ++ end_replies client left =
-            ap (λ (l : List (Exchange ClientReply)). map reply_of l) two.parts ∙ map-append reply_of two.front two.back
-            ∙ ap (λ (l : List ClientReply). l ++ map reply_of two.back) told.are ∙ ap (λ (l : List ClientReply). map (λ (reply : ReplyValue). Replies client reply) told.replies ++ l) ended.are in
+        ap (λ (l : List (Exchange ClientReply)). map reply_of l) two.parts ∙ map-append reply_of two.front two.back
+        ∙ ap (λ (l : List ClientReply). l ++ map reply_of two.back) told.are ∙ ap (λ (l : List ClientReply). map (λ (reply : ReplyValue). Replies client reply) told.replies ++ l) ended.are in
         record {
           replies = told.replies;
           mid = two.mid.state;

@@ -118,9 +118,9 @@ abbrev pub turns_ended : {D : Type 0} {g : Ghosts D} {input input' : Read} {out 
     → ServesClients is_replacement asked_written starting input input' out out' old new why → List ℕ
 turns_ended {old = old} {new = new} {why = why} is = ⊎_elim
     (λ all. ends_of_turns old new (parted is_replacement is.asked ++ (ends_at why is.streams.clients ++ Now ∷ []))
-        all.told.tolds all.told.run)
+    all.told.tolds all.told.run)
     (λ fails. ends_of_turns old new (parted is_replacement is.asked ++ (fails.ends ++ Now ∷ []))
-        (fails.loses.given ++ fails.loses.unheard) fails.loses.run)
+    (fails.loses.given ++ fails.loses.unheard) fails.loses.run)
     is.done
 
 -- A server received this input of many clients, none of which has a lock, and an empty writer. What was read,

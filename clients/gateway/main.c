@@ -169,8 +169,8 @@ int main(int argc, char **argv) {
     struct epoll_event events[EVENTS];
     bool begun = false;
     for (double next_tick = now, next_relief = now; goes_on();) {
-        double at = clock_now(), pause = until_batch(at);
-        double next = pause > 0 ? at + pause : replies_lack_room && next_tick > now + 0.1 ? now + 0.1 : next_tick;
+        double at = clock_now(), pause = until_batch(now); /* as `pump` saw it: what it began no batch for waits for more */
+        double next = pause > 0 ? now + pause : replies_lack_room && next_tick > now + 0.1 ? now + 0.1 : next_tick;
         if (watching && watchers_due() < next) next = watchers_due();
         int n = wait_for_events(events, next - at);
         bool heard = false;
@@ -188,10 +188,7 @@ int main(int argc, char **argv) {
             begun = true;
             begin();
         }
-        pump();
-        write_server();
-        if (watching) tell_watchers();
-        if (tailing) send_tails();
+        /* (before `pump`: who is disconnected here may be the one for whom others wait) */
         if (now >= next_tick) {
             next_tick = now + 1;
             tick();
@@ -200,6 +197,10 @@ int main(int argc, char **argv) {
             next_relief = now + 0.1;
             relieve();
         }
+        pump();
+        write_server();
+        if (watching) tell_watchers();
+        if (tailing) send_tails();
         let_read();
     }
     if (watching) end_watching();

@@ -774,6 +774,34 @@ class Patience(Behaviour):
         self.tell("within --hold and a second, about", took < 6, took)
         self.ended(gateway)
 
+    def test_who_waits_for_one_that_is_let_go(self):
+        """Is served at once then, and not at the next second."""
+        gateway = self.started("--hold", "1")
+        sock = self.dial(gateway)
+
+        def waits(held_by, goes):
+            """The seconds from the end of the one that holds the server to the reply of the one that waits."""
+            with held_by:
+                goes(held_by)
+                sock.sendall(record(NONE))
+                rest(held_by)
+            gone = time.monotonic()
+            self.tell("a client is served again", hear(sock, 20) == ANSWER)
+            return time.monotonic() - gone
+
+        def backs_up(control):
+            control.sendall(b"hold\n")
+            hear(control, 5)
+
+        def asks_alone(alone):
+            alone.sendall(record(NONE))
+            hear(alone, 20)
+
+        for name, socket_of, goes in (("a backup", "control", backs_up), ("an exclusive client", "alone", asks_alone)):
+            took = least(0.5, lambda: waits(gateway.dial(socket_of), goes))
+            self.tell(f"{name}: at once", took < 0.5, took)
+        self.ended(gateway)
+
     def test_who_waits_for_a_reply_is_not_silent(self):
         gateway = self.started("--idle", "1", kind=Faked)
 

@@ -1,5 +1,5 @@
 -- What becomes of a frame.
-use Rattle.std.proofs.Common.{◌≡◌, ◌⊎◌, inl, inr, ◌<◌, ◌≤◌, ℕ, ◌+◌, Bool, true, false, if◌then◌else◌, List, [], ◌∷◌, ◌++◌, length, take, drop, get_or, set, refl, sym, ap, ◌∙◌, subst, arith}
+use Rattle.std.proofs.Common.{◌≡◌, ◌⊎◌, inl, inr, ◌<◌, ◌≤◌, ℕ, ◌+◌, ◌*◌, Bool, true, false, if◌then◌else◌, List, [], ◌∷◌, ◌++◌, length, take, drop, get_or, set, refl, sym, ap, ◌∙◌, subst, arith}
 use Rattle.std.specs.Prelude.{slice_range, ◌==◌}
 use Rattle.std.specs.Int.{w32, from_le_bytes, to_le_bytes}
 use Rattle.std.proofs.lemmas.Bool.{cases_lt}
@@ -68,6 +68,13 @@ small_part bytes at small room i = by (cases_lt i 4)
         let a = get_or_past (take 4 (drop at bytes)) i 0 (omega (arith, len, h)) in
         omega (arith, a)
 
+-- what four bytes can say
+four_say : (a b c d n : ℕ) → a < 256 → b < 256 → c < 256 → d < 256 → n ≡ a + b * 256 + c * 65536 + d * 16777216 → n < 4294967296
+four_say a b c d n one two three four is = omega arith
+
+says_less : (bytes : List ℕ) (n : ℕ) → ((i : ℕ) → get_or bytes i 0 < 256) → n ≡ from_le_bytes w32 bytes → n < 4294967296
+says_less bytes n small is = four_say _ _ _ _ n (small 0) (small 1) (small 2) (small 3) is
+
 -- a frame that has come whole
 pub frame_there : (bytes first rest second inside : List ℕ) (number count : ℕ) → ((i : ℕ) → get_or bytes i 0 < 256) → first ≡ take 4 bytes → rest ≡ drop 4 bytes → length rest + 4 ≡ length bytes
     → second ≡ take 4 rest → inside ≡ drop 4 rest → length inside + 4 ≡ length rest → number ≡ from_le_bytes w32 first → count ≡ from_le_bytes w32 second → count ≤ length inside
@@ -79,6 +86,8 @@ frame_there bytes first rest second inside number count small a b c d e f g h ro
     let body : drop 8 bytes ≡ inside = sym (drop-drop 4 4 bytes) ∙ sym (e ∙ ap (drop 4) b) in
     let part : slice_range bytes 8 (8 + count) ≡ take count inside = ap (λ k. take k (drop 8 bytes)) (omega arith) ∙ ap (take count) body in
     let long : length (take count inside) ≡ count = length-take-le count inside room in
+    let client : number < 4294967296 = says_less (take 4 bytes) number (small_part bytes 0 small (omega (arith, none, c))) (g ∙ ap (from_le_bytes w32) a) in
+    let said : count < 4294967296 = says_less (take 4 (drop 4 bytes)) count (small_part bytes 4 small (omega (arith, ap length b, c, f))) (h ∙ ap (from_le_bytes w32) (d ∙ ap (take 4) b)) in
     let one : to_le_bytes w32 number ≡ take 4 bytes = le_bytes_4 (take 4 bytes) number four (small_part bytes 0 small (omega (arith, none, c))) (g ∙ ap (from_le_bytes w32) a) in
     let two : to_le_bytes w32 (length (take count inside)) ≡ take 4 (drop 4 bytes) =
     le_bytes_4 (take 4 (drop 4 bytes)) (length (take count inside)) four' (small_part bytes 4 small (omega (arith, ap length b, c, f))) (long ∙ h ∙ ap (from_le_bytes w32) (d ∙ ap (take 4) b)) in
@@ -90,7 +99,7 @@ frame_there bytes first rest second inside number count small a b c d e f g h ro
     ∙ ap (λ l. ((l ++ take 4 (drop 4 bytes)) ++ take count inside) ++ drop count inside) (sym one)
     ∙ ap (λ l. ((to_le_bytes w32 number ++ l) ++ take count inside) ++ drop count inside) (sym two) in (
       omega (arith, c, f, room),
-      subst (FirstFrame bytes number) (sym part) (record { rest = drop count inside; whole = all }),
+      subst (FirstFrame bytes number) (sym part) (record { client = client; short = omega (arith, long, said); rest = drop count inside; whole = all }),
     )
 
 -- the gateway's own end says these numbers

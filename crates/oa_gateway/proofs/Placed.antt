@@ -1,6 +1,6 @@
 -- The queue in its array.
 use Rattle.std.proofs.Common.{◌≡◌, ◌<◌, ◌≤◌, ℕ, suc, ◌+◌, ◌-◌, List, [], ◌∷◌, ◌++◌, length, take, drop, set, get_or, refl, sym, ap, ◌∙◌, append_assoc, length-append, arith, take_at}
-use Rattle.std.proofs.lemmas.List.{drop-append-le, drop-drop, drop-set-lt, drop_at, drop_more, get_or-set_same, length-drop, length-set, length-take-le, take-append-drop, take-append-le, take-set, take-set-le, take-take, take_more_set}
+use Rattle.std.proofs.lemmas.List.{drop-append-le, drop-drop, drop-set-lt, drop_at, drop_more, get_or-set_same, length-set, length-take-le, take-append-drop, take-append-le, take-set, take-take, take_more_set}
 use Rattle.std.proofs.lemmas.Bool.{le-ltb, ltb-false}
 use Rattle.std.proofs.lemmas.List.Edits.{between_more, length-between}
 use Rattle.std.proofs.lemmas.Slice.{between_from_start, between_is}

@@ -1,6 +1,6 @@
 -- In which order clients have their turns.
-use Rattle.std.proofs.Common.{◌≡◌, ◌≤◌, ℕ, Bool, true, false, if◌then◌else◌, suc, ◌+◌, List, [], ◌∷◌, ◌++◌, length, refl, sym, ap, ◌∙◌, subst, append_assoc, length-append, arith}
-use Rattle.oa_gateway.specs.Queues.{Clients, IsBehind, IsNotOvertaken, Waits, after_turns, count_kept, next_turn}
+use Rattle.std.proofs.Common.{◌≡◌, ◌≢◌, ◌≤◌, ℕ, Bool, true, false, if◌then◌else◌, suc, ◌+◌, List, [], ◌∷◌, ◌++◌, length, refl, sym, ap, ◌∙◌, subst, append_assoc, append-nil, length-append, arith}
+use Rattle.oa_gateway.specs.Queues.{Clients, IsBehind, IsNotOvertaken, IsWithout, Waits, after_turns, begun, count_kept, joined, next_batch, next_turn, turn_of}
 use Rattle.oa_gateway.specs.declared.queue.NextTurn.{NextTurn}
 use Rattle.oa_gateway.specs.declared.queue.NextTurn.TheVariants.{Never, Last, Kept}
 
@@ -79,3 +79,101 @@ took_something false e = refl
 pub kept_had_nothing : (waits took : Bool) → next_turn waits took ≡ Kept → took ≡ false
 kept_had_nothing true took e = took_something took e
 kept_had_nothing false took e = absurd cc
+
+-- ---- a client whose own turn got nothing
+
+-- what is kept stays so, in its place
+record KeptOn (kept : List ℕ) (q : Clients) : Type 0 where
+  later : List ℕ
+  are : q.kept ≡ kept ++ later
+
+kept_more : (kept : List ℕ) (b : ℕ) (q : Clients) → KeptOn (kept ++ b ∷ []) q → KeptOn kept q
+kept_more kept b q is = record { later = b ∷ is.later; are = is.are ∙ append_assoc kept (b ∷ []) is.later }
+
+kept_on : (kept waiting : List ℕ) (turns : List NextTurn) → KeptOn kept (after_turns (clients kept waiting) turns)
+unfolding after_turns
+kept_on kept waiting [] = record { later = []; are = sym (append-nil kept) }
+kept_on kept [] (next ∷ turns) = kept_on kept [] turns
+kept_on kept (b ∷ waiting) (Never ∷ turns) = kept_on kept waiting turns
+kept_on kept (b ∷ waiting) (Last ∷ turns) = kept_on kept (waiting ++ b ∷ []) turns
+kept_on kept (b ∷ waiting) (Kept ∷ turns) = kept_more kept b _ (kept_on (kept ++ b ∷ []) waiting turns)
+
+turns_two : (q : Clients) (turns more : List NextTurn) → after_turns q (turns ++ more) ≡ after_turns (after_turns q turns) more
+unfolding after_turns
+turns_two q [] more = refl
+turns_two q (next ∷ turns) more = turns_two (turn_of q next) turns more
+
+kept_first : (client : ℕ) (back kept : List ℕ) (more : List NextTurn) → KeptOn (kept ++ client ∷ []) (after_turns (clients kept (client ∷ back)) (Kept ∷ more))
+unfolding after_turns
+kept_first client back kept more = kept_on (kept ++ client ∷ []) back more
+
+none_before : (front : List ℕ) (n b : ℕ) → length front + n ≡ b → n ≡ b → front ≡ []
+none_before [] n b is same = refl
+none_before (x ∷ front) n b is same = absurd (omega (arith, is, same))
+
+pub keeps_its_turn : (client before : ℕ) (all : List ℕ) (turns more : List NextTurn) → IsBehind client before all → length turns ≡ before
+    → IsBehind client (count_kept turns) (next_batch (after_turns (begun all) (turns ++ Kept ∷ more)))
+keeps_its_turn client before all turns more is same =
+    let total = is.count in
+    let n = nearer client is.front is.back [] turns (omega (arith, same, total)) in
+    let m = subst (λ w. Nearer client (length is.front) turns [] (after_turns (clients [] w) turns)) (sym is.there) n in
+    let q = after_turns (clients [] all) turns in
+    let none : m.front ≡ [] = none_before m.front (length turns) (length is.front) m.count (same ∙ sym total) in
+    let own : q.waiting ≡ client ∷ m.back = m.there ∙ ap (λ (l : List ℕ). l ++ client ∷ m.back) none in
+    let on = subst (λ (w : List ℕ). KeptOn (q.kept ++ client ∷ []) (after_turns (clients q.kept w) (Kept ∷ more))) (sym own) (kept_first client m.back q.kept more) in
+    let last = subst (λ (r : Clients). KeptOn (q.kept ++ client ∷ []) r) (sym (turns_two (clients [] all) turns (Kept ∷ more))) on in
+    let end = after_turns (clients [] all) (turns ++ Kept ∷ more) in
+    let ahead = m.ahead in
+    record {
+      front = q.kept;
+      back = last.later ++ end.waiting;
+      there = ap (λ (l : List ℕ). l ++ end.waiting) last.are ∙ append_assoc (q.kept ++ client ∷ []) last.later end.waiting ∙ append_assoc q.kept (client ∷ []) (last.later ++ end.waiting);
+      count = omega (arith, ahead);
+    }
+
+pub still_waits : (took : Bool) → next_turn true took ≢ Never
+still_waits true e = cc
+still_waits false e = cc
+
+-- ---- others join and leave
+
+pub still_behind : (client other before : ℕ) (q : Clients) → IsBehind client before q.waiting → IsBehind client before (joined other q).waiting
+still_behind client other before q is = record {
+  front = is.front;
+  back = is.back ++ other ∷ [];
+  there = ap (λ (l : List ℕ). l ++ other ∷ []) is.there ∙ append_assoc is.front (client ∷ is.back) (other ∷ []);
+  count = is.count;
+}
+
+-- another one is gone from the list
+record Left (client most : ℕ) (rest : List ℕ) : Type 0 where
+  front : List ℕ
+  back : List ℕ
+  there : rest ≡ front ++ client ∷ back
+  few : length front ≤ most
+
+one_gone : (client other : ℕ) (front back before behind : List ℕ) → client ≢ other → front ++ client ∷ back ≡ before ++ other ∷ behind → Left client (length front) (before ++ behind)
+one_gone client other [] back [] behind apart is = absurd (apart cc)
+one_gone client other [] back (y ∷ before) behind apart is =
+    let same : client ≡ y = cc in
+    record { front = []; back = before ++ behind; there = ap (λ (n : ℕ). n ∷ before ++ behind) (sym same); few = omega arith }
+one_gone client other (x ∷ front) back [] behind apart is =
+    let rest : front ++ client ∷ back ≡ behind = cc in
+    record { front = front; back = back; there = sym rest; few = omega arith }
+one_gone client other (x ∷ front) back (y ∷ before) behind apart is =
+    let same : x ≡ y = cc in
+    let rest : front ++ client ∷ back ≡ before ++ other ∷ behind = cc in
+    let more = one_gone client other front back before behind apart rest in
+    let few = more.few in
+    record { front = y ∷ more.front; back = more.back; there = ap (λ (l : List ℕ). y ∷ l) more.there; few = omega (arith, few) }
+
+pub waits_nearer : (client other before : ℕ) (old new : Clients) → IsBehind client before old.waiting → client ≢ other → IsWithout other old new
+    → (left : ℕ) × (left ≤ before) × IsBehind client left new.waiting
+waits_nearer client other before old new is apart without =
+    let gone = one_gone client other is.front is.back without.front without.back apart (sym is.there ∙ without.before) in
+    let few = gone.few in
+    let count = is.count in (
+      length gone.front,
+      omega (arith, few, count),
+      record { front = gone.front; back = gone.back; there = without.after ∙ gone.there; count = refl },
+    )

@@ -9,6 +9,11 @@ use Rattle.oa_gateway.specs.declared.exclusive.Whose.TheVariants.{Nobody, Holder
 abbrev pub is_free : Moment → Bool
 is_free m = if m.is_up then (if m.in_flight then false else if m.is_held then false else true) else false
 
+pub record IsFree (m : Moment) : Type 0 where
+  pub up : m.is_up ≡ true
+  pub answered : m.in_flight ≡ false
+  pub unheld : m.is_held ≡ false
+
 -- Clients that were answered mostly ask again at once: after a batch the next one waits for them, for a quarter of the
 -- time that a batch takes, at most two milliseconds.
 abbrev pub longest_pause : ℕ
@@ -34,4 +39,5 @@ pub record BeginsSoon (m : Moment) (w : Whose) : Type 0 where
   pub after : ℕ
   pub begins : begins m w ≡ Some after
   pub soon : after ≤ longest_pause - m.since
+  pub quarter : after ≤ m.took / 4 - m.since
   pub at_once : m.awaited ≡ 0 → after ≡ 0

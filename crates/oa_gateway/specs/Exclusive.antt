@@ -41,6 +41,13 @@ AllAreHolders e [] = ⊤
 AllAreHolders e (w ∷ all) = ((whose e w ≡ Holder) ⊎ (whose e w ≡ Nobody))
     × AllAreHolders (behind_batch (whose e w) e) all
 
+-- the requests of a batch are of clients that wait
+abbrev pub WaitsFor : Whose → Waiting → Type 0
+WaitsFor Nobody w = ⊤
+WaitsFor Holder w = w.holder ≡ true
+WaitsFor NextHolder w = w.exclusive ≡ true
+WaitsFor Shared w = w.shared ≡ true
+
 -- An exclusive client that waits has the next batch, or the one after a batch of shared clients.
 abbrev pub HasNext : Exclusion → Waiting → Waiting → Type 0
 HasNext e w later = (whose e w ≡ NextHolder)

@@ -12,8 +12,10 @@ use Rattle.oa_gateway.specs.declared.place.Fate.TheVariants as fate
 use Rattle.oa_gateway.specs.declared.hearing.Heard.{Heard}
 use Rattle.oa_gateway.specs.declared.hearing.Heard.TheVariants as heard
 
--- these bytes begin with a frame of this number, which has this in it
+-- These bytes begin with a frame of this number, which has this in it. The number and the length have four bytes each.
 pub record FirstFrame (bytes : List ℕ) (number : ℕ) (inside : List ℕ) : Type 0 where
+  pub client : number < 4294967296
+  pub short : length inside < 4294967296
   pub rest : List ℕ
   pub whole : bytes ≡ frame_of number inside ++ rest
 

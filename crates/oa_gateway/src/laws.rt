@@ -4,12 +4,12 @@ ghost use Rattle.std.specs.Prelude.{◌≡◌, ◌≢◌, ◌⊎◌, ◌↔◌, 
 ghost use Rattle.oa_frame.specs.declared.ends.End.TheVariants.{Closed};
 ghost use Rattle.oa_share.specs.Marks.{Last, Owned, States, StreamPiece, own, pieces};
 ghost use Rattle.oa_share.specs.Readers.{Body, Ends, brought_in, records_of};
-ghost use Rattle.oa_gateway.specs.Beginnings.{BeginsSoon, is_free};
+ghost use Rattle.oa_gateway.specs.Beginnings.{BeginsSoon, IsFree};
 ghost use Rattle.oa_gateway.specs.Disconnects.{gives_way, judged};
-ghost use Rattle.oa_gateway.specs.Exclusive.{AllAreHolders, HasNext, behind_holder, waits, whose};
+ghost use Rattle.oa_gateway.specs.Exclusive.{AllAreHolders, HasNext, WaitsFor, behind_batch, behind_holder, waits, whose};
 ghost use Rattle.oa_gateway.specs.Frames.{gateway_number};
 ghost use Rattle.oa_gateway.specs.Places.{Deed, Leaves, Number};
-ghost use Rattle.oa_gateway.specs.Queues.{IsBehind, IsNotOvertaken, IsQueue, Waits, next_turn, queue_of};
+ghost use Rattle.oa_gateway.specs.Queues.{Clients, IsBehind, IsNotOvertaken, IsQueue, IsWithout, Waits, after_turns, begun, count_kept, joined, next_batch, next_turn, queue_of};
 ghost use Rattle.oa_gateway.specs.Requests.{AreRequests};
 ghost use Rattle.oa_gateway.specs.Traces.{AllMayBeDone, IsItsStream, IsSound, IsWholeStream, Says, StaysThere, all_owed, behind, ends_heard, ends_sent, given, said_behind, sent, stream, streams};
 ghost use Rattle.oa_gateway.specs.Turns.{AllTaken, AreTurns, AreWithin, Batch, IsBatchBounded, IsBounded, OneTurn, asks, taking};
@@ -19,10 +19,10 @@ ghost use Rattle.oa_gateway.specs.declared.disconnects.Patience.{Patience};
 ghost use Rattle.oa_gateway.specs.declared.disconnects.Verdict.TheVariants.{Stays, Unread};
 ghost use Rattle.oa_gateway.specs.declared.exclusive.Exclusion.{Exclusion};
 ghost use Rattle.oa_gateway.specs.declared.exclusive.Waiting.{Waiting};
-ghost use Rattle.oa_gateway.specs.declared.exclusive.Whose.TheVariants.{Shared};
+ghost use Rattle.oa_gateway.specs.declared.exclusive.Whose.TheVariants.{NextHolder, Shared};
 ghost use Rattle.oa_gateway.specs.declared.place.Standing.TheVariants.{Absent};
 ghost use Rattle.oa_gateway.specs.declared.queue.NextTurn.{NextTurn};
-ghost use Rattle.oa_gateway.specs.declared.queue.NextTurn.TheVariants.{Kept};
+ghost use Rattle.oa_gateway.specs.declared.queue.NextTurn.TheVariants.{Kept, Never};
 ghost use Rattle.oa_gateway.specs.declared.queue.Queue.{Queue};
 ghost use Rattle.oa_gateway.specs.declared.turns.Taking.TheVariants.{Taken};
 ghost use Rattle.oa_gateway.specs.declared.turns.Turn.{Turn};
@@ -103,35 +103,49 @@ pub fn stalled_clients_go()
 {}
 
 /// A client that waits has its turn after those that are before it, one turn each. If a batch ends before that, only those of them that had a turn and got
-/// nothing are before it again when the next batch begins.
+/// nothing are before it again when the next batch begins. So are they if it had a turn itself, and got nothing.
 pub fn no_client_is_overtaken()
     ensures turns { (client before : ℕ) (clients : List ℕ) (turns : List NextTurn) → IsBehind client before clients → length turns ≤ before
         → Waits client before clients turns }
     ensures batches { (client before : ℕ) (clients : List ℕ) (turns : List NextTurn) → IsBehind client before clients → length turns ≤ before
         → IsNotOvertaken client before clients turns }
+    ensures nothing { (client before : ℕ) (clients : List ℕ) (turns more : List NextTurn) → IsBehind client before clients → length turns ≡ before
+        → IsBehind client (count_kept turns) (next_batch (after_turns (begun clients) (turns ++ Kept ∷ more))) }
+    // A client with requests waits on; it got nothing if it is kept.
+    ensures stays { (took : Bool) → next_turn true took ≢ Never }
     ensures kept { (waits took : Bool) → next_turn waits took ≡ Kept → took ≡ false }
+    // Nobody comes before it by joining; by leaving one may come nearer.
+    ensures joins { (client other before : ℕ) (q : Clients) → IsBehind client before q.waiting → IsBehind client before (joined other q).waiting }
+    ensures leaves { (client other before : ℕ) (old new : Clients) → IsBehind client before old.waiting → client ≢ other → IsWithout other old new
+        → (left : ℕ) × (left ≤ before) × IsBehind client left new.waiting }
     // A client waits in an array if the list that the array has is not empty.
     ensures places { (q : Queue) (places : List ℕ) → IsQueue q (length places) → (waits q ≡ false) ↔ ((queue_of q places).waiting ≡ []) }
 {}
 
-/// As long as an exclusive client has the server to itself, all batches are its own.
+/// From its first batch on, as long as an exclusive client has the server to itself, all batches with requests are its own.
 pub fn an_exclusive_client_is_alone()
-    ensures { (e : Exclusion) (batches : List Waiting) → e.is_held ≡ true → AllAreHolders e batches }
+    ensures begins { (e : Exclusion) (w : Waiting) (batches : List Waiting) → whose e w ≡ NextHolder → AllAreHolders (behind_batch (whose e w) e) batches }
+    ensures alone { (e : Exclusion) (batches : List Waiting) → e.is_held ≡ true → AllAreHolders e batches }
 {}
 
 /// After it has gone, shared clients that wait have a batch before the next exclusive client. That one has the next batch, or the one after theirs.
 pub fn exclusive_clients_take_turns()
-    ensures shared { (e : Exclusion) (w : Waiting) → w.shared ≡ true → whose (behind_holder e) w ≡ Shared }
+    ensures gone { (e : Exclusion) → ((behind_holder e).is_held ≡ false) × ((behind_holder e).others_first ≡ true) }
+    ensures shared { (e : Exclusion) (w : Waiting) → e.is_held ≡ false → e.others_first ≡ true → w.shared ≡ true → whose e w ≡ Shared }
+    // Until they have had it, batches without requests change nothing.
+    ensures stays { (e : Exclusion) (w : Waiting) → whose e w ≢ Shared → (behind_batch (whose e w) e).others_first ≡ e.others_first }
+    // Who has a batch waits.
+    ensures they_wait { (e : Exclusion) (w : Waiting) → WaitsFor (whose e w) w }
     ensures exclusive { (e : Exclusion) (w later : Waiting) → e.is_held ≡ false → w.exclusive ≡ true → later.exclusive ≡ true → HasNext e w later }
 {}
 
-/// While the server is free, a batch begins within 2 ms after the last one was answered, and at once if no client was just answered. It begins for a shared or
-/// exclusive client that waits, unless another one has the server to itself.
+/// While the server is free, a batch begins within 2 ms after the last one was answered, and at most a quarter of what a batch takes. It begins at once if no
+/// client was just answered. It begins for a shared or exclusive client that waits, unless another one has the server to itself.
 pub fn a_batch_begins()
-    ensures waits { (m : Moment) (e : Exclusion) (w : Waiting) → is_free m ≡ true → e.is_held ≡ false → (w.shared ≡ true) ⊎ (w.exclusive ≡ true)
+    ensures waits { (m : Moment) (e : Exclusion) (w : Waiting) → IsFree m → e.is_held ≡ false → (w.shared ≡ true) ⊎ (w.exclusive ≡ true)
         → BeginsSoon m (whose e w) }
     // For the one that has it.
-    ensures alone { (m : Moment) (e : Exclusion) (w : Waiting) → is_free m ≡ true → e.is_held ≡ true → w.holder ≡ true → BeginsSoon m (whose e w) }
+    ensures alone { (m : Moment) (e : Exclusion) (w : Waiting) → IsFree m → e.is_held ≡ true → w.holder ≡ true → BeginsSoon m (whose e w) }
     // And for the end of a client.
-    ensures ends { (m : Moment) (e : Exclusion) (w : Waiting) → is_free m ≡ true → m.ends_wait ≡ true → BeginsSoon m (whose e w) }
+    ensures ends { (m : Moment) (e : Exclusion) (w : Waiting) → IsFree m → m.ends_wait ≡ true → BeginsSoon m (whose e w) }
 {}

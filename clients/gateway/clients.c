@@ -344,8 +344,8 @@ void judge_all(void) {
         if (c->fd >= 0) judge(c);
     relieve();
 }
-/* Replies may fill half of the memory. Above that, all clients that read none of theirs are disconnected at once; above twice that, the client
- * with the most. */
+/* Replies may fill half of the memory. Above that, all clients that have read none of theirs for a second are disconnected; above twice that,
+ * the client with the most. */
 void relieve(void) {
     size_t used = out_bytes, count = (size_t)(end_of_clients - clients), place;
     bool lacks = replies_lack_room;

@@ -25,7 +25,7 @@
 enum {
     BASE = 1 << 14,   /* the bytes that each buffer of a client may always have */
     QUEUE = 1 << 18,  /* a client with this many bytes of requests waiting is not read */
-    UNREAD = 1 << 20, /* a client with this many bytes of unread replies gets no turn */
+    UNREAD = 1 << 20, /* a client with more bytes of unread replies gets no turn */
     HEAD = 20,        /* the shortest reply, with its length */
     BODY = 4194304,   /* the longest request */
 };
@@ -86,7 +86,7 @@ typedef struct client {
 TAILQ_HEAD(queue, client);
 
 /* crates/oa_gateway_c, which is proved: what is decided about bytes, turns and clients. Each call takes any arguments. `false` of
- * the first ones says that they have done nothing. */
+ * those that put bytes, or move a client in a queue, says that they have done nothing. */
 typedef struct place {
     uint32_t presence, owed; /* of the client that has a number; ends that the server owes to those that had it before */
 } Place;

@@ -39,7 +39,7 @@ static const char usage[] = "oaut-gateway [OPTION VALUE..] STORE    serves a sto
                             "--hold S                 the same of one that keeps the others waiting (30)\n"
                             "--stalled S              how long it may leave its replies, or a request in parts (30)\n"
                             "--report S               seconds between reports of requests on standard error (60; 0: none)\n"
-                            "--slow MS                a line on standard error for each batch that takes longer (0: none)\n"
+                            "--slow MS                a line on standard error for each batch that takes as long (0: none)\n"
                             "--program PATH           the server (oaut)\n";
 
 static bool set_option(const char *name, const char *word) {

@@ -225,7 +225,7 @@ static unsigned take_turn(Client *c, unsigned left) {
     settle(c);
     return count;
 }
-/* Makes a batch of what waits. False where nothing does. */
+/* Makes a batch of what waits. False if nothing does, or nothing of it can be taken. */
 bool begin_batch(void) {
     unsigned count = 0;
     uint32_t whose = oa_begin(&exclusion, &own.queue, &alones.queue, &shared.queue);

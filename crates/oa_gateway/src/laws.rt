@@ -134,7 +134,7 @@ pub fn exclusive_clients_take_turns()
     ensures shared { (e : Exclusion) (w : Waiting) → e.is_held ≡ false → e.others_first ≡ true → w.shared ≡ true → whose e w ≡ Shared }
     // Until they have had it, batches without requests change nothing.
     ensures stays { (e : Exclusion) (w : Waiting) → whose e w ≢ Shared → (behind_batch (whose e w) e).others_first ≡ e.others_first }
-    // Who has a batch waits.
+    // A batch is that of clients that wait.
     ensures they_wait { (e : Exclusion) (w : Waiting) → WaitsFor (whose e w) w }
     ensures exclusive { (e : Exclusion) (w later : Waiting) → e.is_held ≡ false → w.exclusive ≡ true → later.exclusive ≡ true → HasNext e w later }
 {}

@@ -61,7 +61,7 @@ class Window(UnderWine):
         steps = self.start("cmd", "/c", f"built\\window.exe {' '.join(steps)} > steps.txt")
         until = time.monotonic() + TIMEOUT
         said = ""
-        while time.monotonic() < until and not said.endswith("end\n"):
+        while time.monotonic() < until and not said.endswith(("end\n", "there is no window\n")):
             time.sleep(0.1)
             shown, steps = self.is_there(shown), self.is_there(steps)
             if os.path.exists(file):
@@ -69,6 +69,7 @@ class Window(UnderWine):
                     before, said = said, plain(lines.read())
                 if said != before:
                     goes_on()
+        goes_on()
         # (the next window is on a desktop of the same name, which has to be gone with this one)
         for it, *_ in (shown, steps):
             try:

@@ -187,6 +187,13 @@ class Server:
             changed[place] = self.chance.choice((0, 1, 2, 0x20, 0x7F, 0x80, 0xFF, self.chance.randrange(256)))
         return bytes(changed)
 
+    def has_waiting(self):
+        """Whether a client is connected whose turn has not come."""
+        with open("/proc/net/tcp") as file:
+            rows = [it.split() for it in file]
+        # (of a socket that listens, what is to be received are connections)
+        return any(it[1] == f"0100007F:{self.port:04X}" and it[3] == "0A" and int(it[4].split(":")[1], 16) for it in rows)
+
     def kill_at_request(self, child, seconds=TIMEOUT / 2):
         """Kills a client's program, which is stopped, once bytes of that client wait unread."""
         until = time.monotonic() + seconds
@@ -459,6 +466,16 @@ class UnderWine(Told):
     def runs(self, script, *words):
         self.each(script, self.wine.run(*self.bridge.script(script), *words)[1])
 
+    def speaks(self, *words):
+        """A process of Windows, and its first line. On a busy machine Wine now and then starts nothing of what is asked, or loses its server before the first
+        word: it is asked again."""
+        for left in reversed(range(ASKED)):
+            process = self.wine.start(*words)
+            told = process.stdout.readline()
+            if (told and not told.startswith(NOT_STARTED)) or not left:
+                return process, told
+            process.communicate(timeout=TIMEOUT)
+
     def held(self, script, *words):
         """A script that waits for a file, up to its line "ready": the process, the file, what it has told."""
         return self.ready(lambda go: [*self.bridge.script(script), go, *words])
@@ -469,14 +486,10 @@ class UnderWine(Told):
 
     def ready(self, words):
         """What is held, once it has told that it is ready: words with the name of the file."""
-        for _ in range(ASKED):
-            go = tempfile.mktemp(dir=self.bridge.room)
-            process, told = self.wine.start(*words(windows(go))), b""
-            while b"ready" not in told and (line := process.stdout.readline()):
-                told += line
-            if not told.startswith(NOT_STARTED):
-                break
-            process.communicate(timeout=TIMEOUT)
+        go = tempfile.mktemp(dir=self.bridge.room)
+        process, told = self.speaks(*words(windows(go)))
+        while b"ready" not in told and (line := process.stdout.readline()):
+            told += line
         return process, go, told
 
     def finish(self, held):
@@ -503,8 +516,7 @@ class UnderWine(Told):
         """What a client tells that ends before the process that it has started, and whether its connection ends with it. That process goes on until the file is
         there, so that a connection which it has is there as long."""
         go = tempfile.mktemp(dir=self.bridge.room)
-        client = self.wine.start(f"{self.bridge.room}/built/client.exe", "starts", windows(go))
-        told = b""
+        client, told = self.speaks(f"{self.bridge.room}/built/client.exe", "starts", windows(go))
         while b"end" not in told and (line := client.stdout.readline()):
             told += line
         ended = self.server.ends(self.server.child, seconds)

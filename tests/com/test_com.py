@@ -419,6 +419,7 @@ class Registration(UnderWine):
         own = "HKCU\\Software\\Classes"
         keys = [f"{own}\\Demo.Item", f"{own}\\Demo.Store", f"{own}\\CLSID\\{{{ITEM}}}\\Oaut"]
         self.bridge.register("Demo", "/u")
+        self.addCleanup(self.bridge.register, "user:Demo", "/u")
         self.tell("regsvr32 enters them for the user", self.bridge.register("user:Demo") == 0)
         self.are_there("their keys", keys)
         self.are_there("are the user's", [it.replace(own, "HKLM\\Software\\Classes") for it in keys], False)
@@ -457,6 +458,7 @@ class Registration(UnderWine):
 
     def test_the_example(self):
         """The counter sheet, over a stop, registered by the file."""
+        self.addCleanup(self.bridge.settle)
         self.bridge.new_store(f"{COM}/example/sheet.idl")
         lines = text(f"{COM}/example/sheet.reg").replace("REGEDIT4", "").replace('"localhost"', '"127.0.0.1"').replace('"8765"', f'"{self.server.port}"')
         self.bridge.enter(lines.replace("C:\\\\oaut\\\\oautcom.dll", windows(self.bridge.dll).replace("\\", "\\\\")))

@@ -36,6 +36,7 @@ class Window(UnderWine):
         self.address = f"127.0.0.1:{self.server.port}"
 
     def tearDown(self):
+        self.bridge.settle()
         self.bridge.set()
 
     def start(self, *words):

@@ -388,6 +388,18 @@ class Bridge:
     def register(self, name, *more):
         return self.wine.run("regsvr32", "/s", "/n", *more, f"/i:{name}@127.0.0.1:{self.server.port}", self.dll)[0]
 
+    def settle(self):
+        """Has registered what the bridge itself registers, and nothing that a test has left which Wine ended, or which failed."""
+        tool = f"{self.room}/built/oautreg.exe"
+        lines = self.wine.run(tool, "list")[1].splitlines()
+        own = [it for it in lines if it.startswith("Demo.") and "  all users, " in it]
+        left = [it for it in lines if it not in own and it != "nothing is registered"]
+        if left:
+            print(f"an earlier test has left registered: {'; '.join(left)}", flush=True)
+            self.wine.run(tool, "remove", "--all")
+        if left or not own:
+            self.register("Demo")
+
     def has(self, key):
         return self.wine.run("reg", "query", key)[0] == 0
 
@@ -458,6 +470,7 @@ class UnderWine(Told):
     @classmethod
     def setUpClass(cls):
         cls.bridge = bridge(cls.bits)
+        cls.bridge.settle()
         cls.wine, cls.server = cls.bridge.wine, cls.bridge.server
 
     def same(self, what, got, wanted):

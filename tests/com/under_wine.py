@@ -103,7 +103,9 @@ class Server:
         self.types_left, self.is_last = 0, False
         self.answers, self.listed = [], None
         self.chance = random.Random(20261126)
-        self.child = self.client = None
+        self.begun = self.client = None
+        self.is_noted = threading.Event()
+        self.is_noted.set()
         # how the programs ended, and what they said, for a test that fails
         self.statuses, self.said = collections.deque(maxlen=5), tempfile.TemporaryFile()
         self.place = reserved()
@@ -115,6 +117,21 @@ class Server:
         self.listening.listen(8)
         self.thread = threading.Thread(target=self.accept, args=(self.listening,), daemon=True)
         self.thread.start()
+
+    @property
+    def child(self):
+        """The program of the last client, which it may have served before this process has noted it."""
+        self.is_noted.wait(TIMEOUT)
+        return self.begun
+
+    def begin(self, stdin, stdout):
+        """Starts the program for a client."""
+        self.is_noted.clear()
+        try:
+            self.begun = subprocess.Popen(self.words, stdin=stdin, stdout=stdout, stderr=self.said)
+        finally:
+            self.is_noted.set()
+        return self.begun
 
     def accept(self, listening):
         while True:
@@ -130,15 +147,14 @@ class Server:
                     if self.looks:
                         self.look(client)
                     else:
-                        self.child = subprocess.Popen(self.words, stdin=client, stdout=client, stderr=self.said)
-                        self.child.wait()
+                        self.begin(client, client).wait()
                 except OSError as error:  # a program that cannot be started is no end of the server
                     self.statuses.append(repr(error))
                 else:
                     self.statuses.append((self.child.returncode, os.pread(self.said.fileno(), 1_000, begun)))
 
     def look(self, client):
-        self.child = child = subprocess.Popen(self.words, stdin=subprocess.PIPE, stdout=subprocess.PIPE, stderr=self.said)
+        child = self.begin(subprocess.PIPE, subprocess.PIPE)
         back = threading.Thread(target=self.carry_back, args=(child.stdout, client), daemon=True)
         back.start()
         with client.makefile("rb") as asked, contextlib.suppress(OSError):  # a client that resets its connection, or a program that has ended

@@ -298,8 +298,11 @@ class Wine:
         while all(seen_at(it) in (None, before[it]) for it in places) and self.server.poll() is None and time.monotonic() < until:
             time.sleep(0.05)
         goes_on()
-        subprocess.run(["wine", "wineboot", "-i"], timeout=TIMEOUT, **quiet)
-        goes_on()
+        for _ in range(ASKED):  # (it may lose its server, too)
+            subprocess.run(["wine", "wineboot", "-i"], timeout=TIMEOUT, **quiet)
+            goes_on()
+            if os.path.exists(f"{room}/wine/drive_c/windows/system32/regsvr32.exe"):
+                break
         # (a program with windows starts the desktop, which takes 14 s without a display, and goes soon after the last one of them: this one stays)
         self.desktop = subprocess.Popen(self.words("explorer"), **quiet)
 
@@ -485,6 +488,8 @@ class UnderWine(Told):
 
     @classmethod
     def setUpClass(cls):
+        if bridge(cls.bits).wine.server.poll() is not None:  # (its Wine has ended, so nothing would be started any more)
+            anew()
         cls.bridge = bridge(cls.bits)
         cls.bridge.settle()
         cls.wine, cls.server = cls.bridge.wine, cls.bridge.server

@@ -10,11 +10,11 @@ from running import PROGRAM, Cases
 from test_dist import HAS_ROOT, packed
 
 # a client that puts rising numbers and connects again, until /stop is there: how many acknowledged numbers were above what the store had later, and
-# the longest pause between two acknowledged puts, before there is a file /upgrade.1, and from it and each of the next two on. Once it has put something that
-# began behind a file /behind.N, it makes /seen.N
+# the longest pause between two acknowledged puts, before there is a file /upgrade.1, and from it and each of the next two on. Once it has put five numbers
+# after there is a file /behind.N, it makes /seen.N
 LOAD = """
 import os, time, oaut
-acknowledged, last, longest, lost, number, seen = 0, time.monotonic(), [0.0] * 4, 0, 0, set()
+acknowledged, last, longest, lost, number, since = 0, time.monotonic(), [0.0] * 4, 0, 0, [0] * 5
 while not os.path.exists("/stop"):
     try:
         with oaut.connect("/run/oaut/items.sock", timeout=20) as server:
@@ -22,12 +22,13 @@ while not os.path.exists("/stop"):
             lost += item.Count < acknowledged
             while not os.path.exists("/stop"):
                 number, upgrades = number + 1, sum(os.path.exists(f"/upgrade.{it}") for it in (1, 2, 3))
-                behind = [it for it in range(5) if it not in seen and os.path.exists(f"/behind.{it}")]
+                behind = [it for it in range(5) if since[it] < 5 and os.path.exists(f"/behind.{it}")]
                 item.Count = number
                 acknowledged, before, last = number, last, time.monotonic()
                 for it in behind:
-                    open(f"/seen.{it}", "w").close()
-                    seen.add(it)
+                    since[it] += 1
+                    if since[it] == 5:
+                        open(f"/seen.{it}", "w").close()
                 if before and acknowledged > 1:
                     longest[upgrades] = max(longest[upgrades], last - before)
     except (oaut.SessionEnded, OSError):

@@ -46,6 +46,13 @@ class Front:
             with local:
                 self.children.append(subprocess.Popen([PROGRAM, "play", FULL], stdin=local, stdout=local))
 
+    def child(self):
+        """The server of the first connection: it may have answered before its thread has noted it."""
+        until = time.monotonic() + 300
+        while not self.children and time.monotonic() < until:
+            time.sleep(0.01)
+        return self.children[0]
+
     def url(self, host="localhost", **parts):
         query = "&".join(f"{key}={value}" for key, value in parts.items() if value)
         return f"oauts://{host}:{self.port}{'?' if query else ''}{query}"
@@ -209,8 +216,8 @@ class Tls(ClientCases):
         with Front(self.server) as front:
             with oaut.connect(front.url(ca=self.own.path), timeout=120) as server:
                 server.objects()
-                front.children[0].kill()
-                front.children[0].wait()
+                front.child().kill()
+                front.child().wait()
                 until = time.monotonic() + 60
                 while not server._connection.gone() and time.monotonic() < until:
                     time.sleep(0.01)
@@ -229,6 +236,6 @@ class Tls(ClientCases):
                 os._exit(0)
             os.close(ours)
             server.close()
-            self.same("the server's end", front.children[0].wait(300), 0)
+            self.same("the server's end", front.child().wait(300), 0)
             os.close(theirs)
             os.waitpid(child, 0)

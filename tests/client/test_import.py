@@ -356,6 +356,11 @@ def under_wine():
     return room, said, wine
 
 
+def anew():
+    """Has a test that runs again have a Wine of its own: the first one has gone with the end of its file's tests."""
+    under_wine.cache_clear()
+
+
 @needs_wine
 class Libraries(ClientCases):
     """Type libraries, by tlb2idl.exe under Wine."""

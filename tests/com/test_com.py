@@ -13,6 +13,7 @@ import unittest
 
 from running import PROGRAM, ROOT, Cases, rows_of, short
 from under_wine import (
+    ASKED,
     COM,
     HUB,
     ITEM,
@@ -188,16 +189,15 @@ class Hosts(UnderWine):
     def test_the_dll_is_not_unloaded_while_a_reply_is_out(self):
         self.bridge.new_store()
         self.bridge.set(Script=0, Idle=0)
-        go = tempfile.mktemp(dir=self.bridge.room)
-        host = self.wine.start(f"{self.bridge.room}/built/hosts.exe", "unloads", windows(go))
-        told = b""
-        for line, then in ((b"ready", signal.SIGSTOP), (b"sent", signal.SIGCONT)):
-            while line not in told and (more := host.stdout.readline()):
-                told += more
-            if host.poll() is None:
-                self.server.child.send_signal(then)
+        host, go, told = self.held_program("hosts.exe", "unloads")
+        self.server.child.send_signal(signal.SIGSTOP)
+        try:
             write(go, "")
-        self.told("unloads", plain(told + host.communicate(timeout=TIMEOUT)[0]), 9)
+            while b"sent" not in told and (more := host.stdout.readline()):
+                told += more
+        finally:
+            self.server.child.send_signal(signal.SIGCONT)
+        self.told("unloads", self.finish((host, go, told)), 9)
 
     def told(self, name, output, count):
         lines = output.splitlines()
@@ -240,6 +240,18 @@ class Stops(UnderWine):
         for what in ("get", "put", "element"):
             self.each("unlocked.vbs", self.killed("unlocked.vbs", what))
 
+    def comes(self, script, *words):
+        """A script that is connected while another one is served, or has ended."""
+        for left in reversed(range(ASKED)):
+            process = self.wine.start(*self.bridge.script(script), *words)
+            until = time.monotonic() + TIMEOUT
+            while not self.server.has_waiting() and process.poll() is None and time.monotonic() < until:
+                time.sleep(0.05)
+            # (Wine may have started nothing)
+            if process.poll() is None or not left:
+                return process
+            process.communicate(timeout=TIMEOUT)
+
     def killed(self, script, what):
         """What a script tells whose server is killed between two calls."""
         held = self.held(script, what)
@@ -279,7 +291,7 @@ class Stops(UnderWine):
         self.runs("next.vbs", "100")  # while the other one holds its object
         self.each("holds.vbs", self.finish(held))
         held = self.held("locks.vbs")
-        second = self.wine.start(*self.bridge.script("next.vbs"), "7")
+        second = self.comes("next.vbs", "7")
         time.sleep(3)
         self.tell("one with a lock keeps the next one waiting", second.poll() is None)
         self.each("locks.vbs", self.finish(held))
@@ -407,6 +419,7 @@ class Registration(UnderWine):
         own = "HKCU\\Software\\Classes"
         keys = [f"{own}\\Demo.Item", f"{own}\\Demo.Store", f"{own}\\CLSID\\{{{ITEM}}}\\Oaut"]
         self.bridge.register("Demo", "/u")
+        self.addCleanup(self.bridge.register, "user:Demo", "/u")
         self.tell("regsvr32 enters them for the user", self.bridge.register("user:Demo") == 0)
         self.are_there("their keys", keys)
         self.are_there("are the user's", [it.replace(own, "HKLM\\Software\\Classes") for it in keys], False)
@@ -445,6 +458,7 @@ class Registration(UnderWine):
 
     def test_the_example(self):
         """The counter sheet, over a stop, registered by the file."""
+        self.addCleanup(self.bridge.settle)
         self.bridge.new_store(f"{COM}/example/sheet.idl")
         lines = text(f"{COM}/example/sheet.reg").replace("REGEDIT4", "").replace('"localhost"', '"127.0.0.1"').replace('"8765"', f'"{self.server.port}"')
         self.bridge.enter(lines.replace("C:\\\\oaut\\\\oautcom.dll", windows(self.bridge.dll).replace("\\", "\\\\")))

@@ -38,6 +38,11 @@ def sanitized():
     return room, built([f"{TESTS}/build.sh", "linux", room])
 
 
+def anew():
+    """Has a test that runs again build anew: what was built has gone with the end of its file's tests."""
+    sanitized.cache_clear()
+
+
 @left_out("gcc")
 class UnderLinux(Cases):
     def test_fields(self):

@@ -81,7 +81,7 @@ class Installed(UnderWine):
 
     def settled(self, wanted=None):
         """The same once nothing changes any more, or it is as wanted: Wine's own services write now and then, and some of it late."""
-        until, before, now = time.monotonic() + 120, None, self.registry()
+        until, before, now = time.monotonic() + 300, None, self.registry()
         while now != (before if wanted is None else wanted) and time.monotonic() < until:
             time.sleep(1)
             before, now = now, self.registry()

@@ -14,7 +14,7 @@ import unittest
 from gateways import built, left_out
 from preloaded import fast_folder
 from running import PROGRAM, goes_on, short
-from under_wine import ASKED, LOST, TIMEOUT, UnderWine, needs_wine, oaut, plain, reserved, windows, write
+from under_wine import ASKED, LOST, NOT_STARTED, TIMEOUT, UnderWine, needs_wine, oaut, plain, reserved, windows, write
 
 KILLS = int(os.environ.get("OAUT_COM_KILLS") or 5)
 CALLS = int(os.environ.get("OAUT_COM_CALLS") or 20_000)
@@ -70,18 +70,53 @@ class Gateways:
             self.thread.join(0.1)
 
 
-class Reader:
-    """A script's lines, as they come."""
+class Script:
+    """A script that puts, and its lines as they come. On a busy machine Wine now and then ends a program whose server it has lost: then another one goes on."""
 
-    def __init__(self, process):
-        self.process, self.lines, self.puts = process, [], 0
-        self.thread = threading.Thread(target=self.read, daemon=True)
+    def __init__(self, wine, words):
+        self.wine, self.words, self.lines, self.puts, self.starts = wine, words, [], 0, 0
+        self.start()
+
+    def start(self):
+        self.starts, self.errors, self.is_started = self.starts + 1, tempfile.TemporaryFile(), True
+        self.process = self.wine.start(*self.words, str(self.last()), errors=self.errors)
+        self.thread = threading.Thread(target=self.read, args=[self.process.stdout], daemon=True)
         self.thread.start()
 
-    def read(self):
-        for line in self.process.stdout:
-            self.lines.append(plain(line).rstrip("\n"))
-            self.puts += self.lines[-1].startswith("put ")
+    def read(self, output):
+        for line in output:
+            if line.startswith((NOT_STARTED, b"ShellExecuteEx failed")):  # (as Wine's `start` says)
+                self.is_started = False
+            elif line.endswith(b"\n"):  # (what was ended may have written a part of one)
+                self.lines.append(plain(line).rstrip("\n"))
+                self.puts += self.lines[-1].startswith("put ")
+
+    def last(self):
+        """The number of the last put that a line is about."""
+        found = (re.fullmatch(r"(?:put|tried) key \d+: (\d+)", it) for it in reversed(self.lines))
+        return next((int(it[1]) for it in found if it), 0)
+
+    def runs(self):
+        """Whether it goes on, if by another process. What it was about to put may be there or not."""
+        if self.process.poll() is None:
+            return True
+        self.thread.join(TIMEOUT)
+        self.errors.seek(0)
+        said = [it for it in plain(self.errors.read()).splitlines() if it and "wine32" not in it]
+        own = [it for it in said if not it.startswith(LOST.decode())]
+        if self.lines[-1:] == ["end"] or own or (self.lines and self.is_started and not said) or self.starts == ASKED:
+            return False
+        if self.lines:
+            number = self.last() + 1
+            self.lines.append(f"tried key {number % 20}: {number}")
+            print(f"Wine has ended a script, which begins anew behind {len(self.lines)} lines: {said}", flush=True)
+        self.start()
+        return True
+
+    def ends(self):
+        """Waits for its end."""
+        while self.runs():
+            self.process.wait(TIMEOUT)
 
 
 @needs_wine
@@ -102,7 +137,8 @@ class Kills(UnderWine):
             try:
                 self.register_at(port)
                 for it in numbers:
-                    scripts.append(self.begun(str(it), windows(stop)))
+                    scripts.append(Script(self.wine, [*self.bridge.script("kills.vbs"), str(it), windows(stop)]))
+                    self.wait_for(lambda: scripts[-1].lines, scripts)
                 for _ in range(KILLS):
                     before = [it.puts for it in scripts]
                     self.wait_for(lambda: all(it.puts > seen for it, seen in zip(scripts, before)), scripts)
@@ -112,8 +148,7 @@ class Kills(UnderWine):
                 self.wait_for(lambda: all(it.puts > seen for it, seen in zip(scripts, before)), scripts)
                 write(stop, "")
                 for it in scripts:
-                    it.process.wait(TIMEOUT)
-                    it.thread.join(TIMEOUT)
+                    it.ends()
             finally:
                 gateways.close()
                 for it in scripts:
@@ -129,27 +164,14 @@ class Kills(UnderWine):
         words = ["regsvr32", "/s", "/n", f"/i:Demo@127.0.0.1:{port}", self.bridge.dll]
         self.wait_for(lambda: self.wine.run(*words)[0] == 0)
 
-    def begun(self, *words):
-        """A script that has said something. One that ends before its first word, without an error of its own, was ended by Wine: it is started again."""
-        for _ in range(ASKED):
-            with tempfile.TemporaryFile() as errors:
-                found = Reader(self.wine.start(*self.bridge.script("kills.vbs"), *words, errors=errors))
-                self.wait_for(lambda: found.lines or found.process.poll() is not None)
-                found.thread.join(0 if found.process.poll() is None else TIMEOUT)
-                if found.lines:
-                    return found
-                errors.seek(0)
-                said = [it for it in plain(errors.read()).splitlines() if it and "wine32" not in it and not it.startswith(LOST.decode())]
-            self.assertEqual(said, [], f"a script has ended with {found.process.returncode}")
-        raise AssertionError("no script comes to its first word")
-
     def wait_for(self, fact, scripts=()):
         """Waits for a fact while some scripts run."""
         until = time.monotonic() + TIMEOUT
         goes_on()
         while not fact():
-            if any(it.process.poll() is not None for it in scripts):
-                raise AssertionError(f"a script has ended: {[it.lines[-3:] for it in scripts]}")
+            for it in scripts:
+                if not it.runs():
+                    raise AssertionError(f"a script has ended with {it.process.returncode}, in {it.starts} starts: {it.lines[-3:]}")
             if time.monotonic() > until:
                 raise AssertionError("it takes too long")
             time.sleep(0.02)
@@ -191,8 +213,7 @@ class Leaks(UnderWine):
             oaut.make_store(f"{room}/it.store", self.bridge.library, program=PROGRAM)
             self.server.words = [PROGRAM, "serve", f"{room}/it.store", self.bridge.library]
             self.bridge.set(Script=0)
-            process = self.wine.start(f"{self.bridge.room}/built/hosts.exe", "calls", str(CALLS))
-            told = plain(process.communicate(timeout=max(800, CALLS // 100))[0])
+            told = self.wine.run(f"{self.bridge.room}/built/hosts.exe", "calls", str(CALLS))[1]
             lines = told.splitlines()
             self.tell("all calls", [it for it in lines if not it.startswith("calls ")][1:] == ["ok   the objects are made", "ok   all calls", "end"], told)
             found = [[int(it) for it in re.findall(r"\d+", line)] for line in lines if line.startswith("calls ")]

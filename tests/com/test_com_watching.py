@@ -165,8 +165,8 @@ class Watching(UnderWine):
         """Each wait ends in its own time, and a later one begins where it was."""
         goes_on, rest = self.held_port()
         rest.append(BEGINS)
-        process = self.wine.start(*self.bridge.script("watch.vbs"), "", "0,20,600000")
-        first = [process.stdout.readline() for _ in range(2)]
+        process, line = self.speaks(*self.bridge.script("watch.vbs"), "", "0,20,600000")
+        first = [line, process.stdout.readline()]
         goes_on.set()
         said = b"".join([*first, process.communicate(timeout=TIMEOUT)[0]])
         return (plain(said).splitlines(), self.asked), (["Long 0", "Long 0", "Long -1", "end"], [b"watch\n"])

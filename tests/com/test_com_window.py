@@ -36,6 +36,7 @@ class Window(UnderWine):
         self.address = f"127.0.0.1:{self.server.port}"
 
     def tearDown(self):
+        self.bridge.settle()
         self.bridge.set()
 
     def start(self, *words):
@@ -61,7 +62,7 @@ class Window(UnderWine):
         steps = self.start("cmd", "/c", f"built\\window.exe {' '.join(steps)} > steps.txt")
         until = time.monotonic() + TIMEOUT
         said = ""
-        while time.monotonic() < until and not said.endswith("end\n"):
+        while time.monotonic() < until and not said.endswith(("end\n", "there is no window\n")):
             time.sleep(0.1)
             shown, steps = self.is_there(shown), self.is_there(steps)
             if os.path.exists(file):
@@ -69,6 +70,7 @@ class Window(UnderWine):
                     before, said = said, plain(lines.read())
                 if said != before:
                     goes_on()
+        goes_on()
         # (the next window is on a desktop of the same name, which has to be gone with this one)
         for it, *_ in (shown, steps):
             try:

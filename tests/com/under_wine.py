@@ -103,7 +103,9 @@ class Server:
         self.types_left, self.is_last = 0, False
         self.answers, self.listed = [], None
         self.chance = random.Random(20261126)
-        self.child = self.client = None
+        self.begun = self.client = None
+        self.is_noted = threading.Event()
+        self.is_noted.set()
         # how the programs ended, and what they said, for a test that fails
         self.statuses, self.said = collections.deque(maxlen=5), tempfile.TemporaryFile()
         self.place = reserved()
@@ -115,6 +117,21 @@ class Server:
         self.listening.listen(8)
         self.thread = threading.Thread(target=self.accept, args=(self.listening,), daemon=True)
         self.thread.start()
+
+    @property
+    def child(self):
+        """The program of the last client, which it may have served before this process has noted it."""
+        self.is_noted.wait(TIMEOUT)
+        return self.begun
+
+    def begin(self, stdin, stdout):
+        """Starts the program for a client."""
+        self.is_noted.clear()
+        try:
+            self.begun = subprocess.Popen(self.words, stdin=stdin, stdout=stdout, stderr=self.said)
+        finally:
+            self.is_noted.set()
+        return self.begun
 
     def accept(self, listening):
         while True:
@@ -130,15 +147,14 @@ class Server:
                     if self.looks:
                         self.look(client)
                     else:
-                        self.child = subprocess.Popen(self.words, stdin=client, stdout=client, stderr=self.said)
-                        self.child.wait()
+                        self.begin(client, client).wait()
                 except OSError as error:  # a program that cannot be started is no end of the server
                     self.statuses.append(repr(error))
                 else:
                     self.statuses.append((self.child.returncode, os.pread(self.said.fileno(), 1_000, begun)))
 
     def look(self, client):
-        self.child = child = subprocess.Popen(self.words, stdin=subprocess.PIPE, stdout=subprocess.PIPE, stderr=self.said)
+        child = self.begin(subprocess.PIPE, subprocess.PIPE)
         back = threading.Thread(target=self.carry_back, args=(child.stdout, client), daemon=True)
         back.start()
         with client.makefile("rb") as asked, contextlib.suppress(OSError):  # a client that resets its connection, or a program that has ended
@@ -186,6 +202,13 @@ class Server:
             place = self.chance.randrange(4 if self.chance.random() < 0.97 else 0, len(whole))
             changed[place] = self.chance.choice((0, 1, 2, 0x20, 0x7F, 0x80, 0xFF, self.chance.randrange(256)))
         return bytes(changed)
+
+    def has_waiting(self):
+        """Whether a client is connected whose turn has not come."""
+        with open("/proc/net/tcp") as file:
+            rows = [it.split() for it in file]
+        # (of a socket that listens, what is to be received are connections)
+        return any(it[1] == f"0100007F:{self.port:04X}" and it[3] == "0A" and int(it[4].split(":")[1], 16) for it in rows)
 
     def kill_at_request(self, child, seconds=TIMEOUT / 2):
         """Kills a client's program, which is stopped, once bytes of that client wait unread."""
@@ -275,8 +298,11 @@ class Wine:
         while all(seen_at(it) in (None, before[it]) for it in places) and self.server.poll() is None and time.monotonic() < until:
             time.sleep(0.05)
         goes_on()
-        subprocess.run(["wine", "wineboot", "-i"], timeout=TIMEOUT, **quiet)
-        goes_on()
+        for _ in range(ASKED):  # (it may lose its server, too)
+            subprocess.run(["wine", "wineboot", "-i"], timeout=TIMEOUT, **quiet)
+            goes_on()
+            if os.path.exists(f"{room}/wine/drive_c/windows/system32/regsvr32.exe"):
+                break
         # (a program with windows starts the desktop, which takes 14 s without a display, and goes soon after the last one of them: this one stays)
         self.desktop = subprocess.Popen(self.words("explorer"), **quiet)
 
@@ -381,6 +407,18 @@ class Bridge:
     def register(self, name, *more):
         return self.wine.run("regsvr32", "/s", "/n", *more, f"/i:{name}@127.0.0.1:{self.server.port}", self.dll)[0]
 
+    def settle(self):
+        """Has registered what the bridge itself registers, and nothing that a test has left which Wine ended, or which failed."""
+        tool = f"{self.room}/built/oautreg.exe"
+        lines = self.wine.run(tool, "list")[1].splitlines()
+        own = [it for it in lines if it.startswith("Demo.") and "  all users, " in it]
+        left = [it for it in lines if it not in own and it != "nothing is registered"]
+        if left:
+            print(f"an earlier test has left registered: {'; '.join(left)}", flush=True)
+            self.wine.run(tool, "remove", "--all")
+        if left or not own:
+            self.register("Demo")
+
     def has(self, key):
         return self.wine.run("reg", "query", key)[0] == 0
 
@@ -450,7 +488,10 @@ class UnderWine(Told):
 
     @classmethod
     def setUpClass(cls):
+        if bridge(cls.bits).wine.server.poll() is not None:  # (its Wine has ended, so nothing would be started any more)
+            anew()
         cls.bridge = bridge(cls.bits)
+        cls.bridge.settle()
         cls.wine, cls.server = cls.bridge.wine, cls.bridge.server
 
     def same(self, what, got, wanted):
@@ -458,6 +499,16 @@ class UnderWine(Told):
 
     def runs(self, script, *words):
         self.each(script, self.wine.run(*self.bridge.script(script), *words)[1])
+
+    def speaks(self, *words):
+        """A process of Windows, and its first line. On a busy machine Wine now and then starts nothing of what is asked, or loses its server before the first
+        word: it is asked again."""
+        for left in reversed(range(ASKED)):
+            process = self.wine.start(*words)
+            told = process.stdout.readline()
+            if (told and not told.startswith(NOT_STARTED)) or not left:
+                return process, told
+            process.communicate(timeout=TIMEOUT)
 
     def held(self, script, *words):
         """A script that waits for a file, up to its line "ready": the process, the file, what it has told."""
@@ -469,14 +520,10 @@ class UnderWine(Told):
 
     def ready(self, words):
         """What is held, once it has told that it is ready: words with the name of the file."""
-        for _ in range(ASKED):
-            go = tempfile.mktemp(dir=self.bridge.room)
-            process, told = self.wine.start(*words(windows(go))), b""
-            while b"ready" not in told and (line := process.stdout.readline()):
-                told += line
-            if not told.startswith(NOT_STARTED):
-                break
-            process.communicate(timeout=TIMEOUT)
+        go = tempfile.mktemp(dir=self.bridge.room)
+        process, told = self.speaks(*words(windows(go)))
+        while b"ready" not in told and (line := process.stdout.readline()):
+            told += line
         return process, go, told
 
     def finish(self, held):
@@ -503,8 +550,7 @@ class UnderWine(Told):
         """What a client tells that ends before the process that it has started, and whether its connection ends with it. That process goes on until the file is
         there, so that a connection which it has is there as long."""
         go = tempfile.mktemp(dir=self.bridge.room)
-        client = self.wine.start(f"{self.bridge.room}/built/client.exe", "starts", windows(go))
-        told = b""
+        client, told = self.speaks(f"{self.bridge.room}/built/client.exe", "starts", windows(go))
         while b"end" not in told and (line := client.stdout.readline()):
             told += line
         ended = self.server.ends(self.server.child, seconds)

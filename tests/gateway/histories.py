@@ -78,7 +78,8 @@ def goes(source, to, sign):
             os.write(log, sign + len(data).to_bytes(4, "little") + data)
             written(to, data)
     except OSError:
-        pass
+        while sign == b"S" and os.read(source, 1 << 16):
+            pass # (the gateway has ended: else a server with more replies than a pipe holds would wait for ever)
     if sign == b"C":
         child.stdin.close()
 threading.Thread(target=goes, args=(0, child.stdin.fileno(), b"C"), daemon=True).start()
@@ -271,8 +272,11 @@ class Watcher:
     def __init__(self, gateway):
         self.lines, self.first, self.sock = [], None, None
         gateway.wait_for(lambda: self.dialled(gateway) or gateway.process.poll() is not None, "nobody may watch")
+        self.begun = threading.Event()
         self.thread = threading.Thread(target=self.hear, daemon=True)
         self.thread.start()
+        # (what is acknowledged before its line is read it is not told)
+        self.begun.wait(SECONDS)
 
     def dialled(self, gateway):
         try:
@@ -284,11 +288,14 @@ class Watcher:
 
     def hear(self):
         if self.sock is None:
+            self.begun.set()
             return
         with contextlib.suppress(OSError), self.sock, self.sock.makefile("rb") as file:
             for line in file:
                 if line.endswith(b"\n"):
                     self.lines.append(json.loads(line))
+                    self.begun.set()
+        self.begun.set()
         if self.lines and "epoch" in self.lines[0]:
             self.first = self.lines.pop(0)
 

@@ -666,8 +666,9 @@ class Patience(Behaviour):
         sock.sendall(record(bytes(1000))[:4])
         sock.settimeout(0.3)
         while not got and time.monotonic() - begun < 90:
-            with contextlib.suppress(socket.timeout):
+            with contextlib.suppress(OSError):  # (it may be told its end, and closed, before it sends)
                 sock.sendall(b"x")
+            with contextlib.suppress(socket.timeout):
                 got = sock.recv(100)
         self.tell("it is refused", got == record(STUB), (got, time.monotonic() - begun))
         sock.close()

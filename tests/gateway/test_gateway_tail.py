@@ -16,6 +16,7 @@ from gateways import SECONDS, Gateway, built, hear, record
 from preloaded import COMPILER
 from running import ROOT, Cases
 from test_gateway_reading import replies, tagged
+from tries import in_time
 from wire import oaut
 
 SOCKETS = ("listen", "listen-read", "control")
@@ -168,27 +169,36 @@ class Tailing(Cases):
         """It stays for longer than --idle and --stalled, whether it has nothing to read or reads nothing; others do not get its place."""
         gateway, count = self.begun("--idle", "1", "--stalled", "1"), 6_000
         body = tagged([worked.get(worked.COUNT)])[0]
+
+        def asked(bodies):
+            """Asks as a new client. One that a busy machine keeps from asking for a second is let go: then another one asks."""
+
+            def answered():
+                with contextlib.suppress(OSError, struct.error), gateway.dial() as sock:
+                    return replies(sock, bodies)
+                return None
+
+            self.tell("a client is answered", in_time(answered))
+
         with Tail(gateway) as quiet, Tail(gateway) as never:
             time.sleep(4)
             with contextlib.ExitStack() as stack:
                 others = [stack.enter_context(gateway.dial("control")) for _ in range(12)]
                 others[-1].sendall(b"status\n")
                 self.tell("others have places", b"oaut_gateway_clients" in hear(others[-1], 4_096))
-            with gateway.dial() as sock:
-                replies(sock, [body])
-                self.tell("it is still there", [list(quiet.line())[3:] for _ in range(2)] == [["request"], ["reply"]])
-                quiet.sock.shutdown(socket.SHUT_RDWR)
-                for _ in range(count // 500):
-                    replies(sock, [body] * 500)
+            asked([body])
+            self.tell("it is still there", [list(quiet.line())[3:] for _ in range(2)] == [["request"], ["reply"]])
+            quiet.sock.shutdown(socket.SHUT_RDWR)
+            for _ in range(count // 500):
+                asked([body] * 500)
             time.sleep(4)
-            with gateway.dial() as sock:
-                seen, lost = 0, 0
-                while not lost and seen < 2 * count:
-                    line = never.line()
-                    lost += line.get("lost", 0)
-                    seen += "lost" not in line
-                    if seen % 100 == 0:
-                        replies(sock, [body])  # once there is room again it is told
+            seen, lost = 0, 0
+            while not lost and seen < 2 * count:
+                line = never.line()
+                lost += line.get("lost", 0)
+                seen += "lost" not in line
+                if seen % 100 == 0:
+                    asked([body])  # once there is room again it is told
             self.tell("one that has read nothing gets the rest", lost > 0 and seen > 1_000, (seen, lost))
         self.ended(gateway)
 

@@ -21,6 +21,7 @@ from histories import Guide
 from preloaded import COMPILER
 from running import Cases
 from test_gateway_reading import replies, tagged
+from tries import in_time
 from watched import Told
 from wire import oaut
 
@@ -539,25 +540,30 @@ class Watching(Cases):
 
     def test_the_end(self):
         """What was answered is told before the gateway ends, though one takes nothing."""
-        gateway = self.begun()
-        with Watch(gateway) as watch, Watch(gateway, "values") as never, gateway.dial() as sock:
-            requests = [oaut.ask_create(worked.ITEM), *(worked.put(worked.COUNT, worked.scalar(3, it)) for it in range(5_000))]
-            # (it reads all the time, since what it has not taken a second after the end is not sent)
-            told = []
-            reading = threading.Thread(target=lambda: told.append(rest(watch.sock)))
-            reading.start()
-            sock.sendall(b"".join(record(it) for it in tagged(requests)))
-            hear(sock, 4)
-            gateway.process.terminate()
-            count = len(rest(sock)) // 20 + 1
-            begun = time.monotonic()
-            reading.join()
-            lines = [json.loads(it) for it in told[0].split(b"\n")[:-1]]
-            self.tell(
-                "all that was answered", [it.get("seq") for it in lines] == list(range(1, len(lines) + 1)) and len(lines) >= count - 1, (len(lines), count)
-            )
-            self.tell("nobody waits for long", gateway.end(None)[0] == 0 and time.monotonic() - begun < 20)
-            never.sock.close()
+        requests = [oaut.ask_create(worked.ITEM), *(worked.put(worked.COUNT, worked.scalar(3, it)) for it in range(5_000))]
+
+        def all_told():
+            """Whether one that reads all the time is told all. What it has not taken a second after the end is not sent."""
+            gateway = self.begun()
+            with Watch(gateway) as watch, Watch(gateway, "values") as never, gateway.dial() as sock:
+                told = []
+                reading = threading.Thread(target=lambda: told.append(rest(watch.sock)))
+                reading.start()
+                sock.sendall(b"".join(record(it) for it in tagged(requests)))
+                hear(sock, 4)
+                gateway.process.terminate()
+                count = len(rest(sock)) // 20 + 1
+                begun = time.monotonic()
+                reading.join()
+                lines = [json.loads(it) for it in told[0].split(b"\n")[:-1]]
+                self.tell("in their order", [it.get("seq") for it in lines] == list(range(1, len(lines) + 1)), len(lines))
+                self.tell("nobody waits for long", gateway.end(None)[0] == 0 and time.monotonic() - begun < 20)
+                never.sock.close()
+            seen.append((len(lines), count))
+            return len(lines) >= count - 1
+
+        seen = []
+        self.tell("all that was answered", in_time(all_told), seen)
 
     def test_changes_of_one_that_has_gone(self):
         """What was done counts, whoever hears of it."""

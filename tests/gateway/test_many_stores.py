@@ -12,6 +12,7 @@ from certificates import Authority
 from gateways import SECONDS, built, copy_store, left_out, store_of
 from namespaces import Hosts, why_not
 from running import PROGRAM, ROOT, Cases
+from tries import TRIES
 from wire import oaut
 
 FULL = f"{ROOT}/examples/full.idl"
@@ -145,8 +146,11 @@ class Stores(Cases):
                 ("another authority", them.url("items", "items", ca=them.clients["items"].path), ["CertificateRefused"]),
                 ("a host without the store", them.url("items", "items", to=them.hosts[1].address), ["ConnectionRefusedError"]),
             ):
-                said = them.ask(url)
-                self.tell(f"{what}: it is refused", said in wanted, said)
+                said = [them.ask(url)]
+                # (why is told by an alert, which may be lost with a connection that is reset behind it)
+                while said[-1] not in wanted and said[-1] == "ConnectionRefusedError" and len(said) < TRIES:
+                    said.append(them.ask(url))
+                self.tell(f"{what}: it is refused", said[-1] in wanted, said)
 
     def test_as_many_clients_as_may_come(self):
         """A gateway at its limit turns the front's check away as any client: no session may be cut for that."""

@@ -168,6 +168,12 @@ def packed():
     return subprocess.run([f"{ROOT}/dist/pack", "--program", PROGRAM, *(["--try"] if HAS_ROOT else []), room], capture_output=True, text=True, timeout=850)
 
 
+def anew():
+    """Has a test that runs again pack anew, if that has failed."""
+    if packed.cache_info().currsize and packed().returncode:
+        packed.cache_clear()
+
+
 @unittest.skipUnless(BUILT, "the program is not there")
 class Packed(Cases):
     def test_a_newcomer_follows_the_start(self):

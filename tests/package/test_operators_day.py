@@ -86,6 +86,11 @@ def first_machine():
     return booted.run(script_of(steps_of("first", "event")), files(), 800, take={COPY: taken}), taken.get(COPY, b"")
 
 
+def anew():
+    """Has a test that runs again boot a machine of its own."""
+    first_machine.cache_clear()
+
+
 def steps_of(*kinds):
     return [it for it in enumerate(blocks_of(page())) if it[1][0] in kinds]
 

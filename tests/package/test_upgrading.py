@@ -10,10 +10,11 @@ from running import PROGRAM, Cases
 from test_dist import HAS_ROOT, packed
 
 # a client that puts rising numbers and connects again, until /stop is there: how many acknowledged numbers were above what the store had later, and
-# the longest pause between two acknowledged puts, before there is a file /upgrade.1, and from it and each of the next two on
+# the longest pause between two acknowledged puts, before there is a file /upgrade.1, and from it and each of the next two on. Once it has put five numbers
+# after there is a file /behind.N, it makes /seen.N
 LOAD = """
 import os, time, oaut
-acknowledged, last, longest, lost, number = 0, time.monotonic(), [0.0] * 4, 0, 0
+acknowledged, last, longest, lost, number, since = 0, time.monotonic(), [0.0] * 4, 0, 0, [0] * 5
 while not os.path.exists("/stop"):
     try:
         with oaut.connect("/run/oaut/items.sock", timeout=20) as server:
@@ -21,8 +22,13 @@ while not os.path.exists("/stop"):
             lost += item.Count < acknowledged
             while not os.path.exists("/stop"):
                 number, upgrades = number + 1, sum(os.path.exists(f"/upgrade.{it}") for it in (1, 2, 3))
+                behind = [it for it in range(5) if since[it] < 5 and os.path.exists(f"/behind.{it}")]
                 item.Count = number
                 acknowledged, before, last = number, last, time.monotonic()
+                for it in behind:
+                    since[it] += 1
+                    if since[it] == 5:
+                        open(f"/seen.{it}", "w").close()
                 if before and acknowledged > 1:
                     longest[upgrades] = max(longest[upgrades], last - before)
     except (oaut.SessionEnded, OSError):
@@ -33,21 +39,26 @@ UPGRADED = r"""
 sockets() { ls /run/oaut 2> /dev/null | tr '\n' ' '; }
 runs() { readlink "/proc/$(systemctl show -P MainPID oaut@items.service)/exe"; }
 wants() { ls /etc/systemd/system/sockets.target.wants | grep -c '^oaut' || true; }
+# waits until the load goes on, so that the pause before that is one of its own
+goes_on() { touch "/behind.$1"; for it in $(seq 3000); do [ ! -e "/seen.$1" ] || break; sleep 0.1; done; }
 dpkg --no-triggers -i /old.deb
 echo 'OPTIONS=--idle 60' > /etc/oaut/items.env
 systemctl enable --now oaut@items.socket
 /usr/bin/python3 /load.py > /load.out &
 load=$!
 while ! systemctl is-active -q oaut@items.service; do sleep 1; done
+goes_on 0
 sleep 2
 systemctl restart oaut@items.service
 oaut-gateway probe /run/oaut/items.sock 60 > /dev/null
+goes_on 4
 sleep 2
 echo "before: $(runs) $(oaut-gateway --version)"
 for turn in 1 2 3; do
     touch "/upgrade.$turn"
     dpkg --no-triggers -i /new.deb
     oaut-gateway probe /run/oaut/items.sock 60 > /dev/null
+    goes_on "$turn"
     sleep 2
 done
 echo "after: $(runs)"

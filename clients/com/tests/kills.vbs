@@ -1,7 +1,8 @@
-' Puts numbers that rise while its server is killed: each line is a put that was done, or an error. It ends once there is a file.
+' Puts numbers that rise from the third word on while its server is killed: each line is a put that was done, or an error. It ends once there is a file.
 Dim hub, item, files, number, stop_file, i, key, seen
 number = CLng(WScript.Arguments(0))
 stop_file = WScript.Arguments(1)
+i = CLng(WScript.Arguments(2))
 Set files = CreateObject("Scripting.FileSystemObject")
 Set hub = CreateObject("Demo.Store")
 On Error Resume Next

@@ -44,7 +44,8 @@ def run(number):
     back = argument(orpc.Standard(struct.unpack("<Q", ipid[8:])[0], 0, ipid))
     try:
         _, connection = value_of(ipid)
-        while not stop.is_set():
+        # (on a slow machine the kills may be over before each client has put something)
+        while not stop.is_set() or not acknowledged[number]:
             try:
                 item = Proxy(connection.call, ipid)
                 item.put(1, value + 1)

@@ -986,6 +986,23 @@ class CommandLine(Cases):
                 sock.close()
                 self.tell("its end", gateway.end()[0] == 0)
 
+    def test_what_systemd_passes_is_no_listening_socket(self):
+        """The gateway says so, before it looks for the store."""
+        with contextlib.ExitStack() as stack, tempfile.TemporaryDirectory() as room:
+            connected, _ = map(stack.enter_context, socket.socketpair())
+            bound, datagrams = (stack.enter_context(socket.socket(socket.AF_UNIX, it)) for it in (socket.SOCK_STREAM, socket.SOCK_DGRAM))
+            for name, it in (("bound", bound), ("datagrams", datagrams)):
+                it.bind(f"{room}/{name}")
+            file = stack.enter_context(open(os.devnull))
+            for what, it in (("a connection", connected), ("a socket that does not listen yet", bound), ("datagrams", datagrams), ("a file", file)):
+                high = fcntl.fcntl(it.fileno(), fcntl.F_DUPFD, 100)
+                script = f'export LISTEN_PID=$$ LISTEN_FDS=1; exec "$@" 3<&{high} {high}<&-'
+                words = ["bash", "-c", script, "bash", built()[0], "--listen", f"{room}/it", f"{room}/no.store"]
+                done = subprocess.run(words, pass_fds=[high], capture_output=True, text=True, timeout=SECONDS)
+                os.close(high)
+                found = done.returncode, done.stdout, done.stderr
+                self.tell(what, found == (2, "", "oaut-gateway: descriptor 3 is no listening socket\n"), found)
+
     @unittest.skipIf(os.geteuid(), "not run by root")
     def test_who_may(self):
         """Whom the rights of the socket let, and of these whom the options do."""

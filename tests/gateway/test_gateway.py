@@ -104,6 +104,18 @@ class Building(Cases):
             done = compiled([f"{room}/clients/gateway/build.sh", room], "-O1")
             self.tell("with the library beside it, it builds", done == (0, "") and os.path.exists(f"{room}/oaut-gateway"), done)
 
+    def test_a_benchmark_in_the_current_folder(self):
+        """It begins there, and goes on in a folder of its own."""
+        with tempfile.TemporaryDirectory() as room:
+            words = [sys.executable, f"{ROOT}/bench/gateway.py", PROGRAM, ".", "0.02", "1", "0", "SQLite"]
+            done = subprocess.run(words, cwd=room, capture_output=True, text=True)
+            self.tell("its rows", done.returncode == 0 and "| SQLite | " in done.stdout, done)
+            self.tell("nothing is left there", os.listdir(room) == [], os.listdir(room))
+            code = "import sys; sys.argv[1:] = ['a', 'b']; from command_line import words; print(words('', folder='.', seconds=1.0))"
+            done = subprocess.run([sys.executable, "-c", code], cwd=room, env={**os.environ, "PYTHONPATH": f"{ROOT}/bench"}, capture_output=True, text=True)
+            own = os.path.realpath(room)
+            self.tell("what any benchmark gets", done.stdout == f"['{own}/a', '{own}/b', 1.0]\n", done)
+
     def test_the_page_counts_lines(self):
         lines = {os.path.basename(it): sum(1 for _ in open(it)) for it in glob.glob(f"{GATEWAY}/*.[ch]")}
         with open(f"{ROOT}/docs/operations/gateway.md") as file:

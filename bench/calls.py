@@ -1,13 +1,15 @@
 #!/usr/bin/env python3
-"""The system calls of one durable put of a single client, by the gateway with its server, and by Redis with `appendfsync always`.
+"""The system calls of one commit, by the gateway with its server, and by Redis with `appendfsync always`.
 
-    python3 bench/calls.py [PROGRAM [FOLDER [SECONDS [ROUNDS]]]]
+    python3 bench/calls.py [PROGRAM [FOLDER [SECONDS [ROUNDS [CLIENTS]]]]]
 
-Defaults: PROGRAM crates/oaut/out/oaut, FOLDER of the files the current one, SECONDS of each measurement 1, ROUNDS 5. It needs redis-server, redis-benchmark, a
-C compiler, and perf with the right to trace. The ways take turns. Each is measured alone first, and then again under `perf trace -s`.
+Defaults: PROGRAM crates/oaut/out/oaut, FOLDER of the files the current one, SECONDS of each measurement 1, ROUNDS 5, CLIENTS 1, each of which waits for its
+put. It needs redis-server, redis-benchmark, a C compiler, and perf with the right to trace. The ways take turns. Each is measured alone first, and then again
+under `perf trace -s`.
 
-Prints for each way the median of the rounds: the time of a put; and for each call of each process how many there are for a put, and their time for a put.
-The time of a call that waits for a peer is mostly that of the peer.
+Prints for each way the median of the rounds: puts a second; the time of a commit; and for each call of each process how many there are for a commit, and their
+time for a commit. The time of a call that waits for a peer is mostly that of the peer. The last line is the bound of any gateway: a commit has at most a put of
+each client, and takes at least as long as the server's writes and syncs.
 """
 import contextlib
 import os
@@ -24,9 +26,10 @@ sys.path.append(f"{ROOT}/tests/support")
 from command_line import words
 from wire import oaut
 
-PROGRAM, FOLDER, SECONDS, ROUNDS = words(__doc__, folder=".", seconds=1.0, rounds=5)
+PROGRAM, FOLDER, SECONDS, ROUNDS, CLIENTS = words(__doc__, folder=".", seconds=1.0, rounds=5, clients=1)
 LIBRARY = f"{ROOT}/examples/small.idl"
-LEAST = 0.05  # calls of a put that are rarer than this are not printed
+LEAST = 0.05  # calls of a commit that are rarer than this are not printed
+SYNCS = {"gateway": 2, "Redis": 1}  # of a commit
 
 
 def child_of(pid):
@@ -53,11 +56,12 @@ def gateway():
     """The processes, and a function that gives the command of a client and how to read its rate."""
     if not os.path.exists("it.store"):
         subprocess.run([PROGRAM, "format", "it.store", LIBRARY], check=True, stdout=subprocess.DEVNULL)
-        with oaut.serve("it.store", LIBRARY, program=PROGRAM) as server:
-            server.create("Item")
+        with oaut.serve("it.store", LIBRARY, program=PROGRAM, group=1_024) as server, server.batch():
+            for _ in range(CLIENTS):
+                server.create("Item")
     with running("./oaut-gateway", "--program", PROGRAM, "--report", "0", "--listen", "./gateway.sock", "it.store") as pid:
         oaut.connect("./gateway.sock", patience=30).close()
-        load = ["./load", "./gateway.sock", "1", "1"]
+        load = ["./load", "./gateway.sock", str(CLIENTS), "1"]
         yield {"gateway": pid, "server": child_of(pid)}, lambda seconds: ([*load, str(seconds)], lambda out: float(out.split()[0]))
 
 
@@ -73,10 +77,10 @@ def redis():
                 sock.connect(path)
                 break
             subprocess.run(["sleep", "0.05"], check=True)
-        load = ["redis-benchmark", "-s", path, "-t", "set", "-c", "1", "-d", "4", "--csv"]
+        load = ["redis-benchmark", "-s", path, "-t", "set", "-c", str(CLIENTS), "-d", "4", "--csv"]
         rate = lambda out: float(out.strip().splitlines()[-1].split(",")[1].strip('"'))
         # (it takes a number of requests, not a time)
-        yield {"Redis": pid}, lambda seconds: ([*load, "-n", str(int(seconds * 9_000))], rate)
+        yield {"Redis": pid}, lambda seconds: ([*load, "-n", str(int(seconds * 9_000 * CLIENTS**0.7))], rate)
 
 
 def traced(pids, seconds):
@@ -94,9 +98,14 @@ def traced(pids, seconds):
     return found
 
 
+def median_of(rounds, fact):
+    return statistics.median(map(fact, rounds))
+
+
 def main():
-    ways, found = {"gateway": gateway, "Redis": redis}, {}
+    ways, rounds = {"gateway": gateway, "Redis": redis}, []
     for _ in range(ROUNDS):
+        rounds.append({})
         for name, way in ways.items():
             with way() as (pids, client):
                 command, rate = client(SECONDS)
@@ -105,18 +114,24 @@ def main():
                 with subprocess.Popen(command, stdout=subprocess.PIPE, text=True) as child:
                     calls = traced(pids, SECONDS)
                     child.terminate()
-            syncs = sum(rows.get("fdatasync", (0, 0))[0] for rows in calls.values())
-            puts = syncs / (2 if name == "gateway" else 1)
-            found.setdefault(name, []).append((1e3 / alone, SECONDS * 1e3 / puts, calls, puts))
-    for name, rounds in found.items():
-        alone, under = (statistics.median(it[at] for it in rounds) for at in (0, 1))
-        print(f"{name}: a put takes {alone:.3f} ms, and {under:.3f} ms while its calls are traced")
-        for process in rounds[0][2]:
-            for call in rounds[0][2][process]:
-                rows = [(it[2][process].get(call, (0, 0.0)), it[3]) for it in rounds]
-                count, time = (statistics.median(row[at] / puts for row, puts in rows) for at in (0, 1))
+            commits = sum(rows.get("fdatasync", (0, 0))[0] for rows in calls.values()) / SYNCS[name]
+            # (count and milliseconds of each call, for a commit)
+            each = {process: {call: (count / commits, time / commits) for call, (count, time) in rows.items()} for process, rows in calls.items()}
+            rounds[-1][name] = alone, SECONDS * 1e3 / commits, each
+    for name in ways:
+        found = [it[name] for it in rounds]
+        print(f"{name}: {median_of(found, lambda it: it[0]):,.0f} puts a second; a commit takes {median_of(found, lambda it: it[1]):.3f} ms while it is traced")
+        for process in found[0][2]:
+            for call in found[0][2][process]:
+                count, time = (median_of(found, lambda it: it[2][process].get(call, (0, 0))[at]) for at in (0, 1))
                 if count >= LEAST:
-                    print(f"  {process:8} {call:16} {count:6.2f} for a put   {time:.4f} ms for a put")
+                    print(f"  {process:8} {call:16} {count:6.2f} for a commit   {time:.4f} ms for a commit")
+    least = lambda it: sum(it["gateway"][2]["server"][call][1] for call in ("pwrite64", "fdatasync"))
+    bound = lambda it: CLIENTS * 1e3 / least(it)
+    print(
+        f"the server's writes and syncs take {median_of(rounds, least):.4f} ms: no gateway has more than {median_of(rounds, bound):,.0f} puts a second, "
+        f"{median_of(rounds, lambda it: bound(it) / it['Redis'][0]):.2f} of Redis's; this one has {median_of(rounds, lambda it: it['gateway'][0] / it['Redis'][0]):.2f}"
+    )
 
 
 if __name__ == "__main__":

@@ -245,7 +245,7 @@ MISSING = {"Redis": not shutil.which("redis-benchmark"), "PostgreSQL": not POSTG
 
 
 def main():
-    with tempfile.TemporaryDirectory(dir=os.path.abspath(FOLDER)) as room:
+    with tempfile.TemporaryDirectory(dir=FOLDER) as room:
         os.chmod(room, 0o755)
         os.chdir(room)
         subprocess.run(["cc", "-O2", "-Wall", "-Wextra", "-Werror", "-o", "load", f"{ROOT}/bench/load.c"], check=True)

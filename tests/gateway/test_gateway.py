@@ -104,6 +104,18 @@ class Building(Cases):
             done = compiled([f"{room}/clients/gateway/build.sh", room], "-O1")
             self.tell("with the library beside it, it builds", done == (0, "") and os.path.exists(f"{room}/oaut-gateway"), done)
 
+    def test_a_benchmark_in_the_current_folder(self):
+        """It begins there, and goes on in a folder of its own."""
+        with tempfile.TemporaryDirectory() as room:
+            words = [sys.executable, f"{ROOT}/bench/gateway.py", PROGRAM, ".", "0.02", "1", "0", "SQLite"]
+            done = subprocess.run(words, cwd=room, capture_output=True, text=True)
+            self.tell("its rows", done.returncode == 0 and "| SQLite | " in done.stdout, done)
+            self.tell("nothing is left there", os.listdir(room) == [], os.listdir(room))
+            code = "import sys; sys.argv[1:] = ['a', 'b']; from command_line import words; print(words('', folder='.', seconds=1.0))"
+            done = subprocess.run([sys.executable, "-c", code], cwd=room, env={**os.environ, "PYTHONPATH": f"{ROOT}/bench"}, capture_output=True, text=True)
+            own = os.path.realpath(room)
+            self.tell("what any benchmark gets", done.stdout == f"['{own}/a', '{own}/b', 1.0]\n", done)
+
     def test_the_page_counts_lines(self):
         lines = {os.path.basename(it): sum(1 for _ in open(it)) for it in glob.glob(f"{GATEWAY}/*.[ch]")}
         with open(f"{ROOT}/docs/operations/gateway.md") as file:
@@ -989,6 +1001,23 @@ class CommandLine(Cases):
                 self.tell(address, hear(sock, 20) == record(NO_REQUEST))
                 sock.close()
                 self.tell("its end", gateway.end()[0] == 0)
+
+    def test_what_systemd_passes_is_no_listening_socket(self):
+        """The gateway says so, before it looks for the store."""
+        with contextlib.ExitStack() as stack, tempfile.TemporaryDirectory() as room:
+            connected, _ = map(stack.enter_context, socket.socketpair())
+            bound, datagrams = (stack.enter_context(socket.socket(socket.AF_UNIX, it)) for it in (socket.SOCK_STREAM, socket.SOCK_DGRAM))
+            for name, it in (("bound", bound), ("datagrams", datagrams)):
+                it.bind(f"{room}/{name}")
+            file = stack.enter_context(open(os.devnull))
+            for what, it in (("a connection", connected), ("a socket that does not listen yet", bound), ("datagrams", datagrams), ("a file", file)):
+                high = fcntl.fcntl(it.fileno(), fcntl.F_DUPFD, 100)
+                script = f'export LISTEN_PID=$$ LISTEN_FDS=1; exec "$@" 3<&{high} {high}<&-'
+                words = ["bash", "-c", script, "bash", built()[0], "--listen", f"{room}/it", f"{room}/no.store"]
+                done = subprocess.run(words, pass_fds=[high], capture_output=True, text=True, timeout=SECONDS)
+                os.close(high)
+                found = done.returncode, done.stdout, done.stderr
+                self.tell(what, found == (2, "", "oaut-gateway: descriptor 3 is no listening socket\n"), found)
 
     @unittest.skipIf(os.geteuid(), "not run by root")
     def test_who_may(self):

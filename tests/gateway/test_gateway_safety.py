@@ -169,6 +169,54 @@ class Names(Cases):
             self.tell("files that got the names of its sockets stay", (kind_of(path), kind_of(other)) == before)
 
 
+# a file gets the name of a socket in the moment in which that is to be removed: it was looked at already
+SWAPPED = r"""
+#define _GNU_SOURCE
+#include <dlfcn.h>
+#include <fcntl.h>
+#include <stdlib.h>
+#include <string.h>
+#include <unistd.h>
+int renameat(int folder, const char *from, int other, const char *to) {
+    static int done;
+    if (!done && !strcmp(from, getenv("SWAPPED"))) {
+        done = !unlinkat(folder, from, 0);
+        int file = openat(folder, from, O_CREAT | O_EXCL | O_WRONLY, 0600);
+        done = done && write(file, "a thesis", 8) == 8 && !close(file);
+    }
+    return ((int (*)(int, const char *, int, const char *))dlsym(RTLD_NEXT, "renameat"))(folder, from, other, to);
+}
+"""
+
+
+@needs_cc
+class Moments(Cases):
+    """A name that another file gets between two calls."""
+
+    def swapped(self, act):
+        """A gateway whose control socket is replaced as it is to be removed. What it did: its status and what it said."""
+        with Gateway(starts=False, flags="-O1", SWAPPED="control", LD_PRELOAD=library("swapped", SWAPPED)[0]) as gateway:
+            status, said = act(gateway)
+            with open(f"{gateway.room}/control") as file:
+                self.tell("the file has its name", file.read() == "a thesis")
+            left = {*os.listdir(gateway.room)} - {"it.store", "said", "control"}
+            self.tell("no other name is left", not left, left)
+        return status, said
+
+    def test_at_the_start(self):
+        def starts(gateway):
+            stale_socket(f"{gateway.room}/control")
+            gateway.start(waits=False)
+            return ends_itself(gateway)
+
+        status, said = self.swapped(starts)
+        self.tell("it says so", status == 1 and "the old socket cannot be removed" in said, (status, said))
+
+    def test_at_the_end(self):
+        status, said = self.swapped(lambda gateway: gateway.start().end())
+        self.tell("its end", (status, said) == (0, ""), (status, said))
+
+
 # a device whose syncs fail as soon as a file is there
 FAILS_IF = r"""
 #define _GNU_SOURCE

@@ -3,12 +3,14 @@ import contextlib
 import json
 import os
 import random
+import re
 import resource
 import signal
 import socket
 import struct
 import subprocess
 import sys
+import tempfile
 import threading
 import time
 import unittest
@@ -16,17 +18,38 @@ import unittest
 import wire
 import worked
 from codes import BAD_STUB
-from gateways import SECONDS, Gateway, arrived, hear, record, rest
+from gateways import SECONDS, Gateway, arrived, hear, left_out, record, rest
 from histories import Guide
 from preloaded import COMPILER
 from running import Cases
 from test_gateway_reading import replies, tagged
-from tries import in_time
+from tries import in_time, least
 from watched import Told
 from wire import oaut
 
 SOCKETS = ("listen", "watch", "control")
 assert wire.oaut is oaut
+# A server whose batches take 12 ms each: behind its replies the next batch waits for 2 ms.
+UNHURRIED = r"""#!/usr/bin/env python3
+import os, struct, sys, time
+if sys.argv[1] == "dump":
+    sys.exit(0)
+data, due = b"", []
+frame = lambda client, some: struct.pack("<II", client, len(some)) + some
+while some := os.read(0, 65536):
+    data += some
+    while len(data) >= 8 and len(data) >= 8 + (size := struct.unpack_from("<I", data, 4)[0]):
+        client, given = struct.unpack_from("<I", data)[0], data[8 : 8 + size]
+        data = data[8 + size :]
+        if size:
+            due.append(frame(client, struct.pack("<IIIII", 16, struct.unpack_from("<I", given, 4)[0], 0, 0xFFFFFFFF, 0)))
+        elif client == 0xFFFFFFFE:
+            time.sleep(0.012 if due else 0)
+            os.write(1, b"".join(due) + frame(client, b""))
+            due = []
+        elif client != 0xFFFFFFFF:
+            due.append(frame(client, b""))
+"""
 
 
 class Watch:
@@ -413,6 +436,46 @@ class Watching(Cases):
             self.tell("it sleeps meanwhile", took < 0.2, took)
         self.ended(gateway)
 
+    def traced(self, pause):
+        """What the gateway sends and how often it wakes, as strace prints it, while a client puts 30 times before the server of UNHURRIED, and lets so many
+        seconds pass after each reply."""
+        with tempfile.TemporaryDirectory() as room:
+            open(f"{room}/it.store", "w").close()
+            with open(f"{room}/unhurried", "w") as file:
+                file.write(UNHURRIED)
+            os.chmod(f"{room}/unhurried", 0o755)
+            under = ("strace", "-D", "-q", "-o", f"{room}/trace", "-e", "trace=sendto,epoll_pwait2,epoll_wait")
+            with Gateway("--report", "0", room=room, sockets=SOCKETS, program=f"{room}/unhurried", flags="-O1 -g", under=under) as gateway:
+                with gateway.dial() as sock, Watch(gateway) as watch:
+                    for it in tagged([worked.put(worked.COUNT, worked.scalar(3, it)) for it in range(30)]):
+                        sock.sendall(record(it))
+                        self.tell("a reply", len(hear(sock, 20)) == 20)
+                        time.sleep(pause)
+                    found = [it["seq"] for it in watch.lines(30)]
+                    self.tell("each line", found == list(range(1, 31)), found)
+                self.tell("its end", gateway.end()[0] == 0)
+            with open(f"{room}/trace") as file:
+                return file.read()
+
+    @left_out("strace")
+    def test_the_next_batch_comes_first(self):
+        """Between two batches those who watch wait as well: what was answered asks again, and the server gets that before they get their lines."""
+
+        def comes_first():
+            sent = re.findall(r'(?m)^sendto\(\d+, "(.*?)"(?:\.\.\.)?, (\d+), ', self.traced(0))
+            # a reply has 20 bytes, a batch more
+            found.append([int(before[1]) > 20 for before, it in zip(sent, sent[1:]) if it[0].startswith(r"{\"seq\"") and not before[0].startswith("{")])
+            return sum(found[-1]) > len(found[-1]) // 2 > 10
+
+        found = []
+        self.tell("most lines come behind the next batch", in_time(comes_first), found)
+
+    @left_out("strace")
+    def test_between_two_batches_it_sleeps(self):
+        """While lines wait for a client that was answered, and that asks nothing."""
+        found = least(10, lambda: self.traced(0.03).count("epoll_") / 30)
+        self.tell("it wakes now and then", found < 10, found)
+
     def test_those_who_share(self):
         """Clients with the same filter, which read in other pieces and at another pace, get the same lines; those with another filter get theirs."""
         dice = random.Random(int(os.environ.get("OAUT_SEED") or 0))
@@ -625,6 +688,7 @@ class Watching(Cases):
 
             got = told(f"object=1 interface={worked.FIRST_ONE} member={worked.CELL}")
             self.tell("all keys", len(set(got.split(b"\n"))) == 502 and got.startswith(b'{"keys":500}\n') and got.endswith(b'"\n'), got[:100])
+            self.tell("the greatest number of an object", told(f"object={(1 << 32) - 1} interface={worked.FIRST_ONE} member=1") == b'{"keys":0}\n')
             self.tell("none", told(f"object=1 interface={{{worked.FIRST_ONE}}} member=-2147483648\r") == b'{"keys":0}\n')
             for words in (
                 "",
@@ -632,11 +696,30 @@ class Watching(Cases):
                 f"object=1 interface={worked.FIRST_ONE}",
                 f"interface={worked.FIRST_ONE} object=1 member=1",
                 "object=x interface=y member=z",
+                f"object=1 interface={worked.FIRST_ONE} member=1 values",
+                f"object=1 interface={worked.FIRST_ONE} member=1.",
             ):
                 self.tell(f"keys {words}", b"refused" in told(words))
             for object, guid, member in ((1 << 32, worked.FIRST_ONE, 1), (1, "1-2", 1), (1, worked.FIRST_ONE, -(1 << 31) - 1), (1, worked.FIRST_ONE, "1-")):
                 got = told(f"object={object} interface={guid} member={member}")
                 self.tell(f"{object} {guid} {member}", b"refused" in got, got)
+        self.ended(gateway)
+
+    def test_keys_one_after_another(self):
+        """Whoever has all keys has left its place by then."""
+        line = f"keys object=1 interface={worked.FIRST_ONE} member={worked.CELL}\n".encode()
+        gateway = self.begun()
+
+        def asked():
+            begun = time.monotonic()
+            for _ in range(12):
+                while (got := gateway.ask(line, "watch", ends=False)) == b'{"busy":2}\n':
+                    time.sleep(0.01)
+                self.tell("its keys", got == b'{"keys":0}\n', got)
+            return time.monotonic() - begun
+
+        found = least(4, asked)
+        self.tell("twelve, each of which begins when the one before has ended", found < 4, found)
         self.ended(gateway)
 
 

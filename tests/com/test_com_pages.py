@@ -91,8 +91,6 @@ class OfImport(UnderWine):
         place = reserved()
         port = str(place.getsockname()[1])
         self.addCleanup(place.close)
-        # (the page's last command removes it, too, unless Wine ends that before its first word)
-        self.addCleanup(self.wine.said, "regsvr32", "/s", "/u", "/n", "/i:Test", self.bridge.dll)
         with Room() as room:
             for it in ("tlb2idl.exe", "oautcom.dll"):
                 shutil.copy(f"{self.bridge.room}/built/{it}", f"{room.path}/{it}")
@@ -104,7 +102,11 @@ class OfImport(UnderWine):
             room.write("waits.py", WAITS)
             text = block(IMPORT_PAGE, "wine tlb2idl.exe").replace("8777", port).replace("&\n", f"&\npython3 waits.py {port}\n")
             again, ends = text.splitlines()[-1], "wine regsvr32 /s /u /n /i:Test oautcom.dll"
-            status, said = room.run(f"trap 'kill $(jobs -p)' EXIT\n{text}{again}\n{ends}\n", TIMEOUT)
+            try:
+                status, said = room.run(f"trap 'kill $(jobs -p)' EXIT\n{text}{again}\n{ends}\n", TIMEOUT)
+            finally:
+                # (the page's last command removes the classes, unless Wine ends it or one before it; no other DLL removes those of this one)
+                self.wine.said("regsvr32", "/s", "/u", "/n", "/i:Test", f"{room.path}/oautcom.dll")
             printed = [it for it in said.splitlines() if it.startswith("web ")]
             self.tell("both runs", printed == ["web 80,443 -1 0", "web 80,443 -1 1"], (status, said))
 

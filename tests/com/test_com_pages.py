@@ -101,14 +101,17 @@ class OfImport(UnderWine):
             room.write("rule.vbs", block(IMPORT_PAGE, 'Set hub = CreateObject("Test.Store")'))
             room.write("waits.py", WAITS)
             text = block(IMPORT_PAGE, "wine tlb2idl.exe").replace("8777", port).replace("&\n", f"&\npython3 waits.py {port}\n")
-            again, ends = text.splitlines()[-1], "wine regsvr32 /s /u /n /i:Test oautcom.dll"
+            # (the name alone is refused, without a word to whoever does not look at the status)
+            again, name = text.splitlines()[-1], f"/i:Test@127.0.0.1:{port}"
+            ends = f"wine regsvr32 /s /u /n {name} oautcom.dll"
             try:
                 status, said = room.run(f"trap 'kill $(jobs -p)' EXIT\n{text}{again}\n{ends}\n", TIMEOUT)
             finally:
-                # (the page's last command removes the classes, unless Wine ends it or one before it; no other DLL removes those of this one)
-                self.wine.said("regsvr32", "/s", "/u", "/n", "/i:Test", f"{room.path}/oautcom.dll")
+                # (the last command removes the classes, unless Wine ends it or one before it)
+                self.wine.said("regsvr32", "/s", "/u", "/n", name, f"{room.path}/oautcom.dll")
             printed = [it for it in said.splitlines() if it.startswith("web ")]
             self.tell("both runs", printed == ["web 80,443 -1 0", "web 80,443 -1 1"], (status, said))
+            self.tell("nothing stays registered", not self.bridge.has("HKCR\\Test.Store") and not self.bridge.has("HKCR\\Test.NetFwRule"))
 
     def test_what_is_left_out(self):
         words = [f"{self.bridge.room}/built/tlb2idl.exe", "C:\\windows\\system32\\hnetcfg.dll", "-o", windows(f"{self.bridge.room}/all.idl")]

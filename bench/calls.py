@@ -7,8 +7,8 @@ Defaults: PROGRAM crates/oaut/out/oaut, FOLDER of the files the current one, SEC
 put. It needs redis-server, redis-benchmark, a C compiler, and perf with the right to trace. The ways take turns. Each is measured alone first, and then again
 under `perf trace -s`.
 
-Prints for each way the median of the rounds: puts a second; the time of a commit; and for each call of each process how many there are for a commit, and their
-time for a commit. The time of a call that waits for a peer is mostly that of the peer.
+Prints for each way the medians of the rounds: puts a second, and the time of a commit. Then come the calls of each process: how many there are for a commit, and
+their time. The time of a call that waits for a peer is mostly that of the peer.
 
 The last lines are bounds of any gateway. A commit has at most a put of each client, and takes at least as long as the server's writes and syncs. Between two
 commits the clients read their replies and send their next puts; bench/load.c is one process, of which the processor's time is counted.
@@ -141,7 +141,7 @@ def main():
     print(
         f"the server's writes and syncs take {median_of(rounds, syncs):.4f} ms for a commit, the clients {median_of(rounds, lambda it: it['gateway'][3]):.4f} ms for a put"
     )
-    for what, least in (("the writes and syncs alone", syncs), ("with the clients' time", whole)):
+    for what, least in (("the writes and syncs alone", syncs), ("these and the clients' time", whole)):
         bound = lambda it: CLIENTS * 1e3 / least(it)
         print(f"bound by {what}: {median_of(rounds, bound):,.0f} puts a second, {median_of(rounds, lambda it: bound(it) / it['Redis'][0]):.2f} of Redis's")
     print(f"this gateway: {median_of(rounds, lambda it: it['gateway'][0] / it['Redis'][0]):.2f} of Redis's")

@@ -7,13 +7,16 @@ Defaults: PROGRAM crates/oaut/out/oaut, FOLDER of the files the current one, SEC
 put. It needs redis-server, redis-benchmark, a C compiler, and perf with the right to trace. The ways take turns. Each is measured alone first, and then again
 under `perf trace -s`.
 
-Prints for each way the median of the rounds: puts a second; the time of a commit; and for each call of each process how many there are for a commit, and their
-time for a commit. The time of a call that waits for a peer is mostly that of the peer. The last line is the bound of any gateway: a commit has at most a put of
-each client, and takes at least as long as the server's writes and syncs.
+Prints for each way the medians of the rounds: puts a second, and the time of a commit. Then come the calls of each process: how many there are for a commit, and
+their time. The time of a call that waits for a peer is mostly that of the peer.
+
+The last lines are bounds of any gateway. A commit has at most a put of each client, and takes at least as long as the server's writes and syncs. Between two
+commits the clients read their replies and send their next puts; bench/load.c is one process, of which the processor's time is counted.
 """
 import contextlib
 import os
 import re
+import resource
 import shutil
 import socket
 import statistics
@@ -98,6 +101,11 @@ def traced(pids, seconds):
     return found
 
 
+def processor():
+    """The seconds of a processor that children which have ended took."""
+    return sum(resource.getrusage(resource.RUSAGE_CHILDREN)[:2])
+
+
 def median_of(rounds, fact):
     return statistics.median(map(fact, rounds))
 
@@ -109,7 +117,9 @@ def main():
         for name, way in ways.items():
             with way() as (pids, client):
                 command, rate = client(SECONDS)
+                before = processor()
                 alone = rate(subprocess.run(command, capture_output=True, text=True, check=True).stdout)
+                own = (processor() - before) * 1e3 / (alone * SECONDS)
                 command, rate = client(SECONDS * 4 + 2)
                 with subprocess.Popen(command, stdout=subprocess.PIPE, text=True) as child:
                     calls = traced(pids, SECONDS)
@@ -117,7 +127,7 @@ def main():
             commits = sum(rows.get("fdatasync", (0, 0))[0] for rows in calls.values()) / SYNCS[name]
             # (count and milliseconds of each call, for a commit)
             each = {process: {call: (count / commits, time / commits) for call, (count, time) in rows.items()} for process, rows in calls.items()}
-            rounds[-1][name] = alone, SECONDS * 1e3 / commits, each
+            rounds[-1][name] = alone, SECONDS * 1e3 / commits, each, own
     for name in ways:
         found = [it[name] for it in rounds]
         print(f"{name}: {median_of(found, lambda it: it[0]):,.0f} puts a second; a commit takes {median_of(found, lambda it: it[1]):.3f} ms while it is traced")
@@ -126,12 +136,15 @@ def main():
                 count, time = (median_of(found, lambda it: it[2][process].get(call, (0, 0))[at]) for at in (0, 1))
                 if count >= LEAST:
                     print(f"  {process:8} {call:16} {count:6.2f} for a commit   {time:.4f} ms for a commit")
-    least = lambda it: sum(it["gateway"][2]["server"][call][1] for call in ("pwrite64", "fdatasync"))
-    bound = lambda it: CLIENTS * 1e3 / least(it)
+    syncs = lambda it: sum(it["gateway"][2]["server"][call][1] for call in ("pwrite64", "fdatasync"))
+    whole = lambda it: syncs(it) + CLIENTS * it["gateway"][3]
     print(
-        f"the server's writes and syncs take {median_of(rounds, least):.4f} ms: no gateway has more than {median_of(rounds, bound):,.0f} puts a second, "
-        f"{median_of(rounds, lambda it: bound(it) / it['Redis'][0]):.2f} of Redis's; this one has {median_of(rounds, lambda it: it['gateway'][0] / it['Redis'][0]):.2f}"
+        f"the server's writes and syncs take {median_of(rounds, syncs):.4f} ms for a commit, the clients {median_of(rounds, lambda it: it['gateway'][3]):.4f} ms for a put"
     )
+    for what, least in (("the writes and syncs alone", syncs), ("these and the clients' time", whole)):
+        bound = lambda it: CLIENTS * 1e3 / least(it)
+        print(f"bound by {what}: {median_of(rounds, bound):,.0f} puts a second, {median_of(rounds, lambda it: bound(it) / it['Redis'][0]):.2f} of Redis's")
+    print(f"this gateway: {median_of(rounds, lambda it: it['gateway'][0] / it['Redis'][0]):.2f} of Redis's")
 
 
 if __name__ == "__main__":

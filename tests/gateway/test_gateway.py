@@ -507,7 +507,8 @@ class Bounds(GatewayCases):
                         for _ in range(200):
                             it.send(bytes(20_000))
                 begun = time.monotonic()
-                while time.monotonic() - begun < 3:
+                # (a busy machine may need longer until the first of them is seen)
+                while time.monotonic() - begun < 3 or (not most_buffers[turn] and time.monotonic() - begun < SECONDS):
                     most = max(most, resident() - before)
                     most_buffers[turn] = max(most_buffers[turn], self.gateway.counters()["oaut_gateway_buffer_bytes"])
                     time.sleep(0.05)

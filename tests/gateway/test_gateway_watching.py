@@ -705,6 +705,28 @@ class Watching(Cases):
                 self.tell(f"{object} {guid} {member}", b"refused" in got, got)
         self.ended(gateway)
 
+    def test_keys_beside_one_that_takes_none(self):
+        """The place of one that has all keys is free, and no other place."""
+        line = f"keys object=1 interface={worked.FIRST_ONE} member={worked.CELL}\n".encode()
+        gateway = self.begun()
+        children = f"/proc/{gateway.process.pid}/task/{gateway.process.pid}/children"
+
+        def count():
+            with open(children) as file:
+                return len(file.read().split())
+
+        with gateway.dial() as sock, contextlib.ExitStack() as stack:
+            puts = [worked.put(worked.CELL, worked.text(b"v\0"), more=[worked.text(b"a\0" * (2_000 + it)), worked.scalar(3, 5)]) for it in range(500)]
+            replies(sock, tagged([oaut.ask_create(worked.ITEM), *puts]))
+            for turn in range(2):
+                stack.enter_context(gateway.dial("watch")).sendall(line)
+                Gateway.wait_for(lambda: count() == 2 + turn, "nobody gets keys")
+                if turn == 0:
+                    self.tell("another one gets all", len(gateway.ask(line, "watch", ends=False)) > 1_000_000)
+                    Gateway.wait_for(lambda: count() == 2, "its process is left")
+            self.tell("then there are two that take none", gateway.ask(line, "watch", ends=False) == b'{"busy":2}\n')
+        self.ended(gateway)
+
     def test_keys_one_after_another(self):
         """Whoever has all keys has left its place by then."""
         line = f"keys object=1 interface={worked.FIRST_ONE} member={worked.CELL}\n".encode()

@@ -11,7 +11,7 @@ import sys
 import tempfile
 
 ROOT = os.path.dirname(os.path.dirname(os.path.abspath(__file__)))
-sys.path.append(f"{ROOT}/tests/support")
+sys.path.insert(0, f"{ROOT}/tests/support")  # before this folder, which has a script of that name
 if len(sys.argv) > 1:
     os.environ["OAUT_PROGRAM"] = os.path.abspath(sys.argv[1])
 FOLDER = sys.argv[2] if len(sys.argv) > 2 else "."

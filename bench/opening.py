@@ -15,7 +15,7 @@ import tempfile
 import time
 
 ROOT = os.path.dirname(os.path.dirname(os.path.abspath(__file__)))
-sys.path.append(f"{ROOT}/tests/support")
+sys.path.insert(0, f"{ROOT}/tests/support")  # before this folder, which has a script of that name
 from command_line import words
 
 PROGRAM, GROUPS = words(__doc__, groups=424_000)

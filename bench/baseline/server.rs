@@ -1,5 +1,5 @@
-//! An unproved server of the same protocol, tuned by hand: it creates objects of one coclass, and puts and gets one property of type long. It refuses
-//! all other requests. `bench/baseline.py` compares its instructions with those of `oaut`; it is no part of the program.
+//! An unproved server of the same protocol, tuned by hand. It creates objects of one coclass, and puts and gets a property of type long. As records in memory
+//! it has the requests of `values.rs`, too; it refuses all others. `bench/baseline.py` compares its instructions with those of `oaut`; it is no part of the program.
 //!
 //!     rustc --edition 2021 -C opt-level=3 -C panic=abort -C target-cpu=x86-64-v2 server.rs
 //!     ./server [--hex | --shared] [--store STORE] <requests >replies
@@ -11,7 +11,10 @@ use std::arch::x86_64::*;
 use std::collections::BTreeMap;
 use std::fs::File;
 use std::io::{self, Read, Write};
+use std::os::fd::AsFd;
 use std::os::unix::fs::FileExt;
+
+mod values;
 
 const S_OK: u32 = 0;
 const BAD_STUB: u32 = 0x8007_06F7;
@@ -23,6 +26,7 @@ const UNKNOWN_INTERFACE: u32 = 0x8002_0001;
 const TYPE_MISMATCH: u32 = 0x8002_0005;
 
 const MOST_BYTES: usize = 4_194_304;
+const GONE: u64 = u64::MAX;
 const ROOM: usize = 1 << 16;
 const MOST_FRAME: usize = 1_048_576;
 const ALL_CLIENTS: u32 = u32::MAX;
@@ -77,13 +81,17 @@ impl Reply {
 
     fn value(tag: u32, value: u32) -> Reply {
         let mut reply = Reply::bare(tag, S_OK);
-        reply.bytes[16] = 24;
-        reply.bytes[24] = 3;
-        reply.bytes[32] = I4 as u8;
-        reply.bytes[40] = I4 as u8;
-        reply.bytes[44..48].copy_from_slice(&value.to_le_bytes());
-        reply.len = 48;
+        reply.set_value(value);
         reply
+    }
+
+    fn set_value(&mut self, value: u32) {
+        self.bytes[16] = 24;
+        self.bytes[24] = 3;
+        self.bytes[32] = I4 as u8;
+        self.bytes[40] = I4 as u8;
+        self.bytes[44..48].copy_from_slice(&value.to_le_bytes());
+        self.len = 48;
     }
 }
 
@@ -158,9 +166,10 @@ impl Journal {
     }
 }
 
-/// The values of the property, by the objects' numbers from 1 on.
+/// The values of the long, by the objects' numbers from 1 on; GONE of a released object. What else objects have may be there for the first of them alone.
 struct Server {
-    values: Vec<u32>,
+    values: Vec<u64>,
+    others: Vec<values::More>,
     journal: Option<Journal>,
 }
 
@@ -179,15 +188,15 @@ impl Server {
                 }
                 Reply::number(tag, number)
             }
-            INVOKE if body.len() >= 64 => self.invoke(tag, body),
-            _ => Reply::bare(tag, BAD_STUB),
+            INVOKE if body.len() >= 64 && u32_at(body, 12) == COUNT => self.invoke(tag, body),
+            _ => self.answer_other(tag, body),
         }
     }
 
     fn invoke(&mut self, tag: u32, body: &[u8]) -> Reply {
         let place = (u32_at(body, 8) as usize).wrapping_sub(1);
         let (arguments, named) = (u32_at(body, 56), u32_at(body, 60));
-        let Some(held) = self.values.get_mut(place) else {
+        let Some(held) = self.values.get_mut(place).filter(|it| **it != GONE) else {
             return Reply::bare(tag, DISCONNECTED);
         };
         if !is_zero(body, 16) {
@@ -196,11 +205,8 @@ impl Server {
         if !is_zero(body, 32) {
             return Reply::bare(tag, UNKNOWN_INTERFACE);
         }
-        if u32_at(body, 12) != COUNT {
-            return Reply::bare(tag, MEMBER_NOT_FOUND);
-        }
         match u16_at(body, 52) {
-            GET if arguments == 0 && named == 0 && body.len() == 64 => Reply::value(tag, *held),
+            GET if arguments == 0 && named == 0 && body.len() == 64 => Reply::value(tag, *held as u32),
             PUT if arguments == 1 && named == 1 && body.len() == 104 => {
                 if u32_at(body, 64) != NEW_VALUE || u32_at(body, 72) != 24 {
                     return Reply::bare(tag, BAD_STUB);
@@ -208,9 +214,10 @@ impl Server {
                 if u16_at(body, 88) != I4 || u32_at(body, 96) != I4 as u32 {
                     return Reply::bare(tag, TYPE_MISMATCH);
                 }
-                *held = u32_at(body, 100);
+                let value = u32_at(body, 100);
+                *held = u64::from(value);
                 if let Some(journal) = &mut self.journal {
-                    journal.put(place as u32 + 1, *held);
+                    journal.put(place as u32 + 1, value);
                 }
                 Reply::bare(tag, S_OK)
             }
@@ -306,6 +313,7 @@ enum Framing {
 
 /// The replies that were not written yet, and the count of requests since the last commit.
 struct Out {
+    to: File,
     bytes: Vec<u8>,
     len: usize,
     framing: Framing,
@@ -314,7 +322,7 @@ struct Out {
 
 impl Out {
     fn write(&mut self) -> io::Result<()> {
-        io::stdout().lock().write_all(&self.bytes[..self.len])?;
+        self.to.write_all(&self.bytes[..self.len])?;
         self.len = 0;
         Ok(())
     }
@@ -329,6 +337,9 @@ impl Out {
     }
 
     fn put(&mut self, server: &mut Server, client: u32, reply: &Reply) -> io::Result<()> {
+        if reply.len > 48 {
+            return self.put_long(server, reply);
+        }
         let room = &mut self.bytes[self.len..];
         match self.framing {
             Framing::Lines => {
@@ -477,11 +488,13 @@ struct Input {
 }
 
 impl Input {
-    /// Reads more; false at the end.
-    fn more(&mut self, input: &mut impl Read) -> io::Result<bool> {
-        self.bytes.copy_within(self.from..self.to, 0);
-        (self.from, self.to) = (0, self.to - self.from);
-        let most = (self.to + ROOM).min(self.bytes.len());
+    /// Reads more, where so many bytes are wanted; false at the end.
+    fn more(&mut self, input: &mut impl Read, wanted: usize) -> io::Result<bool> {
+        if self.from > 0 {
+            self.bytes.copy_within(self.from..self.to, 0);
+            (self.from, self.to) = (0, self.to - self.from);
+        }
+        let most = (self.to + ROOM).max(wanted).min(self.bytes.len());
         let count = input.read(&mut self.bytes[self.to..most])?;
         self.to += count;
         Ok(count != 0)
@@ -500,9 +513,10 @@ fn main() -> io::Result<()> {
         }
     }
     assert!(is_x86_feature_detected!("ssse3"), "this server wants SSSE3");
-    let mut server = Server { values: Vec::new(), journal };
+    let mut server = Server { values: Vec::new(), others: Vec::new(), journal };
     // a group's replies have up to 64 bytes each
-    let mut out = Out { bytes: vec![0; ROOM.max(64 * GROUP + 128)], len: 0, framing, pending: 0 };
+    let to = File::from(io::stdout().as_fd().try_clone_to_owned()?);
+    let mut out = Out { to, bytes: vec![0; ROOM.max(64 * GROUP + 128)], len: 0, framing, pending: 0 };
     let mut input = Input { bytes: vec![0; ROOM.max(2 * MOST_BYTES + 2)], from: 0, to: 0 };
     let mut stdin = io::stdin().lock();
     match framing {
@@ -529,7 +543,8 @@ fn serve_one(server: &mut Server, out: &mut Out, input: &mut Input, stdin: &mut 
             if server.journal.is_none() {
                 out.write()?;
             }
-            if !input.more(stdin)? {
+            let wanted = front.first_chunk().map_or(0, |it| 4 + u32::from_le_bytes(*it) as usize);
+            if !input.more(stdin, if hex { 0 } else { wanted })? {
                 return Ok(());
             }
             continue;
@@ -561,7 +576,7 @@ fn serve_frames(server: &mut Server, out: &mut Out, input: &mut Input, stdin: &m
             if server.journal.is_none() {
                 out.write()?;
             }
-            if !input.more(stdin)? {
+            if !input.more(stdin, 0)? {
                 break;
             }
             continue;

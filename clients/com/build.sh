@@ -15,7 +15,7 @@ case ${2:-64} in
 esac
 cc=$machine-gcc
 set --
-for it in values wire connection library calls refusals information objects watch hub classes messages registration; do
+for it in values wire connection library calls refusals information objects watch keys hub classes messages registration; do
     source=${OBJECTS:+$OBJECTS/oautcom.dll-$it.o}
     [ -f "$source" ] || source=$here/$it.c
     set -- "$@" "$source"

@@ -1,5 +1,6 @@
 #include "hub.h"
 #include "information.h"
+#include "keys.h"
 #include "objects.h"
 #include "refusals.h"
 #include "watch.h"
@@ -137,7 +138,8 @@ enum hub_member {
     HUB_OBJECTS,
     HUB_INTERFACE_OF,
     HUB_REMOVE,
-    HUB_WAIT_FOR_CHANGE
+    HUB_WAIT_FOR_CHANGE,
+    HUB_KEYS
 };
 
 static const HubMember MEMBERS[] = {
@@ -179,6 +181,7 @@ static const HubMember MEMBERS[] = {
     [HUB_REMOVE] = {12, L"Remove", 1, 1, FALSE, INVOKE_FUNC, VT_VOID, {{L"object", VT_DISPATCH}}},
     [HUB_WAIT_FOR_CHANGE] =
         {13, L"WaitForChange", 1, 1, TRUE, INVOKE_FUNC, VT_VARIANT, {{L"milliseconds", VT_VARIANT}}},
+    [HUB_KEYS] = {14, L"Keys", 2, 2, FALSE, INVOKE_FUNC, VT_VARIANT, {{L"object", VT_DISPATCH}, {L"name", VT_BSTR}}},
 };
 
 #define MEMBER_COUNT ((int)ARRAYSIZE(MEMBERS))
@@ -195,7 +198,7 @@ typedef struct HubCall {
     const DISPPARAMS *given;
     VARIANT told;
     UINT32 argument;    /* the place of the wrong one in rgvarg, or NO_ARGUMENT */
-    const WCHAR *watch; /* of a wait for a change: its port, and why that was not reached */
+    const WCHAR *watch; /* of what the gateway's --watch is asked: its port, and why that was not reached */
     int cause;
 } HubCall;
 
@@ -779,6 +782,21 @@ static HRESULT release_number(const Target *target)
     return result;
 }
 
+/* The DISPID of the property whose name is the second argument. */
+static HRESULT property_at(HubCall *call, const Target *target, DISPID *id)
+{
+    const WCHAR *text;
+    HRESULT result = text_at(call, 1, &text);
+
+    if (FAILED(result))
+        return result;
+    result = names_to_ids(target->connection, target->generation, target->number, &target->class, &target->iid,
+                          &IID_NULL, LOCALE_NEUTRAL, &text, 1, id);
+    if (result != S_OK)
+        call->argument = result == DISP_E_UNKNOWNNAME ? call->given->cArgs - 2 : NO_ARGUMENT;
+    return result;
+}
+
 /* Redim, Lock, Unlock: the property by its name, then Redim's count and lowest index, then the property's arguments. */
 static HRESULT change_array(HubCall *hub_call, const Target *target)
 {
@@ -796,15 +814,8 @@ static HRESULT change_array(HubCall *hub_call, const Target *target)
 
     if (FAILED(result = text_at(hub_call, 1, &text)) ||
         (is_redim && FAILED(result = number_at(hub_call, 2, 0, MAXDWORD, &count))) ||
-        (is_redim && given->cArgs > 3 && FAILED(result = number_at(hub_call, 3, INT32_MIN, INT32_MAX, &lowest))))
-        return result;
-    result = names_to_ids(connection, target->generation, target->number, &target->class, &target->iid, &IID_NULL,
-                          LOCALE_NEUTRAL, &text, 1, &call.id);
-    if (result != S_OK) {
-        hub_call->argument = result == DISP_E_UNKNOWNNAME ? given->cArgs - 2 : NO_ARGUMENT;
-        return result;
-    }
-    if (FAILED(result = find_types(&call)))
+        (is_redim && given->cArgs > 3 && FAILED(result = number_at(hub_call, 3, INT32_MIN, INT32_MAX, &lowest))) ||
+        (result = property_at(hub_call, target, &call.id)) != S_OK || FAILED(result = find_types(&call)))
         return result;
     to = begin_call(&call, opcodes[hub_call->member], arguments, 0);
     for (i = 0; i < arguments; i++)
@@ -856,6 +867,31 @@ static HRESULT wait_for_any_change(HubCall *call)
     return FAILED(result) ? result : S_OK;
 }
 
+/* The keys of a property. Does not hold the lock while it reads them. */
+static HRESULT keys_of_property(HubCall *call, const Target *target)
+{
+    Connection *connection = target->connection;
+    const Settings *settings = &connection->settings;
+    const Library *library;
+    const Item *type;
+    HRESULT result;
+    GUID guid;
+    DISPID id;
+
+    if ((result = property_at(call, target, &id)) != S_OK || FAILED(result = library_of(connection, &library)))
+        return result;
+    if (!(type = find_interface(library, &target->class, &target->iid)))
+        return E_NOINTERFACE;
+    guid = type->guid;
+    call->watch = settings->watch;
+    if (!*settings->watch)
+        return OAUT_E_NOT_REACHED;
+    connection_leave(connection, S_OK);
+    result = list_keys(settings, target->number, &guid, id, target->for_scripts, &call->told, &call->cause);
+    connection_enter(connection);
+    return result;
+}
+
 static HRESULT perform(HubCall *call)
 {
     const Target *target = NULL;
@@ -880,6 +916,7 @@ static HRESULT perform(HubCall *call)
     case HUB_NUMBER_OF: tell_number(&call->told, target->number); return S_OK;
     case HUB_CLASS_OF: return name_of_class(call, target);
     case HUB_INTERFACE_OF: return object_as(call, target);
+    case HUB_KEYS: return keys_of_property(call, target);
     case HUB_RELEASE:
     case HUB_REMOVE: return release_number(target);
     default: return change_array(call, target);

@@ -105,7 +105,7 @@ static HRESULT have_bytes(Watch *watch, ULONGLONG until)
     return OAUT_E_NOT_REACHED;
 }
 
-static HRESULT tells_no_changes(Watch *watch)
+HRESULT sends_no_changes(Watch *watch)
 {
     watch->cause = WSAEPROTONOSUPPORT;
     return OAUT_E_NOT_REACHED;
@@ -129,6 +129,33 @@ static HRESULT have_line(Watch *watch, ULONGLONG until)
     return result;
 }
 
+HRESULT read_line(Watch *watch, ULONGLONG until, char **line, size_t *room, size_t *length)
+{
+    HRESULT result;
+    char *more;
+
+    *length = 0;
+    while ((result = have_bytes(watch, until)) == S_OK) {
+        if (*length + 1 >= *room) {
+            if (!(more = realloc(*line, 2 * *room + RECEIVED)))
+                return E_OUTOFMEMORY;
+            *line = more;
+            *room = 2 * *room + RECEIVED;
+        }
+        if (((*line)[*length] = watch->bytes[watch->at++]) == '\n') {
+            (*line)[*length] = 0;
+            return S_OK;
+        }
+        ++*length;
+    }
+    return result;
+}
+
+int cause_of(const Watch *watch)
+{
+    return watch->cause;
+}
+
 static BOOL begins_with(const Watch *watch, const char *signs)
 {
     return !strncmp(watch->line, signs, strlen(signs));
@@ -144,11 +171,11 @@ static HRESULT object_of_line(Watch *watch, INT64 *object)
     if (begins_with(watch, "{\"gap\":") || begins_with(watch, "{\"restart\":"))
         return S_OK;
     if (!begins_with(watch, "{\"seq\":"))
-        return tells_no_changes(watch);
+        return sends_no_changes(watch);
     if (at)
         for (*object = 0, at += strlen(name); *at >= '0' && *at <= '9' && *object <= MAXDWORD; at++)
             *object = 10 * *object + (*at - '0');
-    return *object && *object <= MAXDWORD ? S_OK : tells_no_changes(watch);
+    return *object && *object <= MAXDWORD ? S_OK : sends_no_changes(watch);
 }
 
 /* The next change. Changes of the same object that have arrived after it are skipped. */
@@ -220,6 +247,16 @@ static HRESULT have_connection(Watch *watch, ULONGLONG until)
     return OAUT_E_NOT_REACHED;
 }
 
+static HRESULT send_line(Watch *watch, const char *line)
+{
+    int length = (int)strlen(line);
+
+    if (send(watch->socket, line, length, 0) == length)
+        return S_OK;
+    watch->cause = WSAGetLastError();
+    return OAUT_E_NOT_REACHED;
+}
+
 static HRESULT ask(Watch *watch, REFGUID coclass)
 {
     char line[80] = "watch class=";
@@ -231,11 +268,18 @@ static HRESULT ask(Watch *watch, REFGUID coclass)
     else
         for (i = 0, StringFromGUID2(coclass, guid, 40); guid[i]; i++)
             line[length++] = (char)guid[i];
-    line[length++] = '\n';
-    if (send(watch->socket, line, (int)length, 0) == (int)length)
-        return S_OK;
-    watch->cause = WSAGetLastError();
-    return OAUT_E_NOT_REACHED;
+    line[length] = '\n';
+    return send_line(watch, line);
+}
+
+HRESULT ask_gateway(Watch *watch, const Settings *settings, const char *line, ULONGLONG until)
+{
+    HRESULT result;
+
+    if (!find_addresses(settings, settings->watch, &watch->addresses, &watch->cause) || FAILED(dial_next(watch)))
+        return OAUT_E_NOT_REACHED;
+    result = have_connection(watch, until);
+    return result == S_OK ? send_line(watch, line) : result;
 }
 
 /* Begins, or goes on with it. S_FALSE if that takes longer. */
@@ -259,7 +303,7 @@ static HRESULT begin(Watch *watch, const Settings *settings, REFGUID coclass, UL
     }
     if (watch->state == ASKS && (result = have_line(watch, until)) == S_OK) {
         if (!begins_with(watch, "{\"epoch\":"))
-            return tells_no_changes(watch);
+            return sends_no_changes(watch);
         watch->state = BEGUN;
     }
     if (result == S_FALSE && GetTickCount64() >= watch->deadline) {

@@ -19,4 +19,14 @@ void free_watch(Watch *watch);
 HRESULT wait_for_change(Watch *watch, const Settings *settings, REFGUID coclass, DWORD milliseconds, INT64 *object,
                         int *cause);
 
+/* For what else the gateway sends there. Connects and sends a line; S_FALSE if the time is up. */
+HRESULT ask_gateway(Watch *watch, const Settings *settings, const char *line, ULONGLONG until);
+/* Reads the next line, whole, without its end; a NUL follows it. `*line` has `*room` bytes and grows; the caller frees it.
+   S_FALSE if the time is up. */
+HRESULT read_line(Watch *watch, ULONGLONG until, char **line, size_t *room, size_t *length);
+/* What listens there is no gateway. */
+HRESULT sends_no_changes(Watch *watch);
+/* Why the last of these has failed, as Connection has it. */
+int cause_of(const Watch *watch);
+
 #endif

@@ -299,7 +299,11 @@ def lock(server, item, number):
         held.put_if_equal("Count", int(item.Count), number)
 
 
-def steps_of_locking(program, library, every, first):
+def update(server, item, number):
+    item.update("Count", lambda count: number, lock=item.Grid, timeout=60)
+
+
+def steps_of_locking(program, library, act, every, first):
     """Interrupts a block with the lock of an array: nobody has a lock after it."""
     found, at, steps = [], first, 0
     with oaut.play(library, program=program) as server:
@@ -308,7 +312,7 @@ def steps_of_locking(program, library, every, first):
         item.Grid.locked(60).__enter__().leave()
         while True:
             stepping = Stepping(at)
-            interrupted = stepping.run(lambda: lock(server, item, at))
+            interrupted = stepping.run(lambda: act(server, item, at))
             count = item.Grid.lock()
             if count != 1 or item.Grid.unlock() != 0:
                 found.append(f"{at}, {stepping.place}: {count} locks")
@@ -358,8 +362,8 @@ def main():
         steps, found = steps_of_close(program, library, *how)
     elif name == "serve":
         steps, found = steps_of_beginning(program, library, *how)
-    elif name == "lock":
-        steps, found = steps_of_locking(program, library, *how)
+    elif name in ("lock", "update"):
+        steps, found = steps_of_locking(program, library, {"lock": lock, "update": update}[name], *how)
     elif name == "leave":
         steps, found = steps_of_leaving(program, library, *how)
     elif name == "end":

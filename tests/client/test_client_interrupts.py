@@ -11,7 +11,7 @@ from clients import ENVIRONMENT, FULL, PROGRAM, ROOT, ClientCases, oaut
 from stepped import CALLS, Stepping, goes_on
 
 STEPPED = f"{ROOT}/tests/client/stepped.py"
-OTHERS = ("put", "batch", "small batches", "atomic", "put of a long text", "stacked", "close", "lock", "frames: put", "frames: batch", "end")
+OTHERS = ("put", "batch", "small batches", "atomic", "put of a long text", "stacked", "close", "lock", "update", "frames: put", "frames: batch", "end")
 
 
 def pythons():
@@ -50,6 +50,7 @@ class Interrupts(ClientCases):
     def test_each_step_of_a_block_with_a_lock(self):
         """Nobody has the lock afterwards."""
         self.stepped("lock", 5)
+        self.stepped("update", 3)
 
     def test_steps_of_beginning(self):
         self.stepped("serve", 197)

@@ -1,11 +1,19 @@
 """`list(item.Cell)` and `len(item.Cell)`: the keys that a property with parameters has, from the store's file."""
+import asyncio
 import tempfile
 import unittest
 
 import worked
 from clients import FULL, PROGRAM, ClientCases, oaut
 from gateways import SECONDS, Gateway
+from oaut import aio
 from preloaded import COMPILER
+
+
+async def keys_in_aio(gateway, **how):
+    """The keys of object 1."""
+    async with aio.connect(f"{gateway.room}/listen", timeout=SECONDS, **how) as server:
+        return await server.object(1, "Item").keys("Cell")
 
 
 class Keys(ClientCases):
@@ -30,6 +38,19 @@ class Keys(ClientCases):
             item.Cell[9, "new"] = "x"
             self.tell("one that has just come", (9, "new", 1) in item.Cell)
 
+    def test_in_aio(self):
+        async def act(path):
+            async with aio.open(path, FULL, program=PROGRAM) as server:
+                item = await server.create("Item")
+                none = await item.keys("Cell")
+                await asyncio.gather(*(item.put("Cell", "x", *it) for it in ((5, "b"), (-1, "a"), (5, "a", 2))))
+                with self.assertRaises(AttributeError):
+                    await item.keys("Cuont")
+                return none, await item.keys("cell")
+
+        with tempfile.TemporaryDirectory() as room:
+            self.tell("in order", asyncio.run(act(f"{room}/it.store")) == ([], [(-1, "a", 1), (5, "a", 2), (5, "b", 1)]))
+
     def test_without_a_file(self):
         with oaut.play(FULL, PROGRAM) as server, self.assertRaises(oaut.Error) as caught:
             len(server.create("Item").Cell)
@@ -45,8 +66,11 @@ class Keys(ClientCases):
                     if it % 20 == 0:
                         self.tell(f"behind {it + 1} puts", len(item.Cell) == it + 1)
                 self.tell("all", list(item.Cell) == [(it, "k", 1) for it in range(200)])
+            self.tell("in aio", asyncio.run(keys_in_aio(gateway, store=gateway.store)) == [(it, "k", 1) for it in range(200)])
             with oaut.connect(f"{gateway.room}/listen", timeout=SECONDS) as server, self.assertRaises(oaut.Error):
                 list(server.object(1, "Item").Cell)
+            with self.assertRaises(oaut.Error):
+                asyncio.run(keys_in_aio(gateway))
 
     @unittest.skipUnless(COMPILER, "cc is not there")
     def test_from_the_gateway(self):
@@ -59,6 +83,7 @@ class Keys(ClientCases):
                     item.Cell[place, name] = "x"
                 due = [(-1, "a", 1), (5, "a", 1), (5, "b", 1), (7, "é", 1)]
                 self.tell("each once, in order, as it is stored", list(item.Cell) == due, list(item.Cell))
+                self.tell("in aio", asyncio.run(keys_in_aio(gateway, watch=f"{gateway.room}/watch")) == due)
                 with open(f"{gateway.room}/wider.idl", "wb") as file:
                     file.write(worked.WIDER)
                 server.replace_library(file.name)

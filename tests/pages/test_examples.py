@@ -329,7 +329,7 @@ class Python(Cases):
             self.tell("both are put", (item.Count, item.Cell[5, "k"]) == (7, "x"))
 
     def test_asyncio(self):
-        self.printed(block(GUIDE, "import asyncio"), "7 Array(I2, [(0, 0)], [])\n7\n")
+        self.printed(block(GUIDE, "import asyncio"), "7 Array(I2, [(0, 0)], [])\n7\n[8, 9]\n")
 
     @left_out("mypy")
     def test_type_checkers(self):
@@ -345,16 +345,16 @@ class Python(Cases):
             self.tell("what is refused", status != 0 and said.endswith("DISP_E_TYPEMISMATCH (0x80020005), argument 0 (the new value)\n"), said)
 
     def test_locks(self):
-        locked, puts = block(GUIDE, "with item.Grid.locked() as lock"), block(GUIDE, "while not item.compare_and_put")
+        locked, puts = block(GUIDE, "with item.Grid.locked() as lock"), block(GUIDE, 'item.update("Count"')
         with oaut.play(f"{ROOT}/examples/full.idl", program=PROGRAM) as server:
             item = server.create("Item")
             item.Grid, item.Name = [1, 2], "old"
             self.within(locked, item=item)
             self.tell("put under a lock", (item.Count, item.Name) == (1, "new"))
             self.within(puts, item=item)
-            self.tell("compare and put", item.Count == 2)
+            self.tell("an update, and compare and put", item.Count == 3)
             self.within(block(GATEWAY, "with item.Grid.locked():"), item=item)
-            self.tell("the gateway's page", item.Count == 3)
+            self.tell("the gateway's page", item.Count == 4)
 
     def test_talk(self):
         lines = block(GUIDE, "> create Item").splitlines()

@@ -16,6 +16,7 @@ import contextlib
 import errno
 import functools
 import io
+import itertools
 import os
 import socket
 import tempfile
@@ -74,6 +75,7 @@ from .records import (
     read_objects,
 )
 from .session import BATCH, ending
+from .updating_aio import KEEP, Update, Updates
 from .values import ARRAY, Array, Bounds, Value, plain
 from .watching import Told, watched_at
 from .watching_aio import Watch
@@ -127,10 +129,59 @@ class Object:
         member = objects.member_of(self._object, name)
         await objects.put_of(self._object, member, value, positional, named)
 
+    async def keys(self, name: str) -> list[tuple[Value, ...]]:
+        """The arguments of all values of a property that were put, in the store's order, as
+        `oaut.Property.keys`. A thread reads them."""
+        from .keys import keys_from
+
+        server, of = self._server, objects.member_of(self._object, name)
+        place = self.number, of.interface.guid.bytes_le, of.dispid
+        return await asyncio.to_thread(keys_from, server.store, server._watch_at, *place)
+
     async def call(self, name: str, /, *positional: object, **named: object) -> Value:
         """Calls a method, which raises NotImplementedHere."""
         member = objects.member_of(self._object, name)
         return await objects.call_of(self._object, member, positional, named)
+
+    async def compare_and_put(
+        self,
+        name: str,
+        old: object,
+        new: object,
+        /,
+        *positional: object,
+        lock: ArrayProperty,
+        timeout: float | None = None,
+    ) -> bool:
+        """Puts a property if it has the value `old`, and returns whether it did, with the lock of
+        `lock=item.array("Grid")`, as `oaut.Object.compare_and_put`."""
+
+        def step(value: Value) -> tuple[object, object]:
+            return (new, True) if value == old else (KEEP, False)
+
+        place = self._object, objects.member_of(self._object, name), positional
+        return bool(await self._server.update(Update(place, step), lock, timeout))
+
+    async def update(
+        self,
+        name: str,
+        step: typing.Callable[[Value], Value],
+        /,
+        *positional: object,
+        lock: ArrayProperty,
+        timeout: float | None = None,
+    ) -> Value:
+        """Puts what `step` returns for a property's value, and returns that too, with the lock of
+        `lock=item.array("Grid")`, as `oaut.Object.update`. Updates of many tasks that wait for the
+        same lock are made one after another while it is held once, and their last value is put.
+        So a step may be called again; it does not wait, and changes nothing itself."""
+
+        def stepped(value: Value) -> tuple[object, object]:
+            new = step(value)
+            return new, new
+
+        place = self._object, objects.member_of(self._object, name), positional
+        return await self._server.update(Update(place, stepped), lock, timeout)
 
     def array(self, name: str, /, *positional: object, **named: object) -> ArrayProperty:
         """The array in a property."""
@@ -259,17 +310,25 @@ class ArrayProperty(objects.ArrayCalls):
 class Locked:
     """The only lock of an array: `async with item.array("Grid").locked()`."""
 
-    def __init__(self, array: ArrayProperty, timeout: float | None) -> None:
-        self._array, self._timeout = array, timeout
+    def __init__(
+        self, array: ArrayProperty, timeout: float | None, place: objects.Place | None = None
+    ) -> None:
+        self._array, self._timeout, self._place = array, timeout, place
+        self._server = typing.cast(Server, array._object._server)
+        self._found: Later | None = None
+        self._is_there = False
+        # whether nothing was put
+        self.may_repeat = True
 
     async def __aenter__(self) -> Locked:
-        if typing.cast(Server, self._array._object._server).batch_of_task() is not None:
+        if self._server.batch_of_task() is not None:
             raise WrongUse("a lock is waited for outside a batch")
         loop = asyncio.get_running_loop()
         until = None if self._timeout is None else loop.time() + self._timeout
-        while True:
+        for turn in itertools.count():
+            begun = loop.time()
             # (a task that is cancelled has to know whether it got one)
-            asked = asyncio.ensure_future(self._array.lock())
+            asked = asyncio.ensure_future(self._asked())
             try:
                 count = await asyncio.shield(asked)
             except asyncio.CancelledError:
@@ -279,13 +338,43 @@ class Locked:
                 with contextlib.suppress(Error):
                     await asyncio.shield(undoing)
                 raise
+            self._is_there = True
             if count == 1:
                 return self
             await self.__aexit__()
-            if until is not None and loop.time() >= until:
+            now = loop.time()
+            if until is not None and now >= until:
                 told = f"{self._array!r} is locked by others for {self._timeout:g} seconds"
                 raise NotInTime(told)
-            await asyncio.sleep(0.002)
+            await asyncio.sleep(objects.pause_after(turn, now - begun, until and until - now))
+        raise AssertionError
+
+    async def _asked(self) -> int:
+        """Adds a lock, and reads the property in the same step. Returns the count of locks."""
+        if self._place is None:
+            return await self._array.lock()
+        with contextlib.suppress(Refused):
+            async with self._server.batch():
+                count = await self._array.ask_lock()
+                self._found = await objects.get_of(*self._place)
+        return typing.cast(int, count.value)
+
+    @property
+    def value(self) -> Value:
+        """The value that the property had when the lock was there."""
+        return typing.cast(Later, self._found).value
+
+    async def put_last(self, value: object) -> None:
+        """Puts the property, and gives the lock back, in one step."""
+        item, member, positional = typing.cast(objects.Place, self._place)
+        batch = self._server.batch()
+        try:
+            async with batch:
+                await objects.put_of(item, member, value, positional)
+                await self._array.ask_unlock()
+                self._is_there = False
+        finally:
+            self.may_repeat = self._is_there or [place for place, _ in batch.failures][:1] == [0]
 
     async def _undo(self, asked: asyncio.Future[int]) -> None:
         """Gives a requested lock back as soon as it has arrived."""
@@ -293,6 +382,9 @@ class Locked:
         await self._array.unlock()
 
     async def __aexit__(self, *_: object) -> None:
+        if not self._is_there:
+            return
+        self._is_there = False
         asked = asyncio.ensure_future(self._array.unlock())
         # (if it is refused, the session has ended, or the array is gone: its locks are too)
         with contextlib.suppress(Error):
@@ -511,8 +603,9 @@ class Server:
         explain: typing.Callable[[Error, bytes, str], Exception] | None = None,
         dial: typing.Callable[[], typing.Awaitable[_Link]] | None = None,
         watch_at: Address | None = None,
+        store: Path | None = None,
     ) -> None:
-        self._watch_at = watch_at
+        self._watch_at, self.store = watch_at, store
         self._link, self._child, self._dial = link, link.child, dial
         self._framing, self._group, self._ends = FRAMINGS[framing], group, ends
         self._timeout, self._errors = timeout, errors
@@ -532,6 +625,8 @@ class Server:
         # how many locks of arrays the connection may have, which go with it
         self._locks = 0
         self._batches: dict[asyncio.Task[object] | None, Batch] = {}
+        # the updates that wait for a lock, by the array
+        self._updates: dict[bytes, Updates] = {}
         self._end: Error | None = None
         self._fault: Error | None = None
         self._process = os.getpid()
@@ -549,6 +644,7 @@ class Server:
         sends nothing."""
         self._end, self._forked = forks.in_use(self._process), True
         self._batches.clear()
+        self._updates.clear()
         self._link.forked()
         forks.close(self._errors)
 
@@ -685,6 +781,23 @@ class Server:
         """Commits the requests of a task as one group, completely or not at all, like
         `oaut.Server.atomic`."""
         return Batch(self, GROUP, GroupRoom(self._group))
+
+    async def update(self, update: Update, lock: ArrayProperty, timeout: float | None) -> Value:
+        """Makes an update under a lock, with those that wait for the same lock."""
+        if self.batch_of_task() is not None:
+            raise WrongUse("a lock is waited for outside a batch")
+        if lock._object._server is not self:
+            raise WrongUse(f"{lock!r} is locked by another session")
+        place = objects.place_bytes(lock._object, lock._member, lock._positional, lock._named)
+        updates = self._updates.get(place)
+        if updates is None:
+            made = functools.partial(Locked, lock, None)
+            updates = self._updates[place] = Updates(made)
+        try:
+            return await updates.make(update, timeout)
+        finally:
+            if updates.is_idle and self._updates.get(place) is updates:
+                del self._updates[place]
 
     def begin(self, batch: Batch | None) -> None:
         """Begins a batch of this task, or ends it."""
@@ -1091,7 +1204,7 @@ def serve(
                     text = await asyncio.to_thread(programs.library_of, store)
                     name = stack.enter_context(text_file(text))
                 words = ["serve", os.fspath(store), os.fspath(name), "--group", str(count)]
-                how = words, program, framing, count, count != 1, timeout, name
+                how = words, program, framing, count, count != 1, timeout, name, store
                 try:
                     return await _start(*how)
                 except LibraryDiffers:
@@ -1134,13 +1247,14 @@ def connect(
     timeout: float | None = None,
     patience: float = 0,
     watch: Address | None = None,
+    store: Path | None = None,
 ) -> Opening:
     """A session over an address (a URL, the path of a socket, `("host", 8765)` or
     `"host:8765"`), or over a socket, which the session then owns. `timeout` bounds the
     connecting too. If the server closes an idle connection to an address, the next request
     reconnects. With `patience`, a number of seconds, both the first connection and a new one are
     retried for that long if no server is running. `watch` is the address of the gateway's
-    `--watch`."""
+    `--watch`, `store` the path of the store's file, for `keys`."""
 
     async def begin() -> Server:
         check_timeout(timeout)
@@ -1154,7 +1268,7 @@ def connect(
             link = await again()
         name = f"connected to {address}"
         ends = group != 1
-        server = Server(link, framing, group, ends, timeout, None, name, None, again, at)
+        server = Server(link, framing, group, ends, timeout, None, name, None, again, at, store)
         await _described(server)
         return server
 
@@ -1268,6 +1382,7 @@ async def _start(
     ends: bool,
     timeout: float | None,
     library: Path,
+    store: Path | None = None,
 ) -> Server:
     check_timeout(timeout)
     loop, errors = asyncio.get_running_loop(), tempfile.TemporaryFile()
@@ -1292,7 +1407,7 @@ async def _start(
         raise
     explain = programs.explaining(program)
     name = " ".join(words[:2])
-    server = Server(link, framing, group, ends, timeout, errors, name, explain)
+    server = Server(link, framing, group, ends, timeout, errors, name, explain, store=store)
     try:
         await _described(server)
     except SessionEnded as end:

@@ -11,7 +11,7 @@ import uuid
 from . import contents
 from . import store as stores
 from .addresses import Address
-from .faults import ProtocolError, SessionEnded
+from .faults import ProtocolError, SessionEnded, WrongUse
 from .files import opened
 from .paths import Path
 from .programs import dialled
@@ -20,6 +20,20 @@ from .watching import object_of, refuse_tls
 
 # seconds: how long the gateway is asked again if it is busy, and after what
 PATIENCE, AGAIN = 30, 0.05
+
+
+def keys_from(
+    path: Path | None, watch: Address | None, number: int, interface: bytes, dispid: int
+) -> list[tuple[Value, ...]]:
+    """The arguments of all values of a property that were put, in the store's order: from the
+    store's file, or else from the socket of a gateway's `--watch`."""
+    if path is not None:
+        return keys_of(path, number, interface, dispid)
+    if watch is not None:
+        with contextlib.suppress(FileNotFoundError):
+            return keys_at(watch, number, interface, dispid)
+    told = "connect(.., store=PATH), or connect(.., watch=ADDRESS) of a gateway"
+    raise WrongUse(f"keys are read from the store's file: {told}")
 
 
 def scalar_value(it: stores.Scalar) -> Value:

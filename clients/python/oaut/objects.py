@@ -3,6 +3,7 @@ from __future__ import annotations
 
 import contextlib
 import functools
+import itertools
 import random
 import struct
 import time
@@ -183,12 +184,30 @@ class BaseObject:
         """Puts a property if it has the value `old`, and returns whether it did. During the call
         it holds the lock of an array, as `lock=item.Grid`. Clients that use the same lock never
         overwrite each other's puts; others may. Raises TimeoutError after this many seconds."""
-        with lock.locked(timeout):
-            member = member_of(self, name)
-            if get_of(self, member, positional) != old:
+        member = member_of(self, name)
+        with Locked(lock, timeout, (self, member, positional)) as held:
+            if held.value != old:
                 return False
-            put_of(self, member, new, positional)
+            held.put_last(new)
             return True
+
+    def update(
+        self,
+        name: str,
+        step: typing.Callable[[Value], Value],
+        /,
+        *positional: object,
+        lock: ArrayProperty,
+        timeout: float | None = None,
+    ) -> Value:
+        """Puts what `step` returns for a property's value, and returns that too, as in
+        `item.update("Count", lambda count: count + 1, lock=item.Grid)`. It holds the lock
+        meanwhile, like `compare_and_put`. If `step` raises, nothing is put."""
+        member = member_of(self, name)
+        with Locked(lock, timeout, (self, member, positional)) as held:
+            new = step(held.value)
+            held.put_last(new)
+            return new
 
     def array(self, name: str, /, *positional: object, **named: object) -> ArrayProperty:
         """The array in a property, also of one that is declared as VARIANT."""
@@ -476,6 +495,15 @@ def get_of(
     return item._server.ask(head + fields, member.read, told, act)
 
 
+def place_bytes(
+    item: BaseObject, member: Member, positional: Positional = (), named: Named = _NONE
+) -> bytes:
+    """The bytes that say which value a get returns: equal ones are of the same value."""
+    act = (_called, "get", item, member, positional, named)
+    fields, _ = _bound(act, member, positional, named)
+    return struct.pack("<Ii", item._number, member.dispid) + item._guid + fields
+
+
 def put_of(
     item: BaseObject,
     member: Member,
@@ -639,18 +667,11 @@ class Property:
         know it: `oaut.open`, `oaut.serve`, or `connect(.., store=PATH)`; or the gateway's socket of
         `--watch`, as `connect(.., watch=ADDRESS)`. Each call reads all of the file that is in
         use."""
-        from .keys import keys_at, keys_of
+        from .keys import keys_from
 
         server, of = self._object._server, self._member
         path, watch = getattr(server, "store", None), getattr(server, "_watch_at", None)
-        place = self._object.number, of.interface.guid.bytes_le, of.dispid
-        if path is not None:
-            return keys_of(path, *place)
-        if watch is not None:
-            with contextlib.suppress(FileNotFoundError):
-                return keys_at(watch, *place)
-        told = "connect(.., store=PATH), or connect(.., watch=ADDRESS) of a gateway"
-        raise WrongUse(f"keys are read from the store's file: {told}")
+        return keys_from(path, watch, self._object.number, of.interface.guid.bytes_le, of.dispid)
 
     def __iter__(self) -> typing.Iterator[Value]:
         for key in self.keys():
@@ -775,16 +796,32 @@ class _GivingBack:
         return leaving
 
 
-# the interval between two attempts to lock, in seconds
-_LEAST_PAUSE, _MOST_PAUSE = 0.001, 0.01
+# seconds: the least that an attempt to lock is taken for, and about the longest pause after one
+_ATTEMPT, _LONGEST_PAUSE = 0.0005, 1.0
+# a property of an object, and its arguments
+Place = tuple[BaseObject, Member, Positional]
+
+
+def pause_after(turn: int, took: float, left: float | None = None) -> float:
+    """The seconds to wait after an attempt to lock that took so many, if so many are left. Attempts
+    are counted from 0. Since each one keeps others from the lock, pauses soon get longer: up to
+    many times an attempt."""
+    most = min(max(took, _ATTEMPT) * 2 ** (min(turn, 22) / 2 + 1), max(_LONGEST_PAUSE, 32 * took))
+    pause = random.uniform(0, most)
+    return pause if left is None else min(pause, left)
 
 
 class Locked:
     """The only lock of an array: `with item.Grid.locked() as lock`."""
 
-    def __init__(self, array: ArrayProperty, timeout: float | None) -> None:
-        self._array, self._timeout = array, timeout
+    def __init__(
+        self, array: ArrayProperty, timeout: float | None, place: Place | None = None
+    ) -> None:
+        self._array, self._timeout, self._place = array, timeout, place
         self._server = typing.cast(Session, array._object._server)
+        if place is not None and place[0]._server is not self._server:
+            raise WrongUse(f"{array!r} is locked by another session than that of {place[0]!r}")
+        self._found: Later | None = None
         # how many locks it has, the tag of a request that changes that, and by how much
         self._state: tuple[int, int | None, int] = (0, None, 0)
         self.block: object = None
@@ -795,17 +832,17 @@ class Locked:
             raise WrongUse("a lock is waited for outside a batch")
         until = None if self._timeout is None else time.monotonic() + self._timeout
         try:
-            while True:
-                self._state = (0, self._server.next_tag, 1)
-                count = self._array.lock()
-                self._state = (1, None, 0)
-                if count == 1:
+            for turn in itertools.count():
+                begun = time.monotonic()
+                if self._lock() == 1:
                     return self
                 self._give_back()
-                if until is not None and time.monotonic() >= until:
+                now = time.monotonic()
+                if until is not None and now >= until:
                     told = f"{self._array!r} is locked by others for {self._timeout:g} seconds"
                     raise NotInTime(told)
-                time.sleep(random.uniform(_LEAST_PAUSE, _MOST_PAUSE))
+                time.sleep(pause_after(turn, now - begun, until and until - now))
+            raise AssertionError
         except BaseException:
             self._give_back()
             raise
@@ -817,6 +854,38 @@ class Locked:
 
     else:
         __exit__ = _GivingBack()
+
+    def _lock(self) -> int:
+        """Adds a lock, and reads the property in the same step. Returns the count of locks."""
+        if self._place is None:
+            self._state = (0, self._server.next_tag, 1)
+            locks = self._array.lock()
+            self._state = (1, None, 0)
+            return locks
+        # (after an interrupt the lock is given back, whether it is there or not)
+        self._state = (1, None, 0)
+        with contextlib.suppress(Refused), self._server.batch():
+            count = self._array.ask_lock()
+            self._found = get_of(*self._place)
+        return typing.cast(int, count.value)
+
+    @property
+    def value(self) -> Value:
+        """The value that the property had when the lock was there."""
+        return typing.cast(Later, self._found).value
+
+    def put_last(self, value: object) -> None:
+        """Puts that property, and gives the lock back, in one step."""
+        item, member, positional = typing.cast(Place, self._place)
+        self._state = (1, self._server.next_tag + 1 & 0xFFFF_FFFF, -1)
+        unlocked: Later | None = None
+        try:
+            with self._server.batch():
+                put_of(item, member, value, positional)
+                unlocked = self._array.ask_unlock()
+        finally:
+            if unlocked is not None and unlocked.is_sent:
+                self._state = (0, None, 0)
 
     def leave(self, *_: object) -> None:
         """Gives the lock back."""

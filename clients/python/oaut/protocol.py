@@ -174,6 +174,9 @@ class Session(Asker, typing.Protocol):
     def next_tag(self) -> int:
         """The tag of the request that is sent next."""
 
+    def batch(self) -> typing.ContextManager[object]:
+        """Requests that are sent together."""
+
     def was_done(self, tag: int) -> bool:
         """After an interrupt, whether the request with this tag was executed, and not refused."""
 

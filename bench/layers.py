@@ -1,5 +1,5 @@
 #!/usr/bin/env python3
-"""Where the instructions of a put or a get of a long go, by the crates of the program and by its functions.
+"""The instructions of a put or a get of a long, by the crates of the program and by its functions.
 
     python3 bench/layers.py [PROGRAM]      Default of PROGRAM: crates/oaut/out/oaut, which has symbols
 

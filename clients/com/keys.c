@@ -155,7 +155,7 @@ static HRESULT read_keys(Watch *watch, ULONGLONG until, UINT32 count, int how, C
     return result;
 }
 
-/* Asks once. S_FALSE if the time is up, or if the gateway is busy, which `is_busy` tells. */
+/* Asks once. S_FALSE if the time is up, or if the gateway is busy (`is_busy`). */
 static HRESULT ask_for_keys(const Settings *settings, const char *line, ULONGLONG until, int how, Cells *keys,
                             BOOL *is_busy, int *cause)
 {

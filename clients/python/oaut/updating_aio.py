@@ -176,8 +176,8 @@ def _end(update: Update, fault: BaseException) -> None:
 
 
 def _as_got(new: object, value: Value, vt: int) -> Value:
-    """What a get returns after a put of `new` in the place of `value`, or KEEP if that is not
-    known. `vt` is the declared type."""
+    """The value that a get returns after a put of `new` in the place of `value`, or KEEP if that is
+    not known. `vt` is the declared type."""
     of = type(value)
     if type(new) is of and (of in (str, bool, Currency) or isinstance(new, Integer)):
         return new

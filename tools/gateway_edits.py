@@ -141,7 +141,7 @@ EDITS = (
         "    if (!is_up || in_flight) return;\n    if (tracker",
         "    if (!is_up || (in_flight && !holder)) return;\n    if (tracker",
     ),
-    ("sends-while-held", "turns.c", "{is_up, in_flight, holder, ends_wait,", "{is_up, in_flight, false, ends_wait,"),
+    ("sends-while-held", "turns.c", "{is_up, in_flight, holder, ends,", "{is_up, in_flight, false, ends,"),
     ("deadline-never", "server.c", "if (until_batch(now) != 0) return;", "if (until_batch(now) < 0) return;"),
     ("restart-in-drain", "server.c", "    if (draining > 0) return;\n    if (counts.starts", "    if (counts.starts"),
     ("end-hangs", "server.c", "    if (in_flight || shutdown(server_fd, SHUT_WR)) close(server_fd);\n", "    shutdown(server_fd, SHUT_WR);\n"),

@@ -235,4 +235,11 @@ EDITS = (
     ("pause-spun-out", "watching.c", "    if (pause > 0 && now + pause > due) return now + pause;\n", ""),
     ("pause-slept-over", "watching.c", "if (pause > 0 && now + pause > due) return now + pause;", "if (now + pause > due) return now + 1;"),
     ("pause-before-lines-only", "watching.c", "    if (is_between_batches()) return;\n    tell_changes(false);\n", "    tell_changes(false);\n"),
+    (
+        "name-not-looked-at-again",
+        "files.c",
+        "    if (!fstatat(folder, aside, &there, AT_SYMLINK_NOFOLLOW) && S_ISSOCK(there.st_mode) && is_same_file(&there, known))\n        return",
+        "    if (base)\n        return",
+    ),
+    ("name-not-given-back", "files.c", "if (rename_to_free_name(folder, aside, base)) say", "if (!base) say"),
 )

@@ -186,13 +186,12 @@ class Locks(ClientCases):
         """Those of one value do not change another one's, however its arguments are written."""
 
         async def act(server, item):
-            keys = [(5, "k"), ("5", "k"), (5, "k", 1), (6, "k")]
+            keys = [(5, "k"), (oaut.I2(5), "k"), (5, "k", 1), (6, "k")]
             add = lambda at: item.update("Cell", lambda text: (text or "") + "a", *keys[at % 4], lock=item.array("Grid"))
-            found = await asyncio.gather(*(add(at) for at in range(40)), return_exceptions=True)
-            return [it for it in found if not isinstance(it, str)], [len(await item.get("Cell", *key)) for key in ((5, "k"), (6, "k"))]
+            await asyncio.gather(*(add(at) for at in range(40)))
+            return [await item.get("Cell", *key) for key in ((5, "k"), (6, "k"))]
 
-        found, (first, second) = self.updated(act)[0]
-        self.same("each is there", (first + len(found), second), (30, 10))
+        self.same("each is there", self.updated(act)[0], ["a" * 30, "a" * 10])
 
     def test_updates_that_fail(self):
         """Only the task at fault gets the exception, and its step has no effect on the others."""

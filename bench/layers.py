@@ -30,7 +30,7 @@ MOST = 10
 
 
 def costs(path):
-    """What callgrind has counted, by the function that was called and by the file and the line of the source: without what it has called."""
+    """The counts of callgrind, by the function that was called and by the file and the line of the source: without what it has called."""
     found, file, name, skip = collections.Counter(), None, None, False
     with open(path, encoding="utf-8", errors="replace") as lines:
         for line in lines:

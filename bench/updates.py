@@ -8,7 +8,7 @@ Defaults: PROGRAM crates/oaut/out/oaut, FOLDER of the files the current one, COU
 - put: one client puts the next number and waits for it; nobody else is there, and there is no lock;
 - compare: `compare_and_put`, again until it has put; a hundredth of COUNT;
 - update: `update`, of which each is waited for; a hundredth of COUNT;
-- tasks: `update` of `oaut.aio`, by 64 tasks of each client.
+- tasks: `update` of `oaut.aio`, by 256 tasks of each client.
 
 Prints for each way the median round's increments a second, and the increments of a put and the puts a second in it. A round whose last number is wrong ends it.
 """
@@ -25,7 +25,7 @@ from command_line import words
 from wire import oaut
 
 LIBRARY = f"{ROOT}/examples/full.idl"
-CLIENTS, TASKS = 16, 64
+CLIENTS, TASKS = 16, 256
 # of each way: the clients, and the part of COUNT that each of them makes
 WAYS = {"put": (1, 1), "compare": (CLIENTS, 100), "update": (CLIENTS, 100), "tasks": (CLIENTS, 1)}
 

@@ -797,7 +797,7 @@ class _GivingBack:
 
 
 # seconds: the least that an attempt to lock is taken for, and about the longest pause after one
-_ATTEMPT, _LONGEST_PAUSE = 0.0005, 1.0
+_ATTEMPT, _LONGEST_PAUSE = 0.0005, 0.1
 # a property of an object, and its arguments
 Place = tuple[BaseObject, Member, Positional]
 

@@ -72,6 +72,22 @@ class Peer:
             it.close()
 
 
+class EndsAtFirst(Peer):
+    """Lets so many of its first connections go with their first reply."""
+
+    def __init__(self, count):
+        self.count = count
+        super().__init__()
+
+    def serve(self, connection, seen):
+        if len(self.connections) > self.count:
+            super().serve(connection, seen)
+            return
+        with connection, contextlib.suppress(OSError):
+            seen += oaut.Raw.split(connection.recv(1 << 16), 0, 1 << 20)[0]
+            connection.sendall(oaut.Raw.pack([self.answering.reply(it) for it in seen]))
+
+
 class AioEnds(ClientCases):
     def runs(self, act):
         return asyncio.run(asyncio.wait_for(act(), 300))
@@ -155,6 +171,19 @@ class AioEnds(ClientCases):
                     return repr(error)
 
             self.same("it is the block's own", self.runs(act), "KeyError('mine')")
+
+    def test_connections_that_end_with_their_first_reply(self):
+        """As those of a server that is killed then: they are dialled again, as long as patience lasts."""
+        with EndsAtFirst(3) as peer:
+
+            async def act():
+                async with aio.connect(peer.address, patience=20) as server:
+                    return (await server.create("Item")).number
+
+            async def in_time():
+                return await asyncio.wait_for(act(), 60)
+
+            self.tell("the fourth one serves", self.runs(in_time) == 1 and len(peer.seen) == 4, len(peer.seen))
 
     def test_a_close_that_is_cancelled_is_called_again(self):
         async def act():

@@ -1,8 +1,10 @@
-"""Clients that increment one number: each increment is there once."""
+"""Clients that increment one number: each increment is there once, also if the server or the gateway is killed meanwhile."""
 import json
 import os
+import signal
 import subprocess
 import sys
+import time
 import unittest
 
 from gateways import SECONDS, Gateway
@@ -30,7 +32,7 @@ class Clients:
 
     def end(self):
         """What each of them has printed."""
-        return [json.loads(it.communicate(timeout=5 * SECONDS)[0]) for it in self.all]
+        return [json.loads(it.communicate(timeout=2 * SECONDS)[0]) for it in self.all]
 
 
 @unittest.skipUnless(COMPILER, "cc is not there")
@@ -49,12 +51,14 @@ class Updates(Cases):
             self.tell("no lock is left", (item.Grid.lock(), item.Grid.unlock()) == (1, 0))
             return int(item.Count)
 
-    def checked(self, gateway, found, each):
-        """No two increments have made the same number, each client has made as many as it was to make, and the last number is their sum."""
+    def checked(self, gateway, found, each, most_unknown=0):
+        """No two increments have made the same number, each client has made as many as it was to make, and of all numbers up to the last one at most so many were
+        never acknowledged."""
         values = sorted(value for it in found for value in it["values"])
         last = self.count(gateway)
         self.tell("each client's", [len(it["values"]) for it in found] == [each] * CLIENTS)
-        self.tell("each number once", values == [*range(1, last + 1)], (values[:20], last))
+        self.tell("each number once", len(set(values)) == len(values) and values[0] >= 1 and values[-1] <= last, (values[:20], last))
+        self.tell("none is lost", last - len(values) <= most_unknown, (last, len(values), most_unknown))
 
     def test_many_clients(self):
         """10,000 increments of each, by 64 tasks of each."""
@@ -71,6 +75,36 @@ class Updates(Cases):
         gateway = self.begun()
         self.checked(gateway, Clients(gateway, "compare", 4).end(), 4)
         self.tell("its end", gateway.end()[0] == 0)
+
+    def test_kills(self):
+        """Of the server and of the gateway, in turns. One client at a time has the lock, so a kill leaves the increments of one unknown."""
+        gateway, tasks, each, kills = self.begun(), 16, 100, 0
+        clients = Clients(gateway, "tasks", each, tasks)
+        while kills < 4 and any(it.poll() is None for it in clients.all):
+            before = self.seen(gateway)
+            Gateway.wait_for(lambda: self.seen(gateway) > before or all(it.poll() is not None for it in clients.all), "no increment is made")
+            if kills % 2 == 0:
+                os.kill(Gateway.wait_for(gateway.server, "there is no server"), signal.SIGKILL)
+            else:
+                gateway.process.kill()
+                gateway.process.wait()
+                gateway.start()
+            kills += 1
+        found = clients.end()
+        ends = sum(it["ends"] for it in found)
+        self.tell("there were kills, and sessions that have ended", kills >= 2 and ends >= CLIENTS, (kills, ends))
+        self.checked(gateway, found, each, kills * tasks)
+        self.tell("its end", gateway.end()[0] == 0)
+
+    @staticmethod
+    def seen(gateway):
+        """The number as it is, or -1 while it cannot be read."""
+        try:
+            with gateway.session() as server:
+                return int(server.object(1, "Item").Count)
+        except (oaut.Error, OSError):
+            time.sleep(0.05)
+            return -1
 
 
 if __name__ == "__main__":

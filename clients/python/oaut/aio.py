@@ -83,6 +83,7 @@ from .watching_aio import Watch
 __all__ = ["ArrayProperty", "Batch", "Object", "Server", "connect", "open", "play", "serve"]
 
 _TAGS = 0xFFFF_FFFF
+_LET_GO = "the server has let the connection go"
 # the limit in bytes of requests that are not yet sent, and as many again that the other side has
 # not read: callers that exceed it wait. One request may exceed either limit.
 HELD = 1_048_576
@@ -1039,14 +1040,14 @@ class Server:
     async def _dial_again(self, dial: typing.Callable[[], typing.Awaitable[_Link]]) -> None:
         """Connects again, and sends the waiting requests. The server has to have the same
         library."""
-        old, told = self._link, "the server has let the connection go"
+        old = self._link
         try:
             if self._locks:
-                raise SessionEnded(f"{told}, and its locks of arrays with it")
+                raise SessionEnded(f"{_LET_GO}, and its locks of arrays with it")
             try:
                 link = await dial()
             except OSError as error:
-                raise SessionEnded(f"{told}, and there is no other: {error}") from error
+                raise SessionEnded(f"{_LET_GO}, and there is no other: {error}") from error
             old.transport.close()
             self._due.clear()
             self._chunks, self._came, self._wanted = [], 0, 0
@@ -1072,6 +1073,8 @@ class Server:
                 futures = [asyncio.get_running_loop().create_future() for _ in requests]
                 for it in futures:
                     it.add_done_callback(_looked_at)
+                if self._link.ended:  # (nobody is told so once more)
+                    raise SessionEnded(_LET_GO)
                 self._send(list(zip(requests, futures)))
                 requests = steps.send([await self._answer(it) for it in futures])
         except StopIteration as end:
@@ -1258,19 +1261,27 @@ def connect(
 
     async def begin() -> Server:
         check_timeout(timeout)
+        name, ends = f"connected to {address}", group != 1
+        how = framing, group, ends, timeout, None, name, None
         if isinstance(address, socket.socket):
             address.setblocking(False)
-            link, again, at = await _linked(address), None, watch
-        else:
-            where = address_of(address)
-            at = watched_at(where, watch)
-            again = functools.partial(_dialled, where, framing, timeout, patience)
-            link = await again()
-        name = f"connected to {address}"
-        ends = group != 1
-        server = Server(link, framing, group, ends, timeout, None, name, None, again, at, store)
-        await _described(server)
-        return server
+            server = Server(await _linked(address), *how, None, watch, store)
+            await _described(server)
+            return server
+        where = address_of(address)
+        at = watched_at(where, watch)
+        again = functools.partial(_dialled, where, framing, timeout, patience)
+        loop = asyncio.get_running_loop()
+        until = loop.time() + patience
+        while True:
+            server = Server(await again(), *how, again, at, store)
+            try:
+                await _described(server)
+                return server
+            except SessionEnded:
+                if loop.time() >= until:
+                    raise
+            await asyncio.sleep(programs.PAUSE)
 
     return Opening(begin)
 
@@ -1297,6 +1308,8 @@ async def _dialled(address: Address, framing: str, timeout: float | None, patien
                 return link
             try:
                 await Server(link, framing, None, False, left).exchange([END[4:]])
+                if link.ended:  # (it was let go together with the reply)
+                    raise SessionEnded(_LET_GO)
                 return link
             except BaseException:
                 link.transport.abort()

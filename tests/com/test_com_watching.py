@@ -303,7 +303,7 @@ FAULTS = {
         [("WaitForSingleObject(watch->turn, milliseconds)", "WaitForSingleObject(watch->turn, INFINITE)")],
         "two_waits",
     ),
-    "why nothing is reached is not said": ("hub.c", [("    call->watch = settings->watch;\n", "")], "no_watch"),
+    "why nothing is reached is not said": ("hub.c", [("        return result;\n    call->watch = settings->watch;\n", "        return result;\n")], "no_watch"),
 }
 
 

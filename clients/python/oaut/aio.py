@@ -16,7 +16,6 @@ import contextlib
 import errno
 import functools
 import io
-import itertools
 import os
 import socket
 import tempfile
@@ -326,7 +325,8 @@ class Locked:
             raise WrongUse("a lock is waited for outside a batch")
         loop = asyncio.get_running_loop()
         until = None if self._timeout is None else loop.time() + self._timeout
-        for turn in itertools.count():
+        turn = 0
+        while True:
             begun = loop.time()
             # (a task that is cancelled has to know whether it got one)
             asked = asyncio.ensure_future(self._asked())
@@ -348,7 +348,7 @@ class Locked:
                 told = f"{self._array!r} is locked by others for {self._timeout:g} seconds"
                 raise NotInTime(told)
             await asyncio.sleep(objects.pause_after(turn, now - begun, until and until - now))
-        raise AssertionError
+            turn += 1
 
     async def _asked(self) -> int:
         """Adds a lock, and reads the property in the same step. Returns the count of locks."""

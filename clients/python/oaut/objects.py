@@ -3,7 +3,6 @@ from __future__ import annotations
 
 import contextlib
 import functools
-import itertools
 import random
 import struct
 import time
@@ -831,8 +830,9 @@ class Locked:
         if batch is not None and batch.is_open():
             raise WrongUse("a lock is waited for outside a batch")
         until = None if self._timeout is None else time.monotonic() + self._timeout
+        turn = 0
         try:
-            for turn in itertools.count():
+            while True:
                 begun = time.monotonic()
                 if self._lock() == 1:
                     return self
@@ -842,7 +842,7 @@ class Locked:
                     told = f"{self._array!r} is locked by others for {self._timeout:g} seconds"
                     raise NotInTime(told)
                 time.sleep(pause_after(turn, now - begun, until and until - now))
-            raise AssertionError
+                turn += 1
         except BaseException:
             self._give_back()
             raise

@@ -6,7 +6,7 @@ import collections
 import typing
 
 from .faults import Error, NotInTime, Refused
-from .objects import BaseObject, Place, place_bytes
+from .objects import Place, place_bytes
 from .values import Currency, Integer, Value
 
 if typing.TYPE_CHECKING:

@@ -324,7 +324,7 @@ def steps_of_locking(program, library, act, every, first):
 
 
 def steps_without_with(program, library, act, every, first):
-    """Interrupts a block that nobody but the session can know to have ended: what is not there afterwards is told, with its number."""
+    """Interrupts a block, of which only the session can know that it has ended. Requests that were not sent are reported, with their number."""
     found, at, steps = [], first, 0
     while True:
         server = oaut.play(library, program=program)

@@ -26,7 +26,7 @@ def op(body):
 
 @contextlib.contextmanager
 def warned():
-    """What the loop is told of exceptions that nobody awaits."""
+    """The reports of the loop about exceptions that nobody awaits."""
     told, loop = [], asyncio.get_running_loop()
     loop.set_exception_handler(lambda _, context: told.append(str(context)))
     yield told
@@ -105,7 +105,7 @@ class AioEnds(ClientCases):
                             for count in range(4):
                                 await item.put("Count", count)
 
-                    while server._due:  # (the reply to END, behind that of the request)
+                    while server._due:  # (the reply to END, after that of the request)
                         await asyncio.sleep(0.01)
                     peer.connections[0].shutdown(socket.SHUT_RDWR)
                     await asyncio.gather(item.put("Name", "x"), atomic())
@@ -200,7 +200,7 @@ class AioEnds(ClientCases):
                     self.tell("the session has ended", False)
                 except oaut.SessionEnded as end:
                     self.same("the session has ended", str(end), "the session was closed")
-                self.same("nothing else is told", told, [])
+                self.same("nothing else is reported", told, [])
 
         self.runs(act)
 

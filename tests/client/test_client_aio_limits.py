@@ -142,7 +142,7 @@ class AioLimits(ClientCases):
                     finally:
                         await server.close()
 
-            self.same("it is told", self.runs(act), "LibraryDiffers")
+            self.same("it is reported", self.runs(act), "LibraryDiffers")
 
     def test_requests_that_nobody_reads(self):
         """60 puts of 1 MiB to a peer that does not read: the tasks wait, and what waits to be sent has a bound."""

@@ -169,7 +169,7 @@ class Backup(ClientCases):
                 context.prec = 3
                 dumps.restore(told, f"{room}/new")
                 found = dumps.dump(f"{room}/new")
-            self.same("it is told", found["objects"][0]["cells"][0]["value"], "123456789.0123")
+            self.same("it is reported", found["objects"][0]["cells"][0]["value"], "123456789.0123")
 
     def test_a_stream_without_a_file(self):
         with tempfile.TemporaryDirectory() as room:

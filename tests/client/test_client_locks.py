@@ -83,7 +83,7 @@ class Locks(ClientCases):
                 with lock:
                     server._acquire()
 
-            self.raises("it is told", oaut.SessionInUse, block)
+            self.raises("it is reported", oaut.SessionInUse, block)
             server._release(None)
             lock.leave()
             self.same("it is given back", [item.Grid.lock(), item.Grid.unlock()], [1, 0])

@@ -124,7 +124,7 @@ class Salvage(ClientCases):
             os.truncate(f"{room}/it.store", GATES[4] + 7)
             found = salvage.salvage(f"{room}/it.store", f"{room}/new", program=PROGRAM)
             self.same("as far as it goes", (whole(f"{room}/new"), found.lost), (left_by(4), True))
-            self.tell("it is told", f"at {GATES[4] + 7}: the file ends, " in found.lines[0], found.lines)
+            self.tell("it is reported", f"at {GATES[4] + 7}: the file ends, " in found.lines[0], found.lines)
             os.truncate(f"{room}/it.store", 5_000)
             self.raises("nothing is left", oaut.Unusable, lambda: salvage.salvage(f"{room}/it.store", f"{room}/other", program=PROGRAM))
 

@@ -278,7 +278,7 @@ class Surprises(ClientCases):
         told = "a library is replaced outside a batch"
         with play(FULL) as server:
             with server.batch():
-                self.raises("it is told", RuntimeError, lambda: server.replace_library(FULL), told)
+                self.raises("it is reported", RuntimeError, lambda: server.replace_library(FULL), told)
 
         async def act():
             async with aio.play(FULL, program=PROGRAM) as server:

@@ -1073,7 +1073,7 @@ class Server:
                 futures = [asyncio.get_running_loop().create_future() for _ in requests]
                 for it in futures:
                     it.add_done_callback(_looked_at)
-                if self._link.ended:  # (nobody is told so once more)
+                if self._link.ended:  # (its end is reported only once)
                     raise SessionEnded(_LET_GO)
                 self._send(list(zip(requests, futures)))
                 requests = steps.send([await self._answer(it) for it in futures])

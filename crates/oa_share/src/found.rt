@@ -8,7 +8,7 @@ use oa_frame::End;
 /// The greatest number of bytes of a body.
 const BODY_LIMIT: usize = oa_model::MAX_REQUEST_BYTES as usize;
 
-/// What follows the part of a record that came before.
+/// The bytes that follow the part of a record that came before.
 #[derive(Clone, Copy)]
 pub(crate) enum Found {
     /// Not all of the rest.

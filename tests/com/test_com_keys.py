@@ -87,6 +87,8 @@ class Keys(Watching):
             ("a key that is too long", [line(keys=1), one[:-2] + b'00"\n'], "what listens there sends no changes"),
             ("a type that there is not", [line(keys=1), key(scalar(7, bytes(8))[:2])], "what listens there sends no changes"),
             ("a text that is cut", [line(keys=1), key(scalar(8, b"\xff\0\0\0a\0"))], "what listens there sends no changes"),
+            ("a text of a gigabyte that is cut", [line(keys=1), key(scalar(8, b"\0\0\0\x40a\0"))], "what listens there sends no changes"),
+            ("an odd number of digits", [line(keys=1), one[:-3] + b'"\n'], "what listens there sends no changes"),
         ):
             port = self.told_by([*lines, b""])
             got, start = self.told(), self.refused(port.number, words)

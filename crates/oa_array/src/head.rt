@@ -15,7 +15,8 @@ pub(crate) enum BoundList {
 }
 
 impl BoundList {
-    /// Makes a list of these bounds. Err: an allocation fails, which happens only if there is not exactly one bound.
+    /// Makes a list of these bounds. Err: an allocation fails, which happens only if there is not
+    /// exactly one bound.
     pub(crate) fn of_slice(alloc: Global, bounds: &[Bound]) -> Result<BoundList, AllocError>
         ensures { IfOk result (λ list. listed list ≡ bounds.now) }
     {

@@ -40,7 +40,8 @@ fn without_default(to: VarType) -> Scalar
     }
 }
 
-/// Returns the value of a missing argument, given the value of the parameter's default.
+/// Returns the value of a missing argument, given the value of the parameter's default. Err: an
+/// allocation fails.
 fn missing_value(
     alloc: Global,
     parameter: &Parameter,
@@ -55,7 +56,8 @@ fn missing_value(
     }
 }
 
-/// Coerces the argument at an index to a type. Allocates nothing.
+/// Coerces the argument at index `i` to a type. Allocates nothing. Err: DISP_E_TYPEMISMATCH or
+/// DISP_E_OVERFLOW, with the index.
 fn value_by(to: VarType, i: usize, argument: Variant) -> Result<Scalar, BindFault>
     requires { i < max_arguments }
     ensures { result ≡ value_by_argument to i argument }
@@ -69,7 +71,8 @@ fn value_by(to: VarType, i: usize, argument: Variant) -> Result<Scalar, BindFaul
     }
 }
 
-/// Returns the value of the parameter at a place. Moves its argument out; the others stay.
+/// Returns the value of the parameter at a place. Moves its argument out; the others stay. Err: the
+/// argument cannot be coerced; E_OUTOFMEMORY without an index.
 fn value(
     alloc: Global,
     parameter: &Parameter,
@@ -97,8 +100,9 @@ fn value(
     value_by(scalar_type(parameter.value_type), i, argument)
 }
 
-/// Returns the values of the parameters in their order, given the values of their defaults. Moves their arguments out; the others stay.
-/// Allocates nothing if there are no parameters.
+/// Returns the values of the parameters in their order, given the values of their defaults. Moves
+/// their arguments out; the others stay. Allocates nothing if there are no parameters. Err: the
+/// first argument that cannot be coerced, with its index; E_OUTOFMEMORY without an index.
 pub(crate) fn key(
     alloc: Global,
     parameters: &[Parameter],
@@ -141,7 +145,8 @@ fn fault_at(fault: CoerceFault, at: u32) -> BindFault
     }
 }
 
-/// Coerces the argument at an index to the declared type of a new value.
+/// Coerces the argument at index `i` to the declared type of a new value. Err: it cannot be
+/// coerced; E_OUTOFMEMORY without an index.
 fn new_value_by(
     alloc: Global,
     argument: Variant,
@@ -157,7 +162,9 @@ fn new_value_by(
     coerce(alloc, argument, declared).map_err(|(_, fault)| fault_at(fault, at))
 }
 
-/// Returns the new value of a put, or None for a get. Moves its argument out.
+/// Returns the new value of a put, or None for a get. Moves its argument out. Err:
+/// DISP_E_TYPEMISMATCH or DISP_E_OVERFLOW with the argument's index; E_OUTOFMEMORY without an
+/// index.
 pub(crate) fn new_value(
     alloc: Global,
     declared: ValueType,

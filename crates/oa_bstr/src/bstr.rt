@@ -21,10 +21,12 @@ use std::cmp::Ordering;
 use std::fmt;
 use std::marker::Model;
 
-/// A BSTR: null, or a text of at most `MAX_TEXT_BYTES`. Null and the empty text are different values.
+/// A BSTR: null, or a text of at most `MAX_TEXT_BYTES`. Null and the empty text are different
+/// values.
 ///
-/// A text has a block of memory of its own with the layout of MS-OAUT section 2.2.23: a 32-bit little-endian count of the bytes, the bytes,
-/// and a 16-bit zero. The block is freed with the `Bstr`, in one step.
+/// A text has a block of memory of its own with the layout of MS-OAUT section 2.2.23: a 32-bit
+/// little-endian count of the bytes, the bytes, and a 16-bit zero. The block is freed with the
+/// `Bstr`, in one step.
 pub struct Bstr {
     row: Option<Row<u8>>,
 }
@@ -47,8 +49,8 @@ impl Bstr {
 
     /// Makes a text of these bytes, in a block of its own.
     ///
-    /// Errors: `TooLong` if and only if there are more than `MAX_TEXT_BYTES`, before any allocation; `Memory` if the allocation of the
-    /// block fails.
+    /// Errors: `TooLong` if and only if there are more than `MAX_TEXT_BYTES`, before any
+    /// allocation; `Memory` if the allocation of the block fails.
     pub fn from_bytes(alloc: Global, bytes: &[u8]) -> Result<Bstr, BstrError>
         ensures value { IfOk result (λ b. b ≡ Some bytes.now) }
         ensures too_long { IsErrOf result TooLong ↔ (max_text_bytes < length bytes.now) }
@@ -89,8 +91,8 @@ impl Bstr {
         }
     }
 
-    /// Returns the `i`-th 16-bit unit of the text, made of the bytes `2 * i` (low) and `2 * i + 1` (high). The text must have the low byte;
-    /// the high one is 0 if the text ends before it.
+    /// Returns the `i`-th 16-bit unit of the text, made of the bytes `2 * i` (low) and `2 * i + 1`
+    /// (high). The text must have the low byte; the high one is 0 if the text ends before it.
     pub fn unit(&self, i: usize) -> u16
         requires { 2 * i < length (bytes_of self.now) }
         ensures { result ≡ unit_of (bytes_of self.now) i }
@@ -104,7 +106,8 @@ impl Bstr {
         low as u16 + 256 * high as u16
     }
 
-    /// Returns an equal BSTR: a text in a block of its own, or null, which allocates nothing. Err: the allocation fails.
+    /// Returns an equal BSTR: a text in a block of its own, or null, which allocates nothing. Err:
+    /// the allocation fails.
     pub fn copy(&self, alloc: Global) -> Result<Bstr, AllocError>
         ensures value { IfOk result (λ b. b ≡ self.now) }
         ensures null { self.now ≡ None → IsOk result }

@@ -12,7 +12,8 @@ pub fn every_tree_is_printable()
     ensures { (text : List ℕ) (t : TreeValue) → IsTree text t → IsPrintable t }
 {}
 
-/// The canonical text of a printable tree is parsed as the same tree, unless it is too long for a text.
+/// The canonical text of a printable tree is parsed as the same tree, unless it is too long for a
+/// text.
 pub fn canonical_is_read()
     ensures { (t : TreeValue) → IsPrintable t → MayBeText (canonical t) → IsTree (canonical t) t }
 {}
@@ -22,7 +23,8 @@ pub fn marked_is_printable()
     ensures { (t : TreeValue) → IsPrintable t → IsPrintable (marked t) }
 {}
 
-/// The canonical text of a text's tree with marked defaults is parsed as that tree, unless it is too long for a text.
+/// The canonical text of a text's tree with marked defaults is parsed as that tree, unless it is
+/// too long for a text.
 pub fn marked_is_read()
     ensures { (text : List ℕ) (t : TreeValue) → IsTree text t → MayBeText (canonical (marked t))
         → IsTree (canonical (marked t)) (marked t) }

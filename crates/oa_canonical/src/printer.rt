@@ -16,7 +16,7 @@ use oa_model::{ValueType, VarType};
 use std::alloc::{AllocError, Global};
 use uuid::Uuid;
 
-/// Appends bytes.
+/// Appends bytes. Err: an allocation fails.
 fn put(out: &mut Vec<u8>, bytes: &[u8]) -> Result<(), AllocError>
     ensures { IfOk result (λ _. out.new.items ≡ out.old.items ++ bytes.now) }
 {
@@ -28,12 +28,12 @@ fn put(out: &mut Vec<u8>, bytes: &[u8]) -> Result<(), AllocError>
 trait Listed {
     ghost text: { Self → List ℕ };
 
-    /// Appends the text of the part.
+    /// Appends the text of the part to `out`. Err: an allocation fails.
     fn put(&self, alloc: Global, out: &mut Vec<u8>) -> Result<(), AllocError>
         ensures { IfOk result (λ _. out.new.items ≡ out.old.items ++ text self.now) };
 }
 
-/// Appends the texts of a list.
+/// Appends the texts of a list. Err: an allocation fails.
 fn put_all<T: Listed>(alloc: Global, out: &mut Vec<u8>, all: &[T]) -> Result<(), AllocError>
     ensures { IfOk result (λ _. out.new.items ≡ out.old.items ++ flat_map T.text all.now) }
 {
@@ -150,7 +150,8 @@ fn put_literal(alloc: Global, out: &mut Vec<u8>, value: &Literal) -> Result<(), 
     }
 }
 
-/// Appends an attribute if it is `there`, after a comma if `before` is true, otherwise after the opening bracket.
+/// Appends an attribute if it is `there`, after a comma if `before` is true, otherwise after the
+/// opening bracket.
 #[tactic(auto, unfolding(crate::specs::Canonical::mark_text))]
 fn put_mark(out: &mut Vec<u8>, before: bool, there: bool, text: &[u8]) -> Result<(), AllocError>
     ensures { IfOk result (λ _. out.new.items ≡ out.old.items ++ mark_text before there text.now) }
@@ -447,8 +448,9 @@ fn put_tree(alloc: Global, out: &mut Vec<u8>, tree: &Tree) -> Result<(), AllocEr
     put(out, b"}\n")
 }
 
-/// Returns the canonical text of a tree, which is one of the texts with this tree (docs/reference/idl.md): a line for each member, the
-/// attributes in a fixed order, GUIDs in lower case and numbers in decimal. Err: an allocation fails.
+/// Returns the canonical text of a tree, which is one of the texts with this tree
+/// (docs/reference/idl.md): a line for each member, the attributes in a fixed order, GUIDs in lower
+/// case and numbers in decimal. Err: an allocation fails.
 pub fn print(alloc: Global, tree: &Tree) -> Result<Vec<u8>, AllocError>
     ensures { IfOk result (λ text. text.items ≡ canonical tree.now) }
 {

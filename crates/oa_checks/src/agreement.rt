@@ -15,7 +15,7 @@ pub fn is_same_name(a: &Name, b: &Name) -> bool
     a.as_bytes().eq_ignore_ascii_case(b.as_bytes())
 }
 
-/// Returns whether two types are equal.
+/// Returns whether two types have the same number.
 fn same_type(a: ValueType, b: ValueType) -> bool
     ensures { result ≡ same_value_type a b }
 {
@@ -75,8 +75,9 @@ fn same_parameter(a: &Parameter, b: &Parameter) -> bool
         && same_default(&a.default, &b.default)
 }
 
-/// Returns whether two lists of parameters have the same length and agree one by one: in the name without regard to the case of A to Z, the
-/// type, `in`, the default, and whether a call may omit the parameter.
+/// Returns whether two lists of parameters have the same length and agree one by one: in the name
+/// without regard to the case of A to Z, the type, `in`, the default, and whether a call may omit
+/// the parameter.
 pub fn same_parameters(a: &[Parameter], b: &[Parameter]) -> bool
     ensures { result ≡ pointwise same_parameter a.now b.now }
 {
@@ -91,7 +92,8 @@ pub fn same_parameters(a: &[Parameter], b: &[Parameter]) -> bool
     true
 }
 
-/// Returns whether a get and a put agree: in the DISPID, the type of the property's value, and the parameters.
+/// Returns whether a get and a put agree: in the DISPID, the type of the property's value, and the
+/// parameters.
 #[tactic(auto, unfolding(crate::specs::Agreement::agree))]
 pub(crate) fn agree(a: &Declaration<'_>, b: &Declaration<'_>) -> bool
     ensures { result ≡ agree a.now b.now }

@@ -57,7 +57,7 @@ pub fn entry_names(alloc: Global, entries: &[Entry]) -> Result<Vec<&Name>, Alloc
     Ok(names)
 }
 
-/// Returns the names of parameters.
+/// Returns the names of parameters, in their order. Err: an allocation fails.
 fn parameter_names(alloc: Global, parameters: &[Parameter]) -> Result<Vec<&Name>, AllocError>
     ensures { IfOk result (λ v. map (λ n. n.now) v.items ≡ map (λ p. p.name) parameters.now) }
 {
@@ -68,7 +68,7 @@ fn parameter_names(alloc: Global, parameters: &[Parameter]) -> Result<Vec<&Name>
     Ok(names)
 }
 
-/// Folds each name.
+/// Returns each name folded. Err: an allocation fails.
 fn all_folded(alloc: Global, names: &[&Name]) -> Result<Vec<Vec<u16>>, AllocError>
     ensures { IfOk result (λ v. map (λ k. k.items) v.items ≡ map (λ n. folded_name n.now) names.now) }
 {
@@ -79,7 +79,8 @@ fn all_folded(alloc: Global, names: &[&Name]) -> Result<Vec<Vec<u16>>, AllocErro
     Ok(keys)
 }
 
-/// Returns the first name that equals one before it.
+/// Returns the first name that equals one before it; None if there is none. Err: an allocation
+/// fails.
 fn first_repeated<'a>(alloc: Global, names: &[&'a Name]) -> Result<Option<&'a Name>, AllocError>
     ensures { IfOk result (λ r. option_map (λ n. n.now) r ≡ repeated_name (map (λ n. n.now) names.now)) }
 {
@@ -90,7 +91,8 @@ fn first_repeated<'a>(alloc: Global, names: &[&'a Name]) -> Result<Option<&'a Na
     Ok(Some(names[place]))
 }
 
-/// Fails with `DuplicateName` if a name equals one before it.
+/// Checks that no name equals one before it. Errors: `DuplicateName` with the first such name;
+/// `Memory`.
 fn check_repeated(alloc: Global, names: &[&Name]) -> Result<(), CheckError>
     ensures { RefusesBreach (option_map DuplicateName (repeated_name (map (λ n. n.now) names.now))) (λ _. Unit {0}) result }
 {
@@ -100,7 +102,8 @@ fn check_repeated(alloc: Global, names: &[&Name]) -> Result<(), CheckError>
     }
 }
 
-/// Adds the name of a declaration to those of the declarations before it, and checks the names of its parameters.
+/// Adds the name of a declaration to those of the declarations before it, and checks the names of
+/// its parameters. Errors: `DuplicateName` with the declaration's name or a parameter's; `Memory`.
 fn admit_declaration(
     alloc: Global,
     taken: &mut Taken,
@@ -117,7 +120,8 @@ fn admit_declaration(
     check_repeated(alloc, names.as_slice())
 }
 
-/// Checks the names of an interface's declarations.
+/// Checks the names of an interface's declarations and their parameters. Errors: `DuplicateName`,
+/// `Memory`.
 fn check_declared(alloc: Global, all: &[Declaration<'_>]) -> Result<(), CheckError>
     ensures { RefusesBreach (option_map DuplicateName (first_after declared_breach [] all.now)) (λ _. Unit {0}) result }
 {
@@ -128,7 +132,8 @@ fn check_declared(alloc: Global, all: &[Declaration<'_>]) -> Result<(), CheckErr
     Ok(())
 }
 
-/// Checks the names of an interface's declarations and their parameters.
+/// Checks the names of an interface's declarations and their parameters. Errors: `DuplicateName`,
+/// `Memory`.
 fn check_interface_names(alloc: Global, interface: &Interface) -> Result<(), CheckError>
     ensures { RefusesBreach (option_map DuplicateName (first_after declared_breach [] (declarations interface.now))) (λ _. Unit {0}) result }
 {
@@ -136,7 +141,8 @@ fn check_interface_names(alloc: Global, interface: &Interface) -> Result<(), Che
     check_declared(alloc, all.as_slice())
 }
 
-/// Checks that no two entries of a coclass have the same name.
+/// Checks that no two entries of a coclass have the same name. Errors: `DuplicateName` with the
+/// later name; `Memory`.
 fn check_coclass_names(alloc: Global, class: &Coclass) -> Result<(), CheckError>
     ensures { RefusesBreach (option_map DuplicateName (repeated_name (map (λ e. e.interface) class.now.entries))) (λ _. Unit {0}) result }
 {
@@ -144,7 +150,7 @@ fn check_coclass_names(alloc: Global, class: &Coclass) -> Result<(), CheckError>
     check_repeated(alloc, names.as_slice())
 }
 
-/// Checks the names inside an item.
+/// Checks the names inside an item. Errors: `DuplicateName`, `Memory`.
 fn check_inner_names(alloc: Global, item: &Item) -> Result<(), CheckError>
     ensures { RefusesBreach (option_map DuplicateName (inner_breach item.now)) (λ _. Unit {0}) result }
 {
@@ -155,6 +161,7 @@ fn check_inner_names(alloc: Global, item: &Item) -> Result<(), CheckError>
 }
 
 /// Adds the name of an item to those of the items before it, and checks the names inside it.
+/// Errors: `DuplicateName` with the item's name or one inside it; `Memory`.
 fn admit(alloc: Global, seen: &mut FoldedNames, item: &Item) -> Result<(), CheckError>
     ensures refuses { RefusesBreach (option_map DuplicateName (repeated_in seen.old item.now))
         (λ _. seen.new ≡ seen.old ++ folded_name (item_name item.now) ∷ []) result }
@@ -166,7 +173,8 @@ fn admit(alloc: Global, seen: &mut FoldedNames, item: &Item) -> Result<(), Check
     check_inner_names(alloc, item)
 }
 
-/// Checks that no two items have the same name, and the names inside each; returns the items' folded names.
+/// Checks that no two items have the same name, and the names inside each; returns the items'
+/// folded names. Errors: `DuplicateName`, `Memory`.
 fn check_names(alloc: Global, items: &[Item]) -> Result<FoldedNames, CheckError>
     ensures { RefusesBreach (option_map DuplicateName (name_breach items.now)) (λ names. names ≡ folded_names items.now) result }
 {
@@ -177,7 +185,8 @@ fn check_names(alloc: Global, items: &[Item]) -> Result<FoldedNames, CheckError>
     Ok(seen)
 }
 
-/// Checks that no two members of an interface have the same DISPID.
+/// Checks that no two members of an interface have the same DISPID. Errors: `DuplicateId` with the
+/// later member's name; `Memory`.
 fn check_ids(alloc: Global, items: &[Item]) -> Result<(), CheckError>
     ensures { RefusesBreach (option_map DuplicateId (id_breach items.now)) (λ _. Unit {0}) result }
 {
@@ -187,7 +196,7 @@ fn check_ids(alloc: Global, items: &[Item]) -> Result<(), CheckError>
     }
 }
 
-/// Returns the library's GUID followed by those of the items.
+/// Returns the library's GUID followed by those of the items. Err: an allocation fails.
 fn all_guids(alloc: Global, library: Uuid, items: &[Item]) -> Result<Vec<Uuid>, AllocError>
     ensures { IfOk result (λ v. v.items ≡ library ∷ map item_guid items.now) }
 {
@@ -199,7 +208,8 @@ fn all_guids(alloc: Global, library: Uuid, items: &[Item]) -> Result<Vec<Uuid>, 
     Ok(guids)
 }
 
-/// Checks that no two items have the same GUID, and none has the library's; returns the items' GUIDs.
+/// Checks that no two items have the same GUID, and none has the library's; returns the items'
+/// GUIDs. Errors: `DuplicateGuid` with the first repeated one; `Memory`.
 fn check_guids(alloc: Global, library: Uuid, items: &[Item]) -> Result<Guids, CheckError>
     ensures { RefusesBreach (option_map DuplicateGuid (guid_breach library items.now)) (λ guids. guids ≡ map item_guid items.now) result }
 {
@@ -213,7 +223,8 @@ fn check_guids(alloc: Global, library: Uuid, items: &[Item]) -> Result<Guids, Ch
     }
 }
 
-/// Returns whether an item of that name is an interface.
+/// Returns whether an item of that name is an interface; `names` are the folded names of the items.
+/// Err: an allocation fails.
 fn is_interface(
     alloc: Global,
     names: &FoldedNames,
@@ -229,7 +240,8 @@ fn is_interface(
     Ok(interface_at(items, place).is_some())
 }
 
-/// Checks that each entry names an interface.
+/// Checks that each entry names an interface. Errors: `UnknownInterface` with the first other name;
+/// `Memory`.
 fn check_entries(
     alloc: Global,
     names: &FoldedNames,
@@ -247,7 +259,7 @@ fn check_entries(
     Ok(())
 }
 
-/// Checks the entries of an item, if it is a coclass.
+/// Checks the entries of an item, if it is a coclass. Errors: `UnknownInterface`, `Memory`.
 fn check_item(
     alloc: Global,
     names: &FoldedNames,
@@ -263,7 +275,7 @@ fn check_item(
     }
 }
 
-/// Checks that each entry of each coclass names an interface.
+/// Checks that each entry of each coclass names an interface. Errors: `UnknownInterface`, `Memory`.
 fn check_interfaces(alloc: Global, names: &FoldedNames, items: &[Item]) -> Result<(), CheckError>
     requires { names.now ≡ folded_names items.now }
     ensures { RefusesBreach (option_map UnknownInterface (interface_breach items.now)) (λ _. Unit {0}) result }
@@ -274,7 +286,8 @@ fn check_interfaces(alloc: Global, names: &FoldedNames, items: &[Item]) -> Resul
     Ok(())
 }
 
-/// Checks that the get and the put of each property agree.
+/// Checks that the get and the put of each property agree. Errors: `GetPutDisagree` with the later
+/// one's name; `Memory`.
 fn check_forms(alloc: Global, items: &[Item]) -> Result<(), CheckError>
     ensures { RefusesBreach (option_map GetPutDisagree (form_breach items.now)) (λ _. Unit {0}) result }
 {
@@ -284,7 +297,8 @@ fn check_forms(alloc: Global, items: &[Item]) -> Result<(), CheckError>
     }
 }
 
-/// Checks that no parameter of a property is an array.
+/// Checks that no parameter of a property is an array. Errors: `ArrayParameter` with the first such
+/// parameter's name; `Memory`.
 fn check_arrays(alloc: Global, items: &[Item]) -> Result<(), CheckError>
     ensures { RefusesBreach (option_map ArrayParameter (array_breach items.now)) (λ _. Unit {0}) result }
 {
@@ -294,7 +308,8 @@ fn check_arrays(alloc: Global, items: &[Item]) -> Result<(), CheckError>
     }
 }
 
-/// Checks that each default has a value of its parameter's type, and that no new value of a put has a default or is optional.
+/// Checks that each default has a value of its parameter's type, and that no new value of a put has
+/// a default or is optional. Errors: `BadDefault` with the first such parameter's name; `Memory`.
 fn check_defaults(alloc: Global, items: &[Item]) -> Result<(), CheckError>
     ensures { RefusesBreach (option_map BadDefault (default_breach items.now)) (λ _. Unit {0}) result }
 {
@@ -304,7 +319,9 @@ fn check_defaults(alloc: Global, items: &[Item]) -> Result<(), CheckError>
     }
 }
 
-/// Checks the gets and puts of properties and the parameters. Runs after the checks of names, DISPIDs and interfaces.
+/// Checks the gets and puts of properties and the parameters, after the checks of names, DISPIDs
+/// and interfaces. Errors: the first of `GetPutDisagree`, `ArrayParameter` and `BadDefault`;
+/// `Memory`.
 fn check_form_kinds(alloc: Global, items: &[Item]) -> Result<(), CheckError>
     ensures { RefusesBreach (form_breaches items.now) (λ _. Unit {0}) result }
 {
@@ -323,7 +340,8 @@ pub struct Checked {
     pub guids: Guids,
 }
 
-/// Checks names, DISPIDs and GUIDs.
+/// Checks names, DISPIDs and GUIDs, and returns names and GUIDs. Errors: the first of
+/// `DuplicateName`, `DuplicateId` and `DuplicateGuid`; `Memory`.
 fn check_keys(alloc: Global, tree: &Tree) -> Result<Checked, CheckError>
     ensures { RefusesBreach (key_breaches tree.now)
         (λ c. (c.names ≡ folded_names tree.now.items) × (c.guids ≡ map item_guid tree.now.items)) result }
@@ -335,7 +353,8 @@ fn check_keys(alloc: Global, tree: &Tree) -> Result<Checked, CheckError>
     Ok(Checked { names, guids })
 }
 
-/// Checks the entries of coclasses, the gets and puts of properties, and the parameters. Runs after the check of names.
+/// Checks the entries of coclasses, the gets and puts of properties, and the parameters, after the
+/// check of names. Errors: `UnknownInterface`, or those of `check_form_kinds`; `Memory`.
 fn check_contents(alloc: Global, tree: &Tree, names: &FoldedNames) -> Result<(), CheckError>
     requires { names.now ≡ folded_names tree.now.items }
     ensures { RefusesBreach (option_or (option_map UnknownInterface (interface_breach tree.now.items)) (form_breaches tree.now.items))
@@ -346,8 +365,9 @@ fn check_contents(alloc: Global, tree: &Tree, names: &FoldedNames) -> Result<(),
     check_form_kinds(alloc, items)
 }
 
-/// Runs all checks of a tree in their order, except that of its text's length. Err contains the first error, which is never `TextTooLong`,
-/// or `Memory` if an allocation fails.
+/// Runs all checks of a tree in their order, except that of its text's length, and returns names
+/// and GUIDs of its items. Err: the first error, which is never `TextTooLong`, or `Memory` if an
+/// allocation fails.
 pub fn check_tree(alloc: Global, tree: &Tree) -> Result<Checked, CheckError>
     ensures { RefusesBreach (tree_breach tree.now)
         (λ c. (c.names ≡ folded_names tree.now.items) × (c.guids ≡ map item_guid tree.now.items)) result }

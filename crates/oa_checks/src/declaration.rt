@@ -64,7 +64,8 @@ impl DeclarationKind {
     }
 }
 
-/// A declaration of an interface: a property of `properties:`, or a method, a get or a put of `methods:`.
+/// A declaration of an interface: a property of `properties:`, or a method, a get or a put of
+/// `methods:`.
 #[derive(Drop)]
 pub struct Declaration<'a> {
     /// The DISPID.
@@ -125,7 +126,8 @@ impl<'a> Declaration<'a> {
         }
     }
 
-    /// Returns those of the values of the parameters' defaults that belong to `own_parameters`.
+    /// Returns the values of the defaults of `own_parameters`, from those of all parameters; None
+    /// for a parameter without a default.
     pub fn own_values<'b>(&self, defaults: &'b [Option<Scalar>]) -> &'b [Option<Scalar>]
         requires { defaults.now ≡ defaults_of self.now }
         ensures { result.now ≡ map default_value (own_parameters self.now) }
@@ -148,7 +150,8 @@ impl<'a> Declaration<'a> {
         }
     }
 
-    /// Returns the type of the property's value, which of a put is the type of its new value; or the type of a method's result.
+    /// Returns the type of the property's value, which of a put is the type of its new value; or
+    /// the type of a method's result. None is void.
     pub fn type_of_value(&self) -> Option<ValueType>
         ensures { result ≡ type_of_value self.now }
     {
@@ -160,7 +163,7 @@ impl<'a> Declaration<'a> {
     }
 }
 
-/// Returns the declarations of the section `properties:`.
+/// Returns the declarations of the section `properties:`. Err: an allocation fails.
 fn of_properties<'a>(
     alloc: Global,
     properties: &'a [Property],
@@ -174,7 +177,7 @@ fn of_properties<'a>(
     Ok(all)
 }
 
-/// Appends the declarations of the section `methods:`.
+/// Appends the declarations of the section `methods:`. Err: an allocation fails.
 fn add_methods<'a>(all: &mut Vec<Declaration<'a>>, methods: &'a [Method]) -> Result<(), AllocError>
     ensures { OnOk result (all.new.items ≡ all.old.items ++ map of_method methods.now) }
 {
@@ -184,7 +187,8 @@ fn add_methods<'a>(all: &mut Vec<Declaration<'a>>, methods: &'a [Method]) -> Res
     Ok(())
 }
 
-/// Returns the declarations of an interface: the properties followed by the methods, each in the text's order. Err: an allocation fails.
+/// Returns the declarations of an interface: the properties followed by the methods, each in the
+/// text's order. Err: an allocation fails.
 pub fn declarations(
     alloc: Global,
     interface: &Interface,

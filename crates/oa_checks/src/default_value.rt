@@ -14,14 +14,14 @@ const MAX_CHARACTERS: usize = 131_072;
 /// The magnitude of a DECIMAL is below this bound, 2^96.
 const MAGNITUDE_BOUND: u128 = 1 << 96;
 
-/// Returns a number as a count of ten-thousandths, if it fits an i64.
+/// Returns a number as a count of ten-thousandths; None if it does not fit an i64.
 fn as_currency(n: i128) -> Option<i64>
     ensures { result ≡ whole 9223372036854775808 (n *ℤ pos 10000) }
 {
     i64::try_from(n.checked_mul(10_000)?).ok()
 }
 
-/// Returns a number as a DECIMAL of scale 0, if it fits.
+/// Returns a number as a DECIMAL of scale 0; None if it does not fit.
 fn as_decimal(n: i128) -> Option<Decimal>
     ensures { result ≡ decimal_from n }
 {
@@ -70,7 +70,7 @@ fn holds_truths(t: VarType) -> bool
     matches!(t, VarType::Bool | VarType::Variant)
 }
 
-/// Encodes ASCII characters as 16-bit units, low byte first.
+/// Encodes ASCII characters as 16-bit units, low byte first. Err: an allocation fails.
 #[tactic(auto, unfolding(crate::specs::Defaults::wide))]
 fn wide(alloc: Global, characters: &[u8]) -> Result<Vec<u8>, AllocError>
     ensures { IfOk result (λ v. v.items ≡ wide characters.now) }
@@ -82,7 +82,8 @@ fn wide(alloc: Global, characters: &[u8]) -> Result<Vec<u8>, AllocError>
     Ok(bytes)
 }
 
-/// Returns a string as a value of a type; None if the type has no such value.
+/// Returns a string as a value of a type; None if the type has no such value. Err: an allocation
+/// fails.
 fn text_as(alloc: Global, t: VarType, text: &Characters) -> Result<Option<Scalar>, AllocError>
     ensures { IfOk result (λ s. s ≡ text_as t text.now) }
 {
@@ -111,9 +112,10 @@ pub(crate) fn has_default(value_type: ValueType, default: &Literal) -> bool
     }
 }
 
-/// Converts a default to a value of the parameter's type: a number of that type, a count of ten-thousandths for CURRENCY, a DECIMAL of
-/// scale 0, an I4 for VARIANT; a BOOL; or a text of 16-bit units for BSTR and VARIANT. Returns None if the type has no such value, and for
-/// each array type.
+/// Returns a default as a value of the parameter's type. A number becomes one of that type: a count
+/// of ten-thousandths for CURRENCY, a DECIMAL of scale 0, an I4 for VARIANT. A truth value becomes
+/// a BOOL, and a string a text of 16-bit units for BSTR and VARIANT. None if the type has no such
+/// value, and for each array type. Err: an allocation fails.
 pub(crate) fn default_value(
     alloc: Global,
     value_type: ValueType,
@@ -135,8 +137,8 @@ pub(crate) fn default_value(
     }
 }
 
-/// Returns the value of a parameter's default, in the parameter's type. None if the parameter has no default, or if the type has no such
-/// value. Err: an allocation fails.
+/// Returns the value of a parameter's default, in the parameter's type. None if the parameter has
+/// no default, or if the type has no such value. Err: an allocation fails.
 pub fn value_of_default(alloc: Global, parameter: &Parameter) -> Result<Option<Scalar>, AllocError>
     ensures { IfOk result (λ value. value ≡ default_value parameter.now) }
 {

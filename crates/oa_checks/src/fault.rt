@@ -25,7 +25,7 @@ impl Model for WrittenName {
 }
 
 impl WrittenName {
-    /// Copies a name.
+    /// Returns a copy of a name. Err: the allocation fails.
     pub(crate) fn copy(alloc: Global, name: &Name) -> Result<WrittenName, AllocError>
         ensures { IfOk result (λ w. w ≡ name.now) }
     {
@@ -58,12 +58,13 @@ impl Debug for WrittenName {
     }
 }
 
-/// Why a tree is not a library. An error contains the name or GUID of the later of two items that clash, or the name of the parameter,
-/// spelled as in the text.
+/// Why a tree is not a library. An error contains the name or GUID of the later of two items that
+/// clash, or the name of the parameter. Names are spelled as in the text.
 #[derive(Debug, Drop, Error)]
 pub enum CheckError {
-    /// Two items of the library, two members of an interface, two parameters of a member or two entries of a coclass have the same name,
-    /// without regard to the case of A to Z. The get and the put of a property have one name.
+    /// Two items of the library, two members of an interface, two parameters of a member or two
+    /// entries of a coclass have the same name, without regard to the case of A to Z. The get and
+    /// the put of a property have one name.
     #[error("duplicate name {0}")]
     DuplicateName(WrittenName),
     /// Two members of an interface have the same DISPID.
@@ -75,14 +76,15 @@ pub enum CheckError {
     /// An entry of a coclass does not name an interface.
     #[error("unknown interface {0}")]
     UnknownInterface(WrittenName),
-    /// The get and the put of a property differ in the DISPID, in the type of the property's value, or in a parameter's name, type, flags
-    /// or default.
+    /// The get and the put of a property differ in the DISPID, in the type of the property's value,
+    /// or in a parameter's name, type, flags or default.
     #[error("get and put disagree {0}")]
     GetPutDisagree(WrittenName),
     /// A parameter of a property has an array type.
     #[error("array parameter {0}")]
     ArrayParameter(WrittenName),
-    /// A parameter's default has no value of its type; or the new value of a put has a default or is optional.
+    /// A parameter's default has no value of its type; or the new value of a put has a default or
+    /// is optional.
     #[error("bad default {0}")]
     BadDefault(WrittenName),
     /// The canonical text has more than 262,144 bytes.

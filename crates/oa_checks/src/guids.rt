@@ -48,8 +48,8 @@ pub fn is_zero_guid(guid: &Uuid) -> bool
     is_same(guid, &Uuid::nil())
 }
 
-/// Returns the place, counted from 0, of the item with a GUID, if it is one of the first eight items. An item of a small library is so
-/// found without hashing.
+/// Returns the place, counted from 0, of the item with a GUID; None if it is not one of the first
+/// eight items. So an item of a small library is found without hashing.
 pub fn place_in_front(items: &[Item], guid: &Uuid) -> Option<usize>
     ensures found { IfSome result (λ place. position (λ i. same guid.now (item_guid i)) items.now ≡ Some place) }
     ensures none { IfNone result (position (λ i. same guid.now (item_guid i)) (take 8 items.now) ≡ None) }

@@ -39,7 +39,8 @@ fn mark_items(items: &mut [Item])
     }
 }
 
-/// Marks one default interface in each coclass: the first entry, unless another one is marked.
+/// Marks one default interface in each coclass, and returns the tree. It is the first entry, unless
+/// another one is marked.
 pub fn mark(tree: Tree) -> Tree
     ensures { result ≡ marked tree }
 {

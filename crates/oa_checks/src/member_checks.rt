@@ -26,7 +26,8 @@ pub(crate) enum MemberCheck {
     Forms,
     /// No parameter of a property is an array.
     Arrays,
-    /// Each default has a value of the parameter's type, and no new value of a put is optional or has a default.
+    /// Each default has a value of the parameter's type, and no new value of a put is optional or
+    /// has a default.
     Defaults,
 }
 
@@ -49,14 +50,14 @@ fn breaks(rule: Rule, later: &Declaration<'_>, earlier: &Declaration<'_>) -> boo
     }
 }
 
-/// Returns the DISPIDs of declarations.
+/// Returns the DISPIDs of declarations. Err: an allocation fails.
 fn ids(alloc: Global, all: &[Declaration<'_>]) -> Result<Vec<i32>, AllocError>
     ensures { IfOk result (λ v. v.items ≡ map (λ d. d.id) all.now) }
 {
     all.iter().map(|d| d.id).collect(alloc)
 }
 
-/// Returns the folded names of declarations.
+/// Returns the folded names of declarations. Err: an allocation fails.
 fn folded_names(alloc: Global, all: &[Declaration<'_>]) -> Result<Vec<Vec<u16>>, AllocError>
     ensures { IfOk result (λ v. map (λ k. k.items) v.items ≡ map (λ d. folded_name d.name) all.now) }
 {
@@ -67,7 +68,8 @@ fn folded_names(alloc: Global, all: &[Declaration<'_>]) -> Result<Vec<Vec<u16>>,
     Ok(keys)
 }
 
-/// Returns for each declaration the last place before it with the same DISPID.
+/// Returns for each declaration the last place before it with the same DISPID; None if there is
+/// none. Err: an allocation fails.
 fn same_ids_before(alloc: Global, all: &[Declaration<'_>]) -> Result<Vec<Option<usize>>, AllocError>
     ensures { IfOk result (λ v. v.items ≡ places_before (alike OneMember) [] all.now) }
 {
@@ -75,7 +77,8 @@ fn same_ids_before(alloc: Global, all: &[Declaration<'_>]) -> Result<Vec<Option<
     earlier(alloc, keys)
 }
 
-/// Returns for each declaration the last place before it with the same name.
+/// Returns for each declaration the last place before it with the same name; None if there is none.
+/// Err: an allocation fails.
 fn same_names_before(
     alloc: Global,
     all: &[Declaration<'_>],
@@ -86,7 +89,8 @@ fn same_names_before(
     earlier(alloc, keys)
 }
 
-/// Returns for each declaration the last place before it to which a rule applies.
+/// Returns for each declaration the last place before it to which a rule applies; None if there is
+/// none. Err: an allocation fails.
 fn places_before(
     alloc: Global,
     rule: Rule,
@@ -118,7 +122,8 @@ fn is_broken(
     breaks(rule, later, earlier)
 }
 
-/// Returns the name of the first declaration that violates a rule together with one before it.
+/// Returns the name of the first declaration that violates a rule together with one before it; None
+/// if there is none. `before` are the places of `places_before`.
 fn first_broken<'a>(
     rule: Rule,
     all: &[Declaration<'a>],
@@ -137,7 +142,8 @@ fn first_broken<'a>(
     None
 }
 
-/// Returns the name of the first declaration that violates a rule together with one before it. Err: an allocation fails.
+/// Returns the name of the first declaration that violates a rule together with one before it; None
+/// if there is none. Err: an allocation fails.
 fn check_rule<'a>(
     alloc: Global,
     rule: Rule,
@@ -156,7 +162,7 @@ fn is_array(value_type: ValueType) -> bool
     matches!(value_type, ValueType::Array(_))
 }
 
-/// Returns the first parameter with an array type.
+/// Returns the first parameter with an array type; None if there is none.
 fn find_array(parameters: &[Parameter]) -> Option<&Parameter>
     ensures { option_copied result ≡ find (λ p. is_array p.value_type) parameters.now }
 {
@@ -173,7 +179,7 @@ fn name_of(parameter: Option<&Parameter>) -> Option<&Name>
     }
 }
 
-/// Returns the name of the first array among the parameters of a property.
+/// Returns the name of the first array among the parameters of a get or put; None if there is none.
 fn array_in<'a>(declaration: &Declaration<'a>) -> Option<&'a Name>
     ensures { option_copied result ≡ array_in declaration.now }
 {
@@ -194,14 +200,14 @@ fn is_bad(parameter: &Parameter) -> bool
     }
 }
 
-/// Returns the first parameter whose default has no value of its type.
+/// Returns the first parameter whose default has no value of its type; None if there is none.
 fn find_bad(parameters: &[Parameter]) -> Option<&Parameter>
     ensures { option_copied result ≡ find (λ p. is_bad p.value_type p.default) parameters.now }
 {
     parameters.iter().find(|p| is_bad(p))
 }
 
-/// Returns the name of the new value of a put, if it is optional or has a default.
+/// Returns the name of the new value of a put, if it is optional or has a default; otherwise None.
 fn optional_value<'a>(declaration: &Declaration<'a>) -> Option<&'a Name>
     ensures { option_copied result ≡ option_and_then if_optional (new_value declaration.now) }
 {
@@ -213,8 +219,9 @@ fn optional_value<'a>(declaration: &Declaration<'a>) -> Option<&'a Name>
     }
 }
 
-/// Returns the name of the first parameter of a declaration whose default has no value of its type, or of a new value that is optional or
-/// has a default.
+/// Returns the name of the first parameter of a declaration whose default has no value of its type.
+/// Otherwise returns the name of a new value that is optional or has a default; None if there is
+/// none.
 fn bad_default_in<'a>(declaration: &Declaration<'a>) -> Option<&'a Name>
     ensures { option_copied result ≡ bad_default_in declaration.now }
 {
@@ -224,7 +231,8 @@ fn bad_default_in<'a>(declaration: &Declaration<'a>) -> Option<&'a Name>
     }
 }
 
-/// Returns the name of the first array among the parameters of properties.
+/// Returns the name of the first array among the parameters of gets and puts; None if there is
+/// none.
 fn first_array<'a>(all: &[Declaration<'a>]) -> Option<&'a Name>
     ensures { option_copied result ≡ first_answer array_in all.now }
 {
@@ -236,7 +244,7 @@ fn first_array<'a>(all: &[Declaration<'a>]) -> Option<&'a Name>
     None
 }
 
-/// Returns the name of the first parameter with a bad default.
+/// Returns the name of the first parameter with a bad default; None if there is none.
 fn first_bad_default<'a>(all: &[Declaration<'a>]) -> Option<&'a Name>
     ensures { option_copied result ≡ first_answer bad_default_in all.now }
 {
@@ -248,7 +256,8 @@ fn first_bad_default<'a>(all: &[Declaration<'a>]) -> Option<&'a Name>
     None
 }
 
-/// Runs a check of an interface's declarations.
+/// Runs a check of an interface's declarations. Returns the name that it finds, or None. Err: an
+/// allocation fails.
 fn check_declarations<'a>(
     alloc: Global,
     check: MemberCheck,
@@ -264,7 +273,7 @@ fn check_declarations<'a>(
     }
 }
 
-/// Runs a check of an interface.
+/// Runs a check of an interface. Returns the name that it finds, or None. Err: an allocation fails.
 fn check_interface(
     alloc: Global,
     check: MemberCheck,
@@ -276,7 +285,8 @@ fn check_interface(
     check_declarations(alloc, check, all.as_slice())
 }
 
-/// Runs a check of an item, if it is an interface.
+/// Runs a check of an item, if it is an interface. Returns the name that it finds, or None. Err: an
+/// allocation fails.
 fn check_inside(alloc: Global, check: MemberCheck, item: &Item) -> Result<Option<&Name>, AllocError>
     ensures { IfOk result (λ name. option_copied name ≡ in_interface (breach_by check) item.now) }
 {
@@ -286,7 +296,8 @@ fn check_inside(alloc: Global, check: MemberCheck, item: &Item) -> Result<Option
     }
 }
 
-/// Runs a check of all interfaces and returns the first name that it finds.
+/// Runs a check of all interfaces, in their order. Returns the first name that it finds; None if no
+/// interface violates the check. Err: an allocation fails.
 pub(crate) fn check_members(
     alloc: Global,
     check: MemberCheck,

@@ -5,14 +5,15 @@ ghost use Rattle.oa_checks.specs.Libraries.{as_interface, as_class};
 
 use oa_idl::{Coclass, Interface, Item, Tree};
 
-/// Returns the entry of a list at a place, or None.
+/// Returns the entry of a list at a place, counted from 0; None if there is none.
 pub fn at<T>(items: &[T], place: usize) -> Option<&T>
     ensures { option_copied result ≡ slice_get items.now place }
 {
     items.get(place)
 }
 
-/// Returns the interface at a place. None if the item is a coclass, or if there is none.
+/// Returns the interface at a place among the items, counted from 0. None if the item is a coclass,
+/// or if there is none.
 pub fn interface_at(items: &[Item], place: usize) -> Option<&Interface>
     ensures { option_copied result ≡ option_and_then as_interface (slice_get items.now place) }
 {
@@ -22,7 +23,8 @@ pub fn interface_at(items: &[Item], place: usize) -> Option<&Interface>
     }
 }
 
-/// Returns the coclass at a place. None if the item is an interface, or if there is none.
+/// Returns the coclass at a place among the items, counted from 0. None if the item is an
+/// interface, or if there is none.
 pub fn class_at(items: &[Item], place: usize) -> Option<&Coclass>
     ensures { option_copied result ≡ option_and_then as_class (slice_get items.now place) }
 {

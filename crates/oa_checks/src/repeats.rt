@@ -15,7 +15,7 @@ pub(crate) enum Distinct<K: Eq + Hash + Drop> {
 }
 
 impl<K: Eq + Hash + Drop> Distinct<K> {
-    /// Returns the first place of a repeated key, if there is one.
+    /// Returns the first place of a repeated key, counted from 0; None if there is none.
     pub(crate) fn repeat(self) -> Option<usize>
         ensures { result ≡ repeat_of self }
     {
@@ -26,7 +26,7 @@ impl<K: Eq + Hash + Drop> Distinct<K> {
     }
 }
 
-/// Collects the keys, or finds the first place of a repeated one. Err: an allocation fails.
+/// Returns the keys as a set, or the first place of a repeated one. Err: an allocation fails.
 pub(crate) fn told_apart<K: Eq + Hash + Drop>(
     alloc: Global,
     keys: Vec<K>,
@@ -43,7 +43,8 @@ pub(crate) fn told_apart<K: Eq + Hash + Drop>(
     Ok(Distinct::All(seen))
 }
 
-/// Returns for each key the last place before it with an equal key.
+/// Returns for each key the last place before it with an equal key; None if there is none. Err: an
+/// allocation fails.
 pub(crate) fn earlier<K: Eq + Hash + Drop>(
     alloc: Global,
     keys: Vec<K>,

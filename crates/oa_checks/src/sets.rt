@@ -39,7 +39,8 @@ impl FoldedNames {
         }
     }
 
-    /// Adds a folded name; returns false if it is a member already.
+    /// Adds a folded name. Returns whether it is new: `false` if it is a member already. Err: an
+    /// allocation fails.
     pub(crate) fn insert(&mut self, name: Vec<u16>) -> Result<bool, AllocError>
         ensures added { IfOk result (λ b. b ≡ not (list_any (same name.items) self.old)) }
         ensures keys { OnOk result (self.new ≡ insert_key same self.old name.items) }
@@ -47,7 +48,7 @@ impl FoldedNames {
         Ok(self.keys.insert(name)?)
     }
 
-    /// Returns the place of a folded name, or None.
+    /// Returns the place of a folded name, counted from 0; None if it is no member.
     pub fn place(&self, name: &[u16]) -> Option<usize>
         ensures { result ≡ position (same name.now) self.now }
     {
@@ -83,7 +84,7 @@ impl Guids {
         Guids { keys }
     }
 
-    /// Returns the place of a GUID. None if no item has it.
+    /// Returns the place of the item with a GUID, counted from 0; None if no item has it.
     pub fn place(&self, guid: &Uuid) -> Option<usize>
         ensures { result ≡ position (same guid.now) self.now }
     {

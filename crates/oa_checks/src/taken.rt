@@ -7,7 +7,8 @@ use crate::folding::folded;
 use crate::sets::FoldedNames;
 use std::alloc::{AllocError, Global};
 
-/// The folded names of declarations: those that a get must not have, and those that a put must not have.
+/// The folded names of declarations: those that a get must not have, and those that a put must not
+/// have.
 #[derive(Drop)]
 pub(crate) struct Taken {
     reading: FoldedNames,
@@ -40,7 +41,8 @@ impl Taken {
         }
     }
 
-    /// Adds the name of a declaration. Returns false if it is occupied.
+    /// Adds the name of a declaration. Returns whether it was free: `false` if it is occupied. Err:
+    /// an allocation fails.
     pub(crate) fn take(
         &mut self,
         alloc: Global,

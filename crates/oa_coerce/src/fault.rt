@@ -20,7 +20,8 @@ pub enum CoerceFault {
 }
 
 impl CoerceFault {
-    /// Returns the code of the reply (MS-ERREF section 2.1): DISP_E_OVERFLOW, DISP_E_TYPEMISMATCH or E_OUTOFMEMORY.
+    /// Returns the code of the reply (MS-ERREF section 2.1): DISP_E_OVERFLOW, DISP_E_TYPEMISMATCH
+    /// or E_OUTOFMEMORY.
     pub fn code(self) -> HResult
         ensures { result ≡ coercion_code self }
     {

@@ -57,7 +57,8 @@ pub fn scalar_answer_is_coercion()
     ensures refused { (s : AScalar) (to : AType) (f : AFault) → RefusesScalar s to f → coerced_scalar s to ≡ Err f }
 {}
 
-/// The function `coerced` computes the result of the coercion of a value, or its refusal except `Memory`.
+/// The function `coerced` computes the result of the coercion of a value, or its refusal except
+/// `Memory`.
 pub fn answer_is_coercion()
     ensures made { (v made : AVariant) (to : AValueType) → Coerces v to made ↔ (coerced v to ≡ Ok made) }
     ensures refused { (v : AVariant) (to : AValueType) (f : AFault) → RefusesCoercion v to f → is_memory f ≡ false → coerced v to ≡ Err f }

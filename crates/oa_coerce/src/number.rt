@@ -60,7 +60,8 @@ fn nearest_whole(whole: u128, unit: u128) -> u128
     }
 }
 
-/// Returns the nearest count of units of 1 / 10^places to a number, and the even one of two that are equally near.
+/// Returns the nearest count of units of 1 / 10^`places` to a number, and the even one of two that
+/// are equally near.
 pub(crate) fn nearest(number: Number, places: u8) -> i128
     requires scale { number.scale ≤ 28 }
     requires count { unsigned_abs number.count < 2 ^ 96 }
@@ -73,7 +74,8 @@ pub(crate) fn nearest(number: Number, places: u8) -> i128
     if number.count < 0 { -count } else { count }
 }
 
-/// Returns the scalar of an integer type or of CY with this count of units. None if the type has no such scalar.
+/// Returns the scalar of an integer type or of CY with this count of units. None if the type has no
+/// such scalar.
 pub(crate) fn with_count(to: VarType, count: i128) -> Option<Scalar>
     requires { IsTrue (counts_units to) }
     ensures some { IfSome result (λ made. (type_of made ≡ to) × (key_number made ≡ count)) }

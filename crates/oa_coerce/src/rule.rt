@@ -22,7 +22,8 @@ pub(crate) enum Rule {
     NoRule,
 }
 
-/// Returns whether the values of a type are whole counts of one unit: those of the integer types and of CY.
+/// Returns whether the values of a type are whole counts of one unit: those of the integer types
+/// and of CY.
 pub(crate) fn counts_units(one: VarType) -> bool
     ensures { result ≡ counts_units one }
 {

@@ -13,10 +13,12 @@ use oa_model::{ValueType, VarType};
 use oa_variant::{Decimal, Scalar, Variant};
 use std::alloc::Global;
 
-/// Coerces a scalar to a type. Every scalar is unchanged as VARIANT. Allocates nothing.
+/// Coerces a scalar to a type, and returns the result. Every scalar is unchanged as VARIANT.
+/// Allocates nothing.
 ///
-/// Err contains the scalar and the reason: `TypeMismatch` if and only if there is no rule for the two types; `Overflow` if and only if the
-/// number, rounded to the type's unit, is outside the range of the type.
+/// Err contains the scalar and the reason: `TypeMismatch` if and only if there is no rule for the
+/// two types; `Overflow` if and only if the number, rounded to the type's unit, is outside the
+/// range of the type.
 pub fn coerce_scalar(value: Scalar, to: VarType) -> Result<Scalar, (Scalar, CoerceFault)>
     ensures made { IfOk result (λ made. CoercesScalar value to made) }
     ensures refused { IfErr result (λ e. (e.0 ≡ value) × RefusesScalar value to e.1) }
@@ -25,7 +27,7 @@ pub fn coerce_scalar(value: Scalar, to: VarType) -> Result<Scalar, (Scalar, Coer
     scalar_by_rule(value, to)
 }
 
-/// As `coerce_scalar`, with a contract over the relation alone.
+/// Coerces a scalar as `coerce_scalar` does. Its contract is over the relation alone.
 fn scalar_by_rule(value: Scalar, to: VarType) -> Result<Scalar, (Scalar, CoerceFault)>
     ensures made { IfOk result (λ made. CoercesScalar value to made) }
     ensures refused { IfErr result (λ e. (e.0 ≡ value) × RefusesScalar value to e.1) }
@@ -48,10 +50,12 @@ fn scalar_by_rule(value: Scalar, to: VarType) -> Result<Scalar, (Scalar, CoerceF
     }
 }
 
-/// Coerces a value to a declared type, which must be a scalar type or that of an array with an sfType. Every value is unchanged as VARIANT.
+/// Coerces a value to a declared type, and returns the result. The type must be a scalar type or
+/// that of an array with an sfType. Every value is unchanged as VARIANT.
 ///
-/// Err contains the value and the reason: `TypeMismatch` if and only if there is no rule for the two types; `Overflow` if and only if the
-/// number, rounded to the type's unit, is outside the range of the type; `Memory` if EMPTY is to become an array and an allocation fails.
+/// Err contains the value and the reason: `TypeMismatch` if and only if there is no rule for the
+/// two types; `Overflow` if and only if the number, rounded to the type's unit, is outside the
+/// range of the type; `Memory` if EMPTY is to become an array and an allocation fails.
 #[inline(always)]
 pub fn coerce(
     alloc: Global,
@@ -66,7 +70,7 @@ pub fn coerce(
     value_by_rule(alloc, value, declared)
 }
 
-/// As `coerce`, with a contract over the relation alone.
+/// Coerces a value as `coerce` does. Its contract is over the relation alone.
 #[inline(always)]
 fn value_by_rule(
     alloc: Global,
@@ -83,8 +87,8 @@ fn value_by_rule(
     other_value(alloc, value, declared)
 }
 
-/// Returns whether a value is a long, as most are, and the declared type is long. The caller then returns the value without a call, so that
-/// it is not moved.
+/// Returns whether a value is a long, as most are, and the declared type is long. The caller then
+/// returns the value without a call, so that it is not moved.
 #[inline(always)]
 fn is_long(value: &Variant, declared: ValueType) -> bool
     ensures { IsTrue result → fits_declared value.now declared ≡ true }
@@ -95,7 +99,7 @@ fn is_long(value: &Variant, declared: ValueType) -> bool
     }
 }
 
-/// As `value_by_rule`, for any value.
+/// Coerces any value as `value_by_rule` does.
 fn other_value(
     alloc: Global,
     value: Variant,

@@ -5,7 +5,7 @@ use Rattle.oa_commands.specs.Shown.{shown_name}
 use Rattle.oa_commands.specs.declared.fault.Fault.{Fault}
 use Rattle.oa_commands.specs.declared.fault.Fault.TheVariants as faults
 
--- they are at most as many as a library's text may have
+-- they are not more than a library's text may have
 abbrev pub IsWithinLimit : List ℕ → Type 0
 IsWithinLimit bytes = length bytes ≤ max_library_bytes
 

@@ -22,7 +22,8 @@ pub struct Place {
 }
 
 impl Place {
-    /// Returns the place of the byte `at` in a text. The end of the text is a place, too.
+    /// Returns the place of the byte `at` in a text, counted from 0. The end of the text is a
+    /// place, too. Err: an allocation failed.
     pub(crate) fn of(
         alloc: Global,
         file: &str,
@@ -55,7 +56,7 @@ struct Line {
 }
 
 impl Line {
-    /// The first line of a text.
+    /// Returns the first line of a text.
     fn new(alloc: Global) -> Line
         ensures number { result.number ≡ 1 }
         ensures column { result.column ≡ 1 }
@@ -72,7 +73,7 @@ impl Line {
         }
     }
 
-    /// Reads a character; `is_before` says whether it is before the place.
+    /// Reads a character; `is_before` is whether it is before the place. Err: an allocation failed.
     fn take(&mut self, c: char, is_before: bool) -> Result<(), AllocError>
         ensures { OnOk result (ReadsCharacter c is_before self.old self.new) }
     {
@@ -89,7 +90,8 @@ impl Line {
         Ok(())
     }
 
-    /// Begins the next line, except between a CR and its LF.
+    /// Begins the next line, except between a CR and its LF. `c` is the character that ends this
+    /// one.
     fn end(&mut self, c: char)
         ensures { BeginsLine c self.old self.new }
     {
@@ -101,7 +103,7 @@ impl Line {
         self.blank.clear();
     }
 
-    /// Returns the place that was reached, in a file.
+    /// Returns the place that was reached, in the file with this name. Err: an allocation failed.
     fn placed(
         self,
         alloc: Global,
@@ -130,7 +132,8 @@ fn is_end(c: char) -> bool
     c == '\n' || c == '\r'
 }
 
-/// Returns blanks as wide as the text before a line, and those of the line.
+/// Returns blanks as wide as the text before a line, and those of the line. Err: an allocation
+/// failed.
 fn blanks(alloc: Global, head: &str, of_line: &str) -> Result<String, AllocError> {
     let mut blanks = String::new(alloc);
     for _ in head.chars() {

@@ -13,13 +13,19 @@ use oa_journal::{LEAST_BANK_BYTES, MOST_BANK_BYTES, Shape};
 use oa_store::OldStore;
 use std::alloc::Global;
 
-/// Upgrades the store of format 1 in the file `path` to format 2, with banks of `bank` bytes, or the nearest size
-/// from 20 MiB to 1 GiB. Returns its file, locked. A file that is too short is lengthened.
+/// Upgrades the store of format 1 in the file `path` to format 2, with banks of `bank` bytes, or
+/// the nearest size from 20 MiB to 1 GiB. Returns its file, locked. A file that is too short is
+/// lengthened.
 ///
-/// Errors before anything is written: `CannotRead` and `InUse` as of `open_store_file`; `NotAStore`; `AlreadyNew` for
-/// a store of format 2; `Damaged` with the place in bytes, 0 if the contents do not fit into a bank of that size.
-/// Others: `CannotWrite` if the file cannot be lengthened, or this process may not write files of that length;
-/// `DeviceRead` and `DeviceWrite` if a call of the device failed; `Memory` at any point.
+/// Errors before anything is written:
+///
+/// - `CannotRead` and `InUse`, as of `open_store_file`;
+/// - `NotAStore`; `AlreadyNew` for a store of format 2;
+/// - `Damaged` with the place in bytes, 0 if the contents do not fit into a bank of that size.
+///
+/// Others: `CannotWrite` if the file cannot be lengthened, or this process may not write files of
+/// that length; `DeviceRead` and `DeviceWrite` if a call of the device failed; `Memory` at any
+/// point.
 pub fn upgrade_store(
     rt: &HostRuntime,
     streams: &StandardStreams,
@@ -37,7 +43,8 @@ pub fn upgrade_store(
     )
 }
 
-/// Upgrades the store, with banks of a valid size. Errors of the contents come before the file is lengthened.
+/// Upgrades the store, with banks of `bank` bytes, which is a valid size. Errors of the contents
+/// come before the file is lengthened; all are those of `upgrade_store`.
 fn upgraded(
     rt: &HostRuntime,
     streams: &StandardStreams,
@@ -57,7 +64,8 @@ fn upgraded(
     Ok(long)
 }
 
-/// Lengthens the file, if it is shorter. It keeps its contents, unless a call of it has failed.
+/// Lengthens the file to `size` bytes, if it is shorter. It keeps its contents, unless a call of it
+/// has failed. Errors: `CannotWrite`, `Memory`.
 fn lengthened(
     rt: &HostRuntime,
     alloc: Global,

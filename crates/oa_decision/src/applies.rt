@@ -25,6 +25,7 @@ pub(crate) fn refusal_of(table: &Table, event: &Event) -> Option<TableFault>
     }
 }
 
+/// Refuses a number that is not the table's next one, or is above the greatest number.
 fn of_create(table: &Table, number: u32) -> Option<TableFault>
     ensures { (class : List ℕ) → GivesReason (applied (events.Create number class) table.now) result }
 {
@@ -34,6 +35,7 @@ fn of_create(table: &Table, number: u32) -> Option<TableFault>
     None
 }
 
+/// Refuses the release of an object that is not live, or that has a locked array.
 fn of_release(table: &Table, number: u32) -> Option<TableFault>
     ensures { GivesReason (applied (events.Release number) table.now) result }
 {
@@ -46,6 +48,7 @@ fn of_release(table: &Table, number: u32) -> Option<TableFault>
     None
 }
 
+/// Refuses a put into an object that is not live, or over a locked array.
 fn of_put(table: &Table, name: &CellName) -> Option<TableFault>
     ensures { (value : AVariant) → GivesReason (applied (events.Put name.now value) table.now) result }
 {
@@ -60,6 +63,8 @@ fn of_put(table: &Table, name: &CellName) -> Option<TableFault>
     None
 }
 
+/// Refuses an element of an object that is not live, of a cell without an array, or that the array
+/// refuses.
 fn of_element(
     table: &Table,
     name: &CellName,
@@ -77,6 +82,7 @@ fn of_element(
     }
 }
 
+/// Refuses an index list that names no element, and then an element of another type.
 fn of_array_element(
     array: &SafeArray<Scalar>,
     index: &[i32],
@@ -96,6 +102,8 @@ fn of_array_element(
     }
 }
 
+/// Refuses a bound for an object that is not live, for a cell without an array, or that the array
+/// refuses.
 fn of_redim(table: &Table, name: &CellName, bound: Bound) -> Option<TableFault>
     ensures { GivesReason (applied (events.Redim name.now bound) table.now) result }
 {
@@ -108,6 +116,7 @@ fn of_redim(table: &Table, name: &CellName, bound: Bound) -> Option<TableFault>
     }
 }
 
+/// Refuses a bound for a locked array, and then one that the array cannot have.
 fn of_array_redim(array: &SafeArray<Scalar>, bound: Bound) -> Option<TableFault>
     ensures { GivesReason (redimensioned_value bound (variants.Array array.now)) result }
 {

@@ -30,7 +30,8 @@ mod type_info;
 mod unlock;
 mod value_call;
 
-/// The things on which a reply depends: a library, a table of its objects, and how large the table may grow.
+/// The things on which a reply depends: a library, a table of its objects, and how large the table
+/// may grow.
 #[derive(Drop)]
 pub struct Decider<'a> {
     alloc: Global,
@@ -49,7 +50,8 @@ impl<'a> Model for Decider<'a> {
 }
 
 impl<'a> Decider<'a> {
-    /// Makes a decider over this library and this table, with a bank's body of `bank` bytes. Allocates nothing.
+    /// Makes a decider over this library and this table, with a bank's body of `bank` bytes.
+    /// Allocates nothing.
     pub fn new(alloc: Global, bank: u32, library: &'a Library, table: &'a Table) -> Decider<'a>
         ensures { result ≡ record { bank = bank; library = library.now; table = table.now } }
     {
@@ -61,10 +63,11 @@ impl<'a> Decider<'a> {
         }
     }
 
-    /// Decides a request: the reply, or the change that it asks for, which may still be refused. It only reads.
-    /// Errors: `Refused` with the first refusal in the documented order; `OutOfMemory` if an allocation fails, which
-    /// is needed for the arguments of a call, for the fields of a reply, and for the zero array of a cell that a
-    /// REDIM changes and that was never put.
+    /// Decides a request: the reply, or the change that it asks for, which may still be refused. It
+    /// only reads. Errors: `Refused` with the first refusal in the documented order; `OutOfMemory`
+    /// if an allocation fails. It allocates for the arguments of a call and for the fields of a
+    /// reply. It also allocates the zero array of a cell that a REDIM changes and that was never
+    /// put.
     pub fn decide(&self, request: Request) -> Result<Decision, Undecided>
         ensures decided { Decides (decided self.now request) (DecidingTakesMemory self.now request) result }
         ensures unlocked { IfOk result ChangesNoLocks }
@@ -85,7 +88,7 @@ impl<'a> Decider<'a> {
         }
     }
 
-    /// Decides a request with a number.
+    /// Decides a request with a number. Errors are those of `decide`.
     fn decide_number(&self, kind: ByNumber, number: u32) -> Result<Decision, Undecided>
         ensures decided { Decides (decided self.now (requests.ByNumber kind number)) (DecidingTakesMemory self.now (requests.ByNumber kind number)) result }
         ensures unlocked { IfOk result ChangesNoLocks }
@@ -96,7 +99,7 @@ impl<'a> Decider<'a> {
         }
     }
 
-    /// Decides a request with a call.
+    /// Decides a request with a call. Errors are those of `decide`.
     fn decide_call(&self, kind: ByCall, call: Call) -> Result<Decision, Undecided>
         ensures decided { Decides (decided self.now (requests.ByCall kind call)) (DecidingTakesMemory self.now (requests.ByCall kind call)) result }
         ensures unlocked { IfOk result ChangesNoLocks }
@@ -108,7 +111,7 @@ impl<'a> Decider<'a> {
         }
     }
 
-    /// Decides a request without fields: it is always answered.
+    /// Decides a request without fields, which is always answered. Err: `OutOfMemory`.
     fn answered(&self, query: Query) -> Result<Decision, Undecided>
         ensures decided { Decides (answered self.now query) (IsOk (answered self.now query)) result }
         ensures unlocked { IfOk result ChangesNoLocks }
@@ -118,7 +121,7 @@ impl<'a> Decider<'a> {
         Ok(Decision::Answer { code, fields })
     }
 
-    /// Returns the fields of its reply.
+    /// Returns the fields of the reply to a request without fields. Err: an allocation failed.
     fn told(&self, query: Query) -> Result<Fields, AllocError>
         ensures { IfOk result (λ fields. fields ≡ told self.now query) }
     {

@@ -17,9 +17,11 @@ use thiserror::Error;
 pub enum Decision {
     /// The reply has this code and these fields. Nothing changes.
     Answer { code: HResult, fields: Fields },
-    /// The table is to be changed, and the reply then has these fields; if the change is refused, so is the request.
+    /// The table is to be changed, and the reply then has these fields; if the change is refused,
+    /// so is the request.
     Change { event: SizedEvent, fields: Fields },
-    /// A lock is to be changed, and the reply then has these fields; if the change is refused, so is the request.
+    /// A lock is to be changed, and the reply then has these fields; if the change is refused, so
+    /// is the request.
     Relock { change: LockChange, fields: Fields },
 }
 

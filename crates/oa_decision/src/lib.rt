@@ -1,10 +1,10 @@
-//! Deciding about a request, over a library, a table of objects and its locks, which are only read: the reply, the
-//! change that it asks for, or why it is refused.
+//! Deciding about a request, over a library, a table of objects and its locks, which are only read:
+//! the reply, the change that it asks for, or why it is refused.
 //!
-//! Contract: `Decider::decide` returns the defined decision (`decided`), or out of memory if an allocation may be
-//! needed (`Decides`). `Decider::plan_value` does so for a call with no more than a new value (`PlansValue`).
-//! `disallowed` returns why an event is not allowed (`allowed`), and `is_surely_within` is true only within the
-//! limits.
+//! Contract: `Decider::decide` returns the defined decision (`decided`), or out of memory if an
+//! allocation may be needed (`Decides`). `Decider::plan_value` does so for a call with no more than
+//! a new value (`PlansValue`). `disallowed` returns why an event is not allowed (`allowed`), and
+//! `is_surely_within` is true only within the limits.
 //!
 //! Used by oa_turn, which makes the changes.
 #![tactic(auto)]

@@ -13,15 +13,18 @@ use oa_image::{RESERVED_BYTES, SizedEvent};
 use oa_model::{HResult, MAX_EVENT_BYTES};
 use oa_table::{Event, Table};
 
-/// Returns the largest table image, in bytes, for a bank body of `bank` bytes: 5,242,880 fewer.
+/// Returns the greatest length in bytes of a table's image for a bank body of `bank` bytes:
+/// 5,242,880 fewer, or 0.
 pub fn most_of(bank: u32) -> u64
     ensures { result ≡ bank - reserved_bytes }
 {
     u64::from(bank.saturating_sub(RESERVED_BYTES))
 }
 
-/// Returns the first limit that `event` breaks, or None, for a bank body of `bank` bytes. Order: the table's own
-/// refusal; E_INVALIDARG (the event's image is too long); STG_E_MEDIUMFULL (the table's would be). Allocates nothing.
+/// Returns the first limit that `event` breaks, for a bank body of `bank` bytes; None if it breaks
+/// none. Order: the table's own refusal; E_INVALIDARG if the event's image has more than
+/// `MAX_EVENT_BYTES` bytes; STG_E_MEDIUMFULL if the table's image would be too long. Allocates
+/// nothing.
 pub fn disallowed(bank: u32, table: &Table, event: &SizedEvent) -> Option<HResult>
     ensures { GivesReason (allowed bank event.now table.now) result }
 {
@@ -37,8 +40,9 @@ pub fn disallowed(bank: u32, table: &Table, event: &SizedEvent) -> Option<HResul
     None
 }
 
-/// A cheap test: it is true only if an event that applies is within all limits; false decides nothing. It is true for
-/// each event whose table image surely fits, and for a put if its own image still fits after the present one.
+/// Returns true only if an event that applies is within all limits, for a bank body of `bank`
+/// bytes; false decides nothing. The test is cheap. It is true for each event whose table image
+/// surely fits, and for a put if its own image still fits after the present one.
 pub fn is_surely_within(bank: u32, table: &Table, event: &SizedEvent) -> bool
     ensures within { result ≡ true → StaysWithin bank event.now table.now }
     ensures known { event_size event.now ≤ max_event_bytes → most_after event.now table.now ≤ bank - reserved_bytes → result ≡ true }
@@ -46,8 +50,8 @@ pub fn is_surely_within(bank: u32, table: &Table, event: &SizedEvent) -> bool
     event.len() <= MAX_EVENT_BYTES && has_surely_room(bank, table, event)
 }
 
-/// True only if the image of the table is short enough after an event. A put adds at most its event's image, so
-/// neither is its value measured again nor its cell looked up.
+/// True only if the image of the table is short enough after an event. A put adds at most its
+/// event's image, so its value is not measured again, and its cell is not looked up.
 fn has_surely_room(bank: u32, table: &Table, event: &SizedEvent) -> bool
     ensures room { result ≡ true → size_after event.now table.now ≤ bank - reserved_bytes }
     ensures known { most_after event.now table.now ≤ bank - reserved_bytes → result ≡ true }
@@ -59,8 +63,8 @@ fn has_surely_room(bank: u32, table: &Table, event: &SizedEvent) -> bool
     }
 }
 
-/// Returns whether the image of the table is too long after an event that applies. For a put that surely fits, it is
-/// not computed.
+/// Returns whether the image of the table is too long after an event that applies. For a put that
+/// surely fits, it is not computed.
 fn is_too_large(bank: u32, table: &Table, event: &SizedEvent) -> bool
     ensures { (new : TableValue) → applied event.now table.now ≡ Ok new → result ≡ nat_lt (bank - reserved_bytes) (table_size new) }
 {

@@ -19,8 +19,8 @@ use oa_table::{CellName, LiveObject, Place};
 use oa_typelib::{Access, Dispinterface, Kind, Member};
 use oa_variant::Variant;
 
-/// The cell of a property that a call addresses, and the call's new value for it. Public for the definitions that use
-/// it.
+/// The cell of a property that a call addresses, and the call's new value for it. Public for the
+/// definitions that use it.
 #[derive(Drop)]
 pub struct BoundCell {
     /// The cell.
@@ -32,9 +32,11 @@ pub struct BoundCell {
 }
 
 impl Decider<'_> {
-    /// Finds the cell of a property that a call addresses. Refusals, in this order: those of the object, its
-    /// interface and riid; of the member, if it does not have the form that `access` requires; of the arguments.
-    /// These are bound in the form that an INVOKE's flags ask for, and as those of a get for any other access.
+    /// Finds the cell of a property that a call addresses. Arguments are bound in the form that an
+    /// INVOKE's flags ask for, and as those of a get for any other access.
+    ///
+    /// Errors: `OutOfMemory`; and `Refused`, in this order: for the object, its interface and riid;
+    /// for the member, if it does not have the form that `access` requires; for the arguments.
     #[tactic(auto, unfolding(crate::specs::Cells::cell_called))]
     pub(super) fn find_cell(&self, call: Call, access: Access) -> Result<BoundCell, Undecided>
         ensures cell { FindsDue (cell_called self.now call access) (FindingTakesMemory self.now call access) result }
@@ -44,7 +46,8 @@ impl Decider<'_> {
         self.find_cell_of(object, call, access)
     }
 
-    /// Finds the cell for an object that was found.
+    /// Finds the cell that a call addresses, for an object that was found. Errors are the later
+    /// ones of `find_cell`.
     #[tactic(auto, unfolding(crate::specs::Cells::cell_called))]
     pub(super) fn find_cell_of(
         &self,
@@ -61,7 +64,8 @@ impl Decider<'_> {
         self.find_cell_in(&interface, call, access)
     }
 
-    /// Finds the cell for an interface that was found.
+    /// Finds the cell that a call addresses, for an interface that was found. Errors: `Refused` for
+    /// the member or the arguments; `OutOfMemory`.
     #[tactic(auto, unfolding(crate::specs::Cells::cell_called))]
     fn find_cell_in(
         &self,
@@ -91,7 +95,8 @@ impl Decider<'_> {
         })
     }
 
-    /// Binds the arguments of a call to the parameters of a property.
+    /// Binds the arguments of a call to the parameters of a property. Errors: `Refused`,
+    /// `OutOfMemory`.
     fn bind_call(
         &self,
         member: &Member<'_>,
@@ -109,8 +114,8 @@ impl Decider<'_> {
     }
 }
 
-/// Finds the member of an interface that a call addresses, in the form that the call asks for. Arguments can be bound
-/// to it.
+/// Finds the member of an interface that a call addresses, in the form that the call asks for.
+/// Arguments can be bound to it. Err: there is no such member, or it does not have the form.
 fn find_member<'a>(
     interface: &Dispinterface<'a>,
     dispid: i32,
@@ -122,7 +127,7 @@ fn find_member<'a>(
     Ok(interface.member(dispid, access)?)
 }
 
-/// Returns the form in which arguments are bound.
+/// Returns the form in which arguments are bound: `form` for an INVOKE, a get for any other access.
 fn bound_as(access: Access, form: Kind) -> Kind
     ensures { result ≡ bound_as access form }
 {

@@ -16,7 +16,8 @@ use oa_table::Event;
 use uuid::Uuid;
 
 impl Decider<'_> {
-    /// Decides a CREATE: a new object with the next number. It allocates only if the object can be made.
+    /// Decides a CREATE: a new object of coclass `class` with the next number. It allocates only if
+    /// the object can be made. Errors: `Refused` as of `find_class` and `find_room`; `OutOfMemory`.
     pub(super) fn creation(&self, class: Uuid) -> Result<Decision, Undecided>
         ensures decided { Decides (creation self.now class) (IsOk (creation self.now class)) result }
         ensures unlocked { IfOk result ChangesNoLocks }
@@ -29,7 +30,7 @@ impl Decider<'_> {
         Ok(Decision::Change { event, fields })
     }
 
-    /// Checks that the table may have a new object.
+    /// Checks that the table may have a new object. Err: the first limit that it would break.
     fn find_room(&self, creation: &SizedEvent) -> Result<(), Refusal>
         ensures { result ≡ fitting (allowed self.now.bank creation.now self.now.table) }
     {
@@ -39,7 +40,8 @@ impl Decider<'_> {
         }
     }
 
-    /// Checks that an object of a coclass can be made.
+    /// Checks that an object of a coclass can be made. Err: REGDB_E_CLASSNOTREG if the library has
+    /// no such coclass; E_UNEXPECTED if there are too many live objects or no number is left.
     fn find_class(&self, class: &Uuid) -> Result<(), Refusal>
         ensures { result ≡ class_found self.now class.now }
     {

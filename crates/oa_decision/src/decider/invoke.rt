@@ -20,7 +20,8 @@ use oa_variant::Variant;
 use std::alloc::AllocError;
 
 impl Decider<'_> {
-    /// Decides an INVOKE: a get replies with the value of its cell, a put sets it.
+    /// Decides an INVOKE: a get replies with the value of its cell, a put sets it. Errors are those
+    /// of `find_cell`; `OutOfMemory`.
     pub(super) fn invocation(&self, call: Call) -> Result<Decision, Undecided>
         ensures decided { Decides (invocation self.now call) (FindingTakesMemory self.now call (Flags call.head.flags) ⊎ IsOk (invocation self.now call)) result }
         ensures unlocked { IfOk result ChangesNoLocks }
@@ -31,7 +32,8 @@ impl Decider<'_> {
         self.cell_decided(object, cell)
     }
 
-    /// Decides about a cell that was found: it is read, or set to the new value.
+    /// Decides about a cell that was found: it is read, or set to the new value. Err: an allocation
+    /// failed.
     #[tactic(auto, using(crate::proofs::Zeros::no_locks))]
     fn cell_decided(&self, object: &LiveObject, cell: BoundCell) -> Result<Decision, Undecided>
         requires object { object_at cell.name.object self.now.table ≡ Some object.now }
@@ -59,7 +61,8 @@ impl Decider<'_> {
         }
     }
 
-    /// Returns the value of a cell of an object as the fields of a reply.
+    /// Returns the value of a cell of an object as the fields of a reply: the zero of its declared
+    /// type if it was never put. Err: an allocation failed.
     pub(super) fn value_field(
         &self,
         object: &LiveObject,

@@ -12,7 +12,9 @@ use oa_record::{Call, number_field};
 use oa_typelib::Access;
 
 impl Decider<'_> {
-    /// Decides a LOCK, which adds a lock to the array in a cell. The reply contains the new count.
+    /// Decides a LOCK, which adds a lock to the array in a cell. The reply contains the new number
+    /// of locks. Errors: `Refused` for the cell (as of `find_cell`) or if it has no array;
+    /// `OutOfMemory`.
     pub(super) fn locking(&self, call: Call) -> Result<Decision, Undecided>
         ensures decided { Decides (locking self.now call) (FindingTakesMemory self.now call Get ⊎ IsOk (locking self.now call)) result }
         ensures unlocked { IfOk result ChangesNoLocks }

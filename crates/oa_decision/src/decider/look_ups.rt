@@ -12,7 +12,7 @@ use oa_record::{GetIds, ids_field};
 use oa_typelib::DispIds;
 
 impl Decider<'_> {
-    /// Decides a look-up of names.
+    /// Decides a look-up of names. Errors: `Refused` for the interface or the names; `OutOfMemory`.
     #[tactic(auto, unfolding(crate::specs::LookUps::ids_found))]
     pub(super) fn look_up(&self, call: GetIds) -> Result<Decision, Undecided>
         ensures decided { Decides (look_up self.now call) (IsOk (look_up self.now call)) result }
@@ -23,7 +23,8 @@ impl Decider<'_> {
         self.ids_answer(found)
     }
 
-    /// Returns the reply to names; it contains their DISPIDs even if not all names are known.
+    /// Returns the reply to names; it contains their DISPIDs even if not all names are known, with
+    /// DISP_E_UNKNOWNNAME as its code. Err: an allocation failed.
     fn ids_answer(&self, found: DispIds) -> Result<Decision, Undecided>
         requires { length found.ids ≤ max_names }
         ensures decided { Decides (Ok (ids_answer found)) ⊤ result }

@@ -22,7 +22,8 @@ use oa_typelib::Access;
 use oa_variant::{Scalar, Variant};
 
 impl Decider<'_> {
-    /// Decides a PUTELEM: an element of an array is set in place.
+    /// Decides a PUTELEM: an element of an array is set in place. Errors: `Refused` for the cell
+    /// (as of `find_cell`), the element or the value; `OutOfMemory`.
     pub(super) fn element_put(
         &self,
         call: Call,
@@ -43,7 +44,8 @@ impl Decider<'_> {
         Ok(Decision::Change { event, fields })
     }
 
-    /// Coerces a value to the element of a cell at an index list.
+    /// Coerces a value to the type of the element of a cell at an index list. Err: the cell has no
+    /// array, no such element, or the coercion fails.
     fn element_for(
         &self,
         cell: &BoundCell,
@@ -56,7 +58,8 @@ impl Decider<'_> {
         as_element(elem, value)
     }
 
-    /// Returns the type of the element of a cell at an index list.
+    /// Returns the type of the element of a cell at an index list. Err: the cell has no array, or
+    /// no such element.
     fn element_type_in(&self, cell: &BoundCell, index: &[i32]) -> Result<VarType, Refusal>
         ensures { result ≡ element_type_in self.now index.now cell.now }
     {
@@ -67,7 +70,7 @@ impl Decider<'_> {
     }
 }
 
-/// Coerces a value to an element of a type. An array is refused.
+/// Coerces a value to an element of a type. Err: the value is an array, or the coercion fails.
 fn as_element(elem: VarType, value: Variant) -> Result<Scalar, Refusal>
     ensures { result ≡ as_element elem value }
 {

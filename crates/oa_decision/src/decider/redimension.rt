@@ -20,7 +20,9 @@ use oa_typelib::Access;
 use oa_variant::Variant;
 
 impl Decider<'_> {
-    /// Decides a REDIM: the array in a cell gets another first bound. A cell that was never put is put.
+    /// Decides a REDIM: the array in a cell gets another first bound. A cell that was never put is
+    /// put. Errors: `Refused` for the cell (as of `find_cell`), or if one that was never put cannot
+    /// have the bound; `OutOfMemory`.
     pub(super) fn redimension(&self, call: Call, bound: Bound) -> Result<Decision, Undecided>
         ensures decided { Decides (redimension self.now call bound) (FindingTakesMemory self.now call Put ⊎ IsOfNeverPut self.now call) result }
         ensures unlocked { IfOk result ChangesNoLocks }
@@ -41,7 +43,8 @@ impl Decider<'_> {
         })
     }
 
-    /// Returns the zero of a declared type with another first bound.
+    /// Returns the zero of a declared type with another first bound. Errors: `Refused` if the type
+    /// is no array, or the array cannot have the bound; `OutOfMemory`.
     fn zero_with(&self, bound: Bound, declared: ValueType) -> Result<Variant, Undecided>
         requires { HasZero declared }
         ensures value { FindsDue (zero_with bound declared) ⊤ result }

@@ -12,8 +12,9 @@ use oa_model::HResult;
 use oa_typelib::DescribeError;
 
 impl Decider<'_> {
-    /// Decides a TYPEINFO: the description of an interface or a coclass of the library. It allocates only if there is
-    /// one.
+    /// Decides a TYPEINFO: the description of the interface or coclass of the library with this
+    /// index, counted from 0. It allocates only if there is one. Errors: `Refused` with
+    /// DISP_E_BADINDEX if there is none; `OutOfMemory`.
     #[tactic(auto, unfolding(crate::specs::TypeInfo::description_of))]
     pub(super) fn information(&self, index: u32) -> Result<Decision, Undecided>
         ensures decided { Decides (information self.now index) (IsOk (information self.now index)) result }

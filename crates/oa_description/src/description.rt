@@ -28,7 +28,7 @@ fn type_number(value_type: Option<ValueType>) -> u16
     }
 }
 
-/// Returns how a member is called (INVOKEKIND); 0 for one of `properties:`.
+/// Returns the INVOKEKIND of a member; 0 for one of `properties:`.
 fn invoke_kind(kind: DeclarationKind) -> u16
     ensures { result ≡ invoke_kind kind }
 {
@@ -53,7 +53,7 @@ fn member_flags(kind: DeclarationKind) -> u16
     }
 }
 
-/// Returns a flag if it is set.
+/// Returns the flag `n` if it is set, otherwise 0.
 fn flag(is_set: bool, n: u16) -> u16
     ensures { result ≡ flag is_set n }
 {
@@ -70,7 +70,7 @@ fn parameter_flags(parameter: &DescribedParameter<'_>) -> u16
     of_in + of_optional + of_default
 }
 
-/// Type, flags, a reserved number.
+/// Returns the first 8 bytes of a parameter: type, flags, a reserved number.
 #[tactic(auto, unfolding(oa_record::specs::Replies::word, oa_record::specs::Replies::half_word, crate::specs::DescriptionFields::parameter_head))]
 fn parameter_head(parameter: &DescribedParameter<'_>) -> [u8; 8]
     ensures { result ≡ parameter_head parameter.now }
@@ -80,7 +80,7 @@ fn parameter_head(parameter: &DescribedParameter<'_>) -> [u8; 8]
     [a, b, c, d, 0, 0, 0, 0]
 }
 
-/// Appends a name as a string.
+/// Appends a name as a string. Err: an allocation fails, or the name is too long, as in no library.
 fn put_name(out: &mut Vec<u8>, name: &Name) -> Result<(), AllocError>
     ensures { OnOk result (out.new.items ≡ out.old.items ++ string_field name.now) }
 {
@@ -89,7 +89,7 @@ fn put_name(out: &mut Vec<u8>, name: &Name) -> Result<(), AllocError>
     out.extend_from_slice(&field)
 }
 
-/// Appends the field of a default.
+/// Appends the field of a default, if there is one. Err: an allocation fails.
 #[tactic(auto, unfolding(crate::specs::DescriptionFields::default_field))]
 fn put_default(out: &mut Vec<u8>, default: Option<&Scalar>) -> Result<(), AllocError>
     ensures { OnOk result (out.new.items ≡ out.old.items ++ default_field (option_copied default.entry)) }
@@ -104,7 +104,7 @@ fn put_default(out: &mut Vec<u8>, default: Option<&Scalar>) -> Result<(), AllocE
     }
 }
 
-/// Appends a parameter.
+/// Appends a parameter. Err: an allocation fails.
 #[tactic(auto, unfolding(crate::specs::DescriptionFields::parameter_field))]
 fn put_parameter(out: &mut Vec<u8>, parameter: &DescribedParameter<'_>) -> Result<(), AllocError>
     ensures { OnOk result (out.new.items ≡ out.old.items ++ parameter_field parameter.now) }
@@ -114,6 +114,7 @@ fn put_parameter(out: &mut Vec<u8>, parameter: &DescribedParameter<'_>) -> Resul
     put_default(out, parameter.default)
 }
 
+/// Appends parameters in their order. Err: an allocation fails.
 fn put_parameters(
     out: &mut Vec<u8>,
     parameters: &[DescribedParameter<'_>],
@@ -126,7 +127,7 @@ fn put_parameters(
     Ok(())
 }
 
-/// Returns a count in 2 bytes. Err: it is greater, as in no library.
+/// Returns a count as u16. Err: it is greater, as in no library.
 fn count(n: usize) -> Result<u16, AllocError>
     ensures value { IfOk result (λ x. x ≡ n) }
     ensures great { OnErr result (65535 < n) }
@@ -134,7 +135,7 @@ fn count(n: usize) -> Result<u16, AllocError>
     u16::try_from(n).map_err(|_| AllocError)
 }
 
-/// Returns a count in 4 bytes. Err: it is greater, as in no library.
+/// Returns a count as u32. Err: it is greater, as in no library.
 fn wide_count(n: usize) -> Result<u32, AllocError>
     ensures value { IfOk result (λ x. x ≡ n) }
     ensures great { OnErr result (4294967295 < n) }
@@ -142,7 +143,8 @@ fn wide_count(n: usize) -> Result<u32, AllocError>
     u32::try_from(n).map_err(|_| AllocError)
 }
 
-/// DISPID, kind, flags, type, the number of parameters, a reserved number.
+/// Returns the first 16 bytes of a member: DISPID, kind, flags, type, the number of parameters, a
+/// reserved number. Err: it has too many parameters, as in no library.
 #[tactic(auto, unfolding(oa_record::specs::Replies::word, oa_record::specs::Replies::half_word, crate::specs::DescriptionFields::member_head))]
 fn member_head(member: &DescribedMember<'_>) -> Result<[u8; 16], AllocError>
     ensures { IfOk result (λ head. head ≡ member_head member.now) }
@@ -156,7 +158,7 @@ fn member_head(member: &DescribedMember<'_>) -> Result<[u8; 16], AllocError>
     Ok([a, b, c, d, e, f, g, h, i, j, k, l, 0, 0, 0, 0])
 }
 
-/// Appends a member.
+/// Appends a member. Err: an allocation fails.
 #[tactic(auto, unfolding(crate::specs::DescriptionFields::member_field))]
 fn put_member(out: &mut Vec<u8>, member: &DescribedMember<'_>) -> Result<(), AllocError>
     ensures { OnOk result (out.new.items ≡ out.old.items ++ member_field member.now) }
@@ -167,6 +169,7 @@ fn put_member(out: &mut Vec<u8>, member: &DescribedMember<'_>) -> Result<(), All
     put_parameters(out, member.parameters.as_slice())
 }
 
+/// Appends members in their order. Err: an allocation fails.
 fn put_members(out: &mut Vec<u8>, members: &[DescribedMember<'_>]) -> Result<(), AllocError>
     ensures { OnOk result (out.new.items ≡ out.old.items ++ flat_map member_field members.now) }
 {
@@ -176,7 +179,7 @@ fn put_members(out: &mut Vec<u8>, members: &[DescribedMember<'_>]) -> Result<(),
     Ok(())
 }
 
-/// 1 for the default interface, the index of the interface.
+/// Returns the 8 bytes of an entry: 1 for the default interface, and the index of the interface.
 #[tactic(auto, unfolding(oa_record::specs::Replies::word, crate::specs::DescriptionFields::entry_field))]
 fn entry_field(entry: &DescribedEntry) -> [u8; 8]
     ensures { result ≡ entry_field entry.now }
@@ -186,6 +189,7 @@ fn entry_field(entry: &DescribedEntry) -> [u8; 8]
     [a, b, 0, 0, c, d, e, f]
 }
 
+/// Appends entries in their order. Err: an allocation fails.
 fn put_entries(out: &mut Vec<u8>, entries: &[DescribedEntry]) -> Result<(), AllocError>
     ensures { OnOk result (out.new.items ≡ out.old.items ++ flat_map entry_field entries.now) }
 {
@@ -195,7 +199,8 @@ fn put_entries(out: &mut Vec<u8>, entries: &[DescribedEntry]) -> Result<(), Allo
     Ok(())
 }
 
-/// The kind, the number of entries.
+/// Returns the first 8 bytes of a description: the kind, and the number of entries. Err: there are
+/// too many, as in no library.
 #[tactic(auto, unfolding(oa_record::specs::Replies::word, crate::specs::DescriptionFields::content_head))]
 fn content_head(content: &Content<'_>) -> Result<[u8; 8], AllocError>
     ensures { IfOk result (λ head. head ≡ content_head (content_of content.now)) }
@@ -209,6 +214,7 @@ fn content_head(content: &Content<'_>) -> Result<[u8; 8], AllocError>
     Ok([a, b, c, d, e, f, g, h])
 }
 
+/// Appends the members or the entries of a description. Err: an allocation fails.
 fn put_content(out: &mut Vec<u8>, content: &Content<'_>) -> Result<(), AllocError>
     ensures { OnOk result (out.new.items ≡ out.old.items ++ entry_fields (content_of content.now)) }
 {
@@ -218,7 +224,7 @@ fn put_content(out: &mut Vec<u8>, content: &Content<'_>) -> Result<(), AllocErro
     }
 }
 
-/// Appends the kind, the number of entries and the GUID.
+/// Appends the kind, the number of entries and the GUID. Err: an allocation fails.
 #[tactic(auto, unfolding(crate::specs::DescriptionFields::description_head))]
 fn put_head(out: &mut Vec<u8>, description: &Description<'_>) -> Result<(), AllocError>
     ensures { OnOk result (out.new.items ≡ out.old.items ++ description_head description.now) }
@@ -229,7 +235,7 @@ fn put_head(out: &mut Vec<u8>, description: &Description<'_>) -> Result<(), Allo
     Ok(())
 }
 
-/// Appends a description.
+/// Appends a description. Err: an allocation fails.
 #[tactic(auto, unfolding(crate::specs::DescriptionFields::description_field))]
 fn put_description(out: &mut Vec<u8>, description: &Description<'_>) -> Result<(), AllocError>
     ensures { OnOk result (out.new.items ≡ out.old.items ++ description_field description.now) }
@@ -239,18 +245,40 @@ fn put_description(out: &mut Vec<u8>, description: &Description<'_>) -> Result<(
     put_content(out, &description.content)
 }
 
-/// The fields of a reply that are a description (this project's choice; the numbers are those of MS-OAUT section 2.2: TYPEKIND, INVOKEKIND,
-/// VARTYPE, PARAMFLAGS, and VARFLAG_FREADONLY). At 0 the kind u32, 4 for an interface and 5 for a coclass; at 4 the number of entries u32; at 8
-/// the GUID, 16 bytes in wire order; at 24 the name; then the entries. A name is as `oa_record::string_field` writes it.
+/// Returns the fields of a reply that are a description (this project's choice). The numbers are
+/// those of MS-OAUT section 2.2: TYPEKIND, INVOKEKIND, VARTYPE, PARAMFLAGS, and VARFLAG_FREADONLY.
 ///
-/// An entry of an interface is a member: at its first byte the DISPID i32; at 4 the kind u16, 0 from `properties:`, else 1 a method, 2 a get, 4
-/// a put; at 6 the flags u16, 1 for `readonly`; at 8 the vt u16, 24 (VT_VOID) for none; at 10 the number of parameters u16; at 12 a reserved
-/// u32; at 16 the name; then the parameters. A parameter has the vt u16; at 2 the flags u16, the sum of 1 (in), 0x10 (optional) and 0x20 (has a
-/// default); at 4 a reserved u32; at 8 the name; then its default, if any, as `oa_record::scalar_field` writes it.
+/// | Offset | Part of a description |
+/// |---|---|
+/// | 0 | u32 kind: 4 for an interface, 5 for a coclass |
+/// | 4 | u32 number of entries |
+/// | 8 | 16 bytes GUID, in wire order |
+/// | 24 | the name, as `oa_record::string_field` writes it; then the entries |
 ///
-/// An entry of a coclass has the flags u32, 1 for the default interface, and at 4 the index of the interface u32.
+/// An entry of an interface is a member:
 ///
-/// Err where memory is refused, and for a description of more than 4,294,967,275 bytes, which no library has.
+/// | Offset | Part of a member |
+/// |---|---|
+/// | 0 | i32 DISPID |
+/// | 4 | u16 kind: 0 from `properties:`, 1 a method, 2 a get, 4 a put |
+/// | 6 | u16 flags: 1 for `readonly` |
+/// | 8 | u16 vt: 24 (VT_VOID) for none |
+/// | 10 | u16 number of parameters |
+/// | 12 | u32 reserved |
+/// | 16 | the name; then the parameters |
+///
+/// | Offset | Part of a parameter |
+/// |---|---|
+/// | 0 | u16 vt |
+/// | 2 | u16 flags: the sum of 1 (in), 0x10 (optional) and 0x20 (has a default) |
+/// | 4 | u32 reserved |
+/// | 8 | the name; then its default, if any, as `oa_record::scalar_field` writes it |
+///
+/// An entry of a coclass has at 0 the u32 flags, 1 for the default interface, and at 4 the u32
+/// index of the interface.
+///
+/// Err: an allocation fails, or the description has more than 4,294,967,275 bytes, as in no
+/// library.
 pub fn description_field(
     alloc: Global,
     description: &Description<'_>,

@@ -12,9 +12,9 @@ ghost use Rattle.oa_typelib.specs.Descriptions.{
   interfaces_of,
 };
 
-/// The descriptions of a library's interfaces are followed by one of each coclass, and none leaves an entry out: an
-/// entry names an interface of the library, with an index of 32 bits, and is in the description at its place in the
-/// text.
+/// The descriptions of a library's interfaces are followed by one of each coclass, and none leaves
+/// an entry out. An entry names an interface of the library, with an index of 32 bits. It is in the
+/// description at its place in the text.
 pub fn no_entry_is_left_out()
     ensures described { (library : TreeValue) (index : ℕ) (class : CoclassValue)
         → slice_get (classes_of library.items) index ≡ Some class

@@ -21,7 +21,8 @@ pub enum Tear {
     Cut(u64),
 }
 
-/// Tears the range of one write, and returns the tear for the writes after it: a cut has fewer bytes left.
+/// Tears the range of one write of `bytes` at `at`, and sets `tear` for the writes after it: a cut
+/// has fewer bytes left. Err: an allocation failed.
 fn tear_range(
     alloc: Global,
     disk: &mut Layers,
@@ -49,7 +50,7 @@ fn tear_range(
     }
 }
 
-/// Returns how many calls there are up to and including the last sync; 0 if there is no sync.
+/// Returns the number of calls up to and including the last sync; 0 if there is no sync.
 fn last_sync(calls: &[DeviceCall]) -> usize
     ensures { IsLastSync calls.now result }
 {
@@ -62,7 +63,8 @@ fn last_sync(calls: &[DeviceCall]) -> usize
     end
 }
 
-/// Replays the calls on the disk, and returns how many bytes they wrote.
+/// Replays the calls on the disk, whose writes wrote `written`, and returns how many bytes they
+/// wrote. Err: an allocation failed.
 fn replay(disk: &mut Layers, calls: &[DeviceCall], written: &[u8]) -> Result<usize, AllocError>
     requires inside { AllInside disk.old.size calls.now }
     requires written { count_all calls.now ≤ length written.now }
@@ -80,7 +82,7 @@ fn replay(disk: &mut Layers, calls: &[DeviceCall], written: &[u8]) -> Result<usi
     Ok(from)
 }
 
-/// Replays the calls on the disk with their writes torn.
+/// Replays the calls on the disk with their writes torn. Err: an allocation failed.
 fn tear_all(
     alloc: Global,
     disk: &mut Layers,
@@ -104,7 +106,8 @@ fn tear_all(
     Ok(())
 }
 
-/// Replays the calls up to a point in time, and tears the writes after the last sync before it.
+/// Replays the calls up to the point in time `moment`, and tears the writes after the last sync
+/// before it. `moment` is `2k - 1` within call k, and `2k` after it. Err: an allocation failed.
 pub(crate) fn leave_at(
     alloc: Global,
     disk: &mut Layers,

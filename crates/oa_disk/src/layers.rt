@@ -35,6 +35,7 @@ impl Layers {
         }
     }
 
+    /// Returns a copy. Err: an allocation failed.
     pub(crate) fn copy(&self, alloc: Global) -> Result<Layers, AllocError>
         ensures bytes { IfOk result (λ copy. laid copy ≡ laid self.now) }
         ensures size { IfOk result (λ copy. copy.size ≡ self.now.size) }
@@ -46,7 +47,8 @@ impl Layers {
         })
     }
 
-    /// Adds a write of these bytes at `at`. Err: an allocation failed, and nothing changed.
+    /// Adds a write of these bytes from byte `at` on. Err: an allocation failed, and nothing
+    /// changed.
     pub(crate) fn put(&mut self, at: usize, bytes: &[u8]) -> Result<(), AllocError>
         requires { at + length bytes.now ≤ self.old.size }
         ensures bytes { OnOk result (laid self.new ≡ overwritten (laid self.old) at bytes.now) }
@@ -58,7 +60,7 @@ impl Layers {
         Ok(())
     }
 
-    /// Fills the buffer with the bytes from `at` on.
+    /// Fills the buffer with the bytes of the image from byte `at` on.
     pub(crate) fn give(&self, at: usize, bytes: &mut [u8])
         requires { at + length bytes.old ≤ self.now.size }
         ensures bytes { HasBytesAt (laid self.now) at bytes.new }
@@ -69,13 +71,14 @@ impl Layers {
     }
 }
 
+/// Fills the bytes with 0.
 fn clear(bytes: &mut [u8])
     ensures { bytes.new ≡ replicate (length bytes.old) 0 }
 {
     bytes.fill(0);
 }
 
-/// Copies the bytes to place `at` of the window.
+/// Copies the bytes to the window, from its byte `at` on.
 fn put(window: &mut [u8], at: usize, bytes: &[u8])
     requires { at + length bytes.now ≤ length window.old }
     ensures bytes { window.new ≡ overwritten window.old at bytes.now }
@@ -84,7 +87,8 @@ fn put(window: &mut [u8], at: usize, bytes: &[u8])
     window[at..at + bytes.len()].copy_from_slice(bytes);
 }
 
-/// Applies a write at place `to` of a disk to the window, which shows the disk from place `at` on.
+/// Applies a write of these bytes at byte `to` of a disk to the window, which shows the disk from
+/// byte `at` on.
 fn show(window: &mut [u8], at: usize, to: usize, bytes: &[u8])
     requires window { at + length window.old < 2 ^ 64 }
     requires bytes { to + length bytes.now < 2 ^ 64 }
@@ -99,7 +103,8 @@ fn show(window: &mut [u8], at: usize, to: usize, bytes: &[u8])
     }
 }
 
-/// Applies the calls to the window, which shows the disk from place `at` on.
+/// Applies the writes among the calls to the window, which shows the disk from byte `at` on.
+/// `written` is what they wrote, one after the other.
 pub(crate) fn overlay(window: &mut [u8], at: usize, calls: &[DeviceCall], written: &[u8])
     requires window { at + length window.old < 2 ^ 64 }
     requires inside { AllInside (2 ^ 64 - 1) calls.now }

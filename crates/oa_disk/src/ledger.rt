@@ -4,8 +4,8 @@ ghost use Rattle.std.specs.Prelude.{◌≤◌, length, vec_capacity, IfOk, ◌^�
 use crate::{DeviceCall, DeviceFault};
 use std::alloc::{AllocError, Global};
 
-/// A log of bounded size: at most a number of calls, and of bytes written by them. Calls above the bounds are only
-/// counted.
+/// A bounded log of disk calls: at most `most_calls`, with at most `most_bytes` written by them
+/// together. A further call fails, and is only counted.
 #[derive(Drop)]
 pub struct Ledger {
     pub calls: Vec<DeviceCall>,
@@ -24,7 +24,8 @@ pub struct Ledger {
 impl Ledger {
     ghost use Rattle.oa_disk.specs.Ledger.{Enters, IsEmpty};
 
-    /// Makes an empty log and reserves its memory. Err: an allocation failed.
+    /// Makes an empty log of at most `most_calls` calls, which write at most `most_bytes` bytes
+    /// together, and reserves its memory. Err: an allocation failed.
     pub(crate) fn new(
         alloc: Global,
         most_calls: usize,
@@ -41,8 +42,8 @@ impl Ledger {
         })
     }
 
-    /// Logs a call and the bytes that it writes, without allocating. If the log is full, it counts the call and
-    /// returns the fault.
+    /// Logs a call and the bytes that it writes, without allocating. Err: the log is full; the call
+    /// is only counted, and the given fault is returned.
     pub(crate) fn enter(
         &mut self,
         call: DeviceCall,

@@ -11,9 +11,9 @@ use crate::ledger::Ledger;
 use crate::{DeviceCall, DeviceFault, Disk, Tear};
 use std::alloc::{AllocError, Global};
 
-/// A disk in memory. It logs each call, so a crash at any point in time can be made: 0 is its start, `2k - 1` lies
-/// within call k, and `2k` after it. Reads, writes and syncs are its calls, numbered from 1. It uses memory for its
-/// calls and the written bytes, not for its size.
+/// A disk in memory. It logs each call, so a crash at any point in time can be made: 0 is its
+/// start, `2k - 1` lies within call k, and `2k` after it. Reads, writes and syncs are its calls,
+/// numbered from 1. It uses memory for its calls and the written bytes, not for its size.
 #[derive(Drop)]
 pub struct MemoryDisk {
     alloc: Global,
@@ -28,9 +28,9 @@ impl MemoryDisk {
     ghost use Rattle.oa_disk.specs.After.{BeginsHonest};
     ghost use Rattle.oa_disk.specs.Memory.{contents_of, state_at, moments_of, IsFresh, IsTornAt};
 
-    /// Makes a disk of `size` zeros, all of them on the device, and reserves memory for its calls and for the bytes
-    /// of all writes; the calls then allocate nothing. A call that exceeds either fails and changes nothing. Err: an
-    /// allocation failed.
+    /// Makes a disk of `size` zeros, all of them on the device. It reserves memory for `calls`
+    /// calls, and for `bytes` bytes of all writes together; the calls then allocate nothing. A call
+    /// that exceeds either fails and changes nothing. Err: an allocation failed.
     pub fn new(
         alloc: Global,
         size: usize,
@@ -53,9 +53,11 @@ impl MemoryDisk {
         2 * self.ledger.calls.len() as u64
     }
 
-    /// Returns the disk after a crash at that point in time, with a new log of the same bounds. `tear` decides what
-    /// is left of the writes that no sync had brought to the device by then, including one that had only begun. The
-    /// cost is a copy of what was written, however large the disk is. Err: an allocation failed.
+    /// Returns the disk after a crash at the point in time `moment`, with a new log of the same
+    /// bounds. `moment` is at most `moments()`: `2k - 1` lies within call k, and `2k` after it.
+    /// `tear` decides what is left of the writes that no sync had brought to the device by then,
+    /// including one that had only begun. The cost is a copy of what was written, however large the
+    /// disk is. Err: an allocation failed.
     pub fn crash(&self, moment: u64, tear: Tear) -> Result<MemoryDisk, AllocError>
         requires { moment ≤ moments_of self.now }
         ensures torn { IfOk result (λ disk. IsTornAt self.now tear moment (contents_of disk)) }
@@ -84,7 +86,8 @@ impl MemoryDisk {
         )
     }
 
-    /// Makes a disk with these contents, all of them on the device.
+    /// Makes a disk with these contents, all of them on the device, and with bounds of its log as
+    /// `new` has them. Err: an allocation failed.
     fn over(
         alloc: Global,
         first: Layers,
@@ -112,7 +115,7 @@ impl MemoryDisk {
         Ok(bytes)
     }
 
-    /// Fills the buffer with the contents from `at` on.
+    /// Fills the buffer with the contents of the disk from byte `at` on.
     fn show(&self, at: usize, bytes: &mut [u8])
         requires { at + length bytes.old ≤ self.now.first.size }
         ensures bytes { HasBytesAt (contents_of self.now) at bytes.new }
@@ -123,8 +126,8 @@ impl MemoryDisk {
     }
 }
 
-/// Each call has the clauses of the trait, and one more. It is executed exactly if the log has space for it, and is
-/// then logged; otherwise only the count of failures changes.
+/// Each call has the clauses of the trait, and one more. It is executed exactly if the log has
+/// space for it, and is then logged; otherwise only the count of failures changes.
 impl Disk for MemoryDisk {
     ghost use Rattle.oa_disk.specs.declared.call.DeviceCall.TheVariants.{Read, Write, Sync};
     ghost use Rattle.oa_disk.specs.Memory.{history_of, contents_of, moments_of, image_of, image_since_of, IsRecorded};

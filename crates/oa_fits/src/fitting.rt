@@ -12,9 +12,9 @@ use oa_typelib::Library;
 use oa_variant::{Scalar, Variant};
 use uuid::Uuid;
 
-/// Returns whether a table fits a library: the coclass of each object is in the library, and each cell is one of a
-/// property of an interface of that coclass, with a value for each of its parameters, and a value of its own, of the
-/// declared types. Allocates nothing.
+/// Returns whether a table fits a library. The coclass of each object is in the library. Each cell
+/// is one of a property of an interface of that coclass. It has a value for each of the property's
+/// parameters, and a value of its own, of the declared types. Allocates nothing.
 pub fn fits(library: &Library, table: &Table) -> bool
     ensures { result ≡ fits library.now table.now }
 {
@@ -26,6 +26,7 @@ pub fn fits(library: &Library, table: &Table) -> bool
     true
 }
 
+/// Returns whether an object fits a library.
 fn object_fits(library: &Library, object: &LiveObject) -> bool
     ensures { result ≡ object_fits library.now object.now }
 {
@@ -41,6 +42,7 @@ fn object_fits(library: &Library, object: &LiveObject) -> bool
     true
 }
 
+/// Returns whether a cell with this place and value fits a library, in an object of this coclass.
 fn cell_fits(library: &Library, class: &Uuid, place: &Place, value: &Variant) -> bool
     ensures { result ≡ cell_fits library.now class.now (place.now, value.now) }
 {
@@ -72,6 +74,7 @@ fn key_fits(parameters: &[Parameter], key: &[Scalar]) -> bool
     rest.is_empty()
 }
 
+/// Returns whether a value of a key is of the declared type of its parameter, which is no array.
 fn value_fits(value: &Scalar, declared: ValueType) -> bool
     ensures { result ≡ fits_declared (One value.now) declared }
 {

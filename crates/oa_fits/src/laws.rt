@@ -17,8 +17,8 @@ ghost use Rattle.oa_fits.specs.Fits.{entered, fits};
 
 use oa_variant::laws::equal_is_same;
 
-/// The first table fits each library. If a table fits its library, it still does after an event whose values fit, and
-/// after each change of locks, which do not matter for that.
+/// The first table fits each library. If a table fits its library, it still does after an event
+/// whose values fit. It also does after each change of locks, which do not matter for that.
 pub fn changes_that_fit()
     ensures first { (library : TreeValue) → fits library first_table ≡ true }
     ensures event { (library : TreeValue) (table : TableValue) (event : AnEvent) → fits library table ≡ true
@@ -33,8 +33,9 @@ pub fn changes_that_fit()
     equal_is_same();
 }
 
-/// A call addresses what a fitting cell belongs to: the interface that it selects, also by the zero GUID, is one of
-/// the coclass with its own GUID, and the member that it finds, in any form, is the property with the DISPID.
+/// A call addresses what a fitting cell belongs to. The interface that it selects, also by the zero
+/// GUID, is one of the coclass with its own GUID. The member that it finds, in any form, is the
+/// property with the DISPID.
 pub fn calls_reach_what_fits()
     ensures interface { (library : TreeValue) (class guid : List ℕ) → IsChecked library
         → IfSome (selected_in library class guid) (λ found. entered library class found.guid ≡ Some found) }

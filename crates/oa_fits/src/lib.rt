@@ -1,4 +1,5 @@
-//! Which tables fit a library: the objects are of its coclasses, and the cells are of their properties.
+//! Which tables fit a library: the objects are of its coclasses, and the cells are of their
+//! properties.
 //!
 //! Contract: `fits` is true exactly for these tables, and the changes of requests preserve it
 //! (`laws::changes_that_fit`).

@@ -22,8 +22,8 @@ pub enum Framing {
 /// The next item of the input.
 #[derive(Clone, Copy, Debug, PartialEq, Eq)]
 pub enum Read {
-    /// A body of this many bytes, and whether it is in the read-ahead buffer: then it is the last part that was
-    /// consumed of it.
+    /// A body of this many bytes, and whether it is in the read-ahead buffer: then it is the last
+    /// part that was consumed of it.
     Body(usize, bool),
     /// What ends the session.
     Ends(End),
@@ -31,13 +31,14 @@ pub enum Read {
     Unwritten,
 }
 
-/// Reads body number `number`, counted from 1, and consumes nothing after it. The body is at the start of `body`, or
-/// it is the last part that was consumed of the read-ahead buffer.
+/// Reads body number `number`, counted from 1, and consumes nothing after it. It is the first
+/// `count` bytes of `body`, or, if `is_ahead`, the last `count` bytes that were consumed of the
+/// read-ahead buffer: `count` and `is_ahead` are those of the returned `Read::Body`.
 ///
-/// If all of it was read ahead, neither reader nor writer is called. Otherwise the writer is flushed before the first
-/// byte is consumed, and the reader is called at most `MAX_READ_CALLS` times. Allocates nothing: `line` has capacity
-/// for the longest line (records do not use it), and `body` for the longest body. `body` is lengthened at most to the
-/// length of a body that comes.
+/// If all of it was read ahead, neither reader nor writer is called. Otherwise the writer is
+/// flushed before the first byte is consumed, and the reader is called at most `MAX_READ_CALLS`
+/// times. Allocates nothing: `line` has capacity for the longest line (records do not use it), and
+/// `body` for the longest body. `body` is lengthened at most to the length of a body that comes.
 #[inline(always)]
 pub fn read_body<R: Source + Drop, W: Sink>(
     framing: Framing,

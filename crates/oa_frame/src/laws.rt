@@ -14,7 +14,8 @@ pub fn one_line()
         → FirstLine bytes line rest → FirstLine bytes line' rest' → (line ≡ line') × (rest ≡ rest') }
 {}
 
-/// In a framing, bytes contain one list of bodies and one end of it, unless a fault of the reader ended the reading.
+/// In a framing, bytes contain one list of bodies and one end of it, unless a fault of the reader
+/// ended the reading.
 pub fn one_end()
     ensures { (framing : AFraming) (bytes rest rest' : List ℕ) (alone : List ℕ → Bool) (bodies others : List (List ℕ)) (why other : AnEnd)
         → ReadTo (frames framing) (At why) bodies bytes rest

@@ -30,7 +30,7 @@ pub(crate) enum Found {
     Fault,
 }
 
-/// How much of a line was consumed.
+/// The part of a line that was consumed.
 #[derive(Clone, Copy)]
 pub(crate) enum Piece {
     /// All up to its line feed.
@@ -41,9 +41,10 @@ pub(crate) enum Piece {
     Part,
 }
 
-/// Reads one line into `line`, which has capacity for the longest one, without its line feed and a carriage return
-/// before that. It consumes nothing after the line feed. The writer has been flushed, so a client that sends the line
-/// has received all replies.
+/// Reads one line into `line`, which has capacity for the longest one, without its line feed and a
+/// carriage return before that. It consumes nothing after the line feed. `TooLong` is a line above
+/// `LINE_LIMIT` characters, `Fault` a failed reader or more than `MAX_READ_CALLS` calls of it. The
+/// writer has been flushed, so a client that sends the line has received all replies.
 pub(crate) fn read_line<R: Source + Drop, W: Sink>(
     reader: &mut Ahead<R>,
     writer: &W,
@@ -78,7 +79,8 @@ pub(crate) fn read_line<R: Source + Drop, W: Sink>(
     Found::Fault
 }
 
-/// Consumes the part of the read-ahead buffer that belongs to the line.
+/// Consumes the part of the read-ahead buffer that belongs to the line, and appends it to `line`
+/// without the line feed.
 fn take_piece<R: Source + Drop>(reader: &mut Ahead<R>, line: &mut Vec<u8>) -> Piece
     requires room { max_line_characters + 1 ≤ vec_capacity line.now }
     requires short { length line.old.items ≤ max_line_characters + 1 }
@@ -111,7 +113,7 @@ fn take_piece<R: Source + Drop>(reader: &mut Ahead<R>, line: &mut Vec<u8>) -> Pi
     }
 }
 
-/// Appends characters, which must fit.
+/// Appends characters to a line that has capacity for them.
 fn push(line: &mut Vec<u8>, bytes: &[u8])
     requires { length line.old.items + length bytes.now ≤ vec_capacity line.old }
     ensures items { line.new.items ≡ line.old.items ++ bytes.now }
@@ -120,7 +122,7 @@ fn push(line: &mut Vec<u8>, bytes: &[u8])
     line.extend_from_slice(bytes).unwrap();
 }
 
-/// A line feed came: drops the carriage return before it.
+/// Ends a line at its line feed, and drops a carriage return before that.
 fn whole(line: &mut Vec<u8>) -> Found
     ensures capacity { vec_capacity line.old ≤ vec_capacity line.new }
     ensures line { line.new.items ≡ without_return line.old.items }
@@ -133,7 +135,8 @@ fn whole(line: &mut Vec<u8>) -> Found
     Found::Line
 }
 
-/// The input ended.
+/// Returns what the end of the input makes of the characters so far: a line, or no line if there
+/// are none.
 fn ended(line: &[u8]) -> Found
     ensures { FindsAtEnd result line.now }
 {

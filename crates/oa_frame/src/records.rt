@@ -29,7 +29,9 @@ pub(crate) enum Got {
     Fault,
 }
 
-/// Reads the body of one record. One that was read ahead whole is not copied.
+/// Reads the body of one record: the last bytes that were consumed of the read-ahead buffer if it
+/// was read ahead whole, otherwise the first bytes of `body`. `Unwritten` if the writer fails
+/// before a wait.
 #[inline(always)]
 pub(crate) fn read_record<R: Source + Drop, W: Sink>(
     reader: &mut Ahead<R>,
@@ -56,7 +58,8 @@ pub(crate) fn read_record<R: Source + Drop, W: Sink>(
     }
 }
 
-/// Returns the length of the first record's body, if all of it is here and it is not an end.
+/// Returns the length in bytes of the first record's body. None if the record is not whole in
+/// `front`, or its length ends the session.
 fn whole_record(front: &[u8]) -> Option<usize>
     ensures within { IfSome result (λ n. (0 < n) × (n ≤ max_request_bytes) × (4 + n ≤ length front.now)) }
     ensures says { IfSome result (λ n. SaysLength (take 4 front.now) n) }
@@ -70,7 +73,8 @@ fn whole_record(front: &[u8]) -> Option<usize>
     }
 }
 
-/// Reads one record. The writer has been flushed, so a client that sends the record has received all replies.
+/// Reads one record. The writer has been flushed, so a client that sends the record has received
+/// all replies.
 #[inline(never)]
 fn read_waiting<R: Source + Drop, W: Sink>(
     reader: &mut Ahead<R>,
@@ -101,7 +105,8 @@ fn read_waiting<R: Source + Drop, W: Sink>(
     }
 }
 
-/// Reads the body of this length after its length was read; `calls` counts the read calls for it.
+/// Reads a body of `n` bytes after its length was read. `calls` read calls were made for the
+/// record.
 fn read_content<R: Source + Drop, W: Sink>(
     reader: &mut Ahead<R>,
     writer: &W,
@@ -131,7 +136,7 @@ fn read_content<R: Source + Drop, W: Sink>(
     read_bytes(reader, writer, body, n, calls)
 }
 
-/// Reads a body of at least one byte into a buffer that is long enough.
+/// Reads a body of `n` bytes, at least one, into a buffer that is long enough.
 fn read_bytes<R: Source + Drop, W: Sink>(
     reader: &mut Ahead<R>,
     writer: &W,
@@ -160,7 +165,8 @@ fn read_bytes<R: Source + Drop, W: Sink>(
     }
 }
 
-/// Reads until a buffer is full; `calls` counts the read calls for the record, at most `MAX_READ_CALLS`.
+/// Reads until `out` is full. `calls` counts the read calls for the record: above `MAX_READ_CALLS`
+/// the result is `Fault`.
 fn fill_up<R: Source + Drop, W: Sink>(
     reader: &mut Ahead<R>,
     writer: &W,
@@ -185,7 +191,8 @@ fn fill_up<R: Source + Drop, W: Sink>(
     if at < out.len() { Got::Fault } else { Got::All }
 }
 
-/// Fills a buffer from place `at` on with bytes that were read ahead, and returns up to which place it is filled.
+/// Fills a buffer from byte `at` on with bytes that were read ahead, and returns the byte after the
+/// last one.
 fn fetch<R: Source + Drop>(reader: &mut Ahead<R>, out: &mut [u8], at: usize) -> usize
     requires { at ≤ length out.old }
     ensures len { length out.new ≡ length out.old }
@@ -199,7 +206,7 @@ fn fetch<R: Source + Drop>(reader: &mut Ahead<R>, out: &mut [u8], at: usize) -> 
     at + n
 }
 
-/// Consumes this many bytes.
+/// Consumes `count` bytes of the read-ahead buffer.
 fn skip<R: Source + Drop>(reader: &mut Ahead<R>, count: usize)
     requires { count ≤ length (read_ahead reader.old) }
     ensures held { read_ahead reader.new ≡ drop count (read_ahead reader.old) }

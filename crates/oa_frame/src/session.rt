@@ -13,7 +13,9 @@ use crate::{End, Framing, Read, read_body};
 use oa_model::MAX_RECORDS;
 use oa_stream::{Ahead, Sink, Source, Unwritten};
 
-/// A server of one client. It may hold replies back, and send those to many bodies at once.
+/// A server of one client. It may hold replies back, and send those to many bodies at once. A body
+/// that *comes alone* (REPLACE LIBRARY) is a barrier: held replies are written and flushed before
+/// it.
 ///
 /// Contracts see a reply as its bytes without a length.
 pub trait Responder {
@@ -23,18 +25,20 @@ pub trait Responder {
     /// A turn: the state before, the body, the replies that are sent then, the state after.
     ghost turn: { Self → List ℕ → List (List ℕ) → Self → Type 0 };
 
-    /// A flush, at the end of the input and before a barrier: the state before, the replies that were still held, the
-    /// state after.
+    /// A flush, at the end of the input and before a barrier: the state before, the replies that
+    /// were still held, the state after.
     ghost ends: { Self → List (List ℕ) → Self → Type 0 };
 
-    /// The bodies that come alone (barriers): held replies are written and flushed before such a body is answered.
+    /// The bodies that come alone (barriers): held replies are written and flushed before such a
+    /// body is answered.
     ghost alone: { List ℕ → Bool };
 
-    /// Returns whether a body comes alone.
+    /// Returns whether a body comes alone, so that held replies have to leave before it.
     fn comes_alone(&self, body: &[u8]) -> bool
         ensures { result ≡ alone body.now };
 
-    /// Answers one body that does not come alone, and writes the replies that are sent then in this framing.
+    /// Answers one body that does not come alone, and writes in this framing the replies that are
+    /// then ready. There may be none. Err: the writer failed.
     fn respond<W: Sink>(
         &mut self,
         framing: Framing,
@@ -47,8 +51,8 @@ pub trait Responder {
         ensures answers { AnswersBody (frames framing) turn result body.now (W.out writer.old) (W.out writer.new) self.old self.new }
         ensures ready { ready self.new };
 
-    /// Answers one body that comes alone, and writes its own reply, if any. No reply is held, and the writer has been
-    /// flushed.
+    /// Answers one body that comes alone, and writes its own reply, if any. No reply is held, and
+    /// the writer has been flushed. Err: the writer failed.
     fn respond_alone<W: Sink>(
         &mut self,
         framing: Framing,
@@ -63,7 +67,8 @@ pub trait Responder {
         ensures answers { AnswersOwn (frames framing) turn result body.now (W.out writer.old) (W.out writer.new) self.old self.new }
         ensures ready { ready self.new };
 
-    /// Writes the replies that are still held: the input has ended, or a body comes alone.
+    /// Writes the replies that are still held: the input has ended, or a body comes alone. Err: the
+    /// writer failed, and the replies that were not written are lost.
     fn finish<W: Sink>(&mut self, framing: Framing, writer: &mut W) -> Result<(), Unwritten>
         requires ready { ready self.old }
         requires unbroken { (W.out writer.old).broken ≡ false }
@@ -76,7 +81,7 @@ pub trait Responder {
         ensures { Abandons ends self.old self.new };
 }
 
-/// Where the writer failed, of one client or of many.
+/// The point at which the writer failed, of one client or of many.
 #[derive(Clone, Copy, Debug, PartialEq, Eq)]
 pub enum Loss {
     /// While the reply was written.
@@ -85,21 +90,24 @@ pub enum Loss {
     Undone,
 }
 
-/// How a session went.
+/// The result of a session.
 #[derive(Clone, Copy, Debug, PartialEq, Eq)]
 pub struct Served {
-    /// How many bodies were read and answered.
+    /// The number of bodies that were read and answered.
     pub requests: u64,
     /// Why it ended.
     pub why: End,
 }
 
-/// Serves one client: reads bodies until the input ends, answers each on a writer, and flushes the writer before
-/// every wait for input and at the end. Held replies are written at the end, and before a body that comes alone. If
-/// they cannot be written or flushed then, that body is not executed and not counted.
+/// Serves one client: reads bodies until the input ends, answers each on a writer, and flushes the
+/// writer before every wait for input and at the end. Returns the number of answered bodies, and
+/// why the session ended.
 ///
-/// `last` is the reply, without a length, to a record that is cut or too long. `line` has capacity for the longest
-/// line, and `body` for the longest body, so nothing is allocated here.
+/// Held replies are written at the end, and before a body that comes alone. If they cannot be
+/// written or flushed then, that body is not executed and not counted.
+///
+/// `last` is the reply, without a length, to a record that is cut or too long. `line` has capacity
+/// for the longest line, and `body` for the longest body, so nothing is allocated here.
 pub fn serve<S: Responder, R: Source + Drop, W: Sink>(
     server: &mut S,
     framing: Framing,
@@ -154,7 +162,8 @@ pub fn serve<S: Responder, R: Source + Drop, W: Sink>(
     Served { requests, why }
 }
 
-/// Returns a body of this many bytes: the last that were consumed of the read-ahead buffer, or the first of `body`.
+/// Returns a body of `count` bytes: if `is_ahead` the last that were consumed of the read-ahead
+/// buffer, otherwise the first of `buffer`.
 #[inline(always)]
 fn body_in<'a, R: Source + Drop>(
     reader: &'a Ahead<R>,
@@ -172,7 +181,8 @@ fn body_in<'a, R: Source + Drop>(
     }
 }
 
-/// Answers a body; if it comes alone, after held replies have left.
+/// Answers a body. If it comes alone, held replies are written and flushed first. Errors: `Undone`
+/// if the writer failed before the body was executed, `Answered` if it failed after that.
 fn answer<S: Responder, W: Sink>(
     server: &mut S,
     framing: Framing,
@@ -197,7 +207,7 @@ fn answer<S: Responder, W: Sink>(
         .map_err(|_| Loss::Answered)
 }
 
-/// Writes held replies, and flushes.
+/// Writes held replies, and flushes. Err: the writer failed.
 fn part<S: Responder, W: Sink>(
     server: &mut S,
     framing: Framing,
@@ -212,7 +222,8 @@ fn part<S: Responder, W: Sink>(
     writer.deliver()
 }
 
-/// Writes the reply to a record that is no request.
+/// Writes the reply `last` if the session ends by a record that is cut or too long. Err: the writer
+/// failed.
 fn put_last<W: Sink>(
     framing: Framing,
     last: &[u8; 16],
@@ -228,7 +239,7 @@ fn put_last<W: Sink>(
     Ok(())
 }
 
-/// Returns whether an end of the session has a reply.
+/// Returns whether this end of the session has a reply: a record that is cut or too long does.
 fn has_reply(why: End) -> bool
     ensures { result ≡ is_answered why }
 {
@@ -238,7 +249,8 @@ fn has_reply(why: End) -> bool
     }
 }
 
-/// Writes the reply to a record that is no request, flushes, and returns why the session ended.
+/// Writes the reply to a record that is no request, flushes, and returns why the session ended:
+/// `WriteFault` if the writer fails.
 fn hand_on<W: Sink>(framing: Framing, last: &[u8; 16], writer: &mut W, why: End) -> End
     requires unbroken { (W.out writer.old).broken ≡ false }
     ensures { HandsOn (frames framing).spelled result why (last_reply last.now why) (W.out writer.old) (W.out writer.new) }
@@ -252,7 +264,8 @@ fn hand_on<W: Sink>(framing: Framing, last: &[u8; 16], writer: &mut W, why: End)
     }
 }
 
-/// Writes everything that is left to write, flushes, and returns why the session ended.
+/// Writes held replies and the reply of this end, flushes, and returns why the session ended:
+/// `WriteFault` if the writer fails.
 fn close<S: Responder, W: Sink>(
     server: &mut S,
     framing: Framing,

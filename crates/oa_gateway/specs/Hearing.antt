@@ -1,4 +1,4 @@
--- What becomes of the server's frames. (This project's choice.)
+-- The decisions on the server's frames. (This project's choice.)
 use Rattle.std.specs.Prelude.{◌≡◌, ◌⊎◌, ◌<◌, ◌≤◌, ℕ, ◌+◌, List, [], ◌∷◌, ◌++◌, length, take, drop, Some}
 use Rattle.std.specs.Prelude.{slice_get, slice_set}
 use Rattle.std.specs.Int.{w32, from_le_bytes}
@@ -12,23 +12,24 @@ use Rattle.oa_gateway.specs.declared.place.Fate.TheVariants as fate
 use Rattle.oa_gateway.specs.declared.hearing.Heard.{Heard}
 use Rattle.oa_gateway.specs.declared.hearing.Heard.TheVariants as heard
 
--- These bytes begin with a frame of this number, which has this in it. The number and the length have four bytes each.
+-- These bytes begin with a frame of this number, with these contents. The number and the length
+-- have four bytes each.
 pub record FirstFrame (bytes : List ℕ) (number : ℕ) (inside : List ℕ) : Type 0 where
   pub client : number < 4294967296
   pub short : length inside < 4294967296
   pub rest : List ℕ
   pub whole : bytes ≡ frame_of number inside ++ rest
 
--- they are no whole frame
+-- these bytes are no whole frame
 abbrev pub IsPartFrame : List ℕ → Type 0
 IsPartFrame bytes = (length bytes < 8) ⊎ (length bytes < 8 + from_le_bytes w32 (take 4 (drop 4 bytes)))
 
--- a frame with nothing in it is an end
+-- an empty frame is an end
 abbrev pub deed_of : List ℕ → Deed
 deed_of [] = HearsEnd
 deed_of (x ∷ xs) = Hears (x ∷ xs)
 
--- what becomes of replies, whatever they are, and of an end
+-- the decision on replies, whatever they are, and on an end
 abbrev pub what_of : Fate → List ℕ → Told
 what_of fate.Given inside = Given inside
 what_of fate.Ended inside = Ended
@@ -41,7 +42,7 @@ Becomes f n = (inside : List ℕ) → told n (Hears inside) ≡ what_of f inside
 abbrev pub EndBecomes : Fate → Number → Type 0
 EndBecomes f n = told n HearsEnd ≡ what_of f []
 
--- this is heard for a number, which is that of a place, and nothing else changes
+-- this frame comes for a number, which is that of a place, and nothing else changes
 pub record HearsAt (number : ℕ) (deed : Deed) (what : Told) (old new : List Place) : Type 0 where
   pub place : Place
   pub is : slice_get old number ≡ Some place
@@ -50,7 +51,7 @@ pub record HearsAt (number : ℕ) (deed : Deed) (what : Told) (old new : List Pl
   pub goes : number_of place' ≡ after (number_of place) deed
   pub others : new ≡ slice_set old number place'
 
--- it is nobody's
+-- it is for no client
 pub record IsNobodys (number : ℕ) (deed : Deed) (places : List Place) : Type 0 where
   pub place : Place
   pub is : slice_get places number ≡ Some place
@@ -75,7 +76,7 @@ HeardEnd (heard.Dropped client count) number old new = (client ≡ number) × (c
     × HearsAt number HearsEnd Dropped old new
 HeardEnd heard.Wrong number old new = IsNobodys number HearsEnd old × (new ≡ old)
 
--- the first frame is nobody's, nor is it the gateway's own end
+-- the first frame is for no client, and is not the gateway's own end
 pub record MakesNoSense (bytes : List ℕ) (places : List Place) : Type 0 where
   pub number : ℕ
   pub inside : List ℕ
@@ -83,7 +84,7 @@ pub record MakesNoSense (bytes : List ℕ) (places : List Place) : Type 0 where
   pub nobody : (length places ≤ number) ⊎ IsNobodys number (deed_of inside) places
   pub other : FirstFrame bytes gateway_number [] → ⊥
 
--- the first frame is one of this number with this in it, and is heard so
+-- the first frame is one of this number with these contents, and has this decision
 pub record HearsFrame (number : ℕ) (inside : List ℕ) (what : Told) (bytes : List ℕ) (old new : List Place)
     : Type 0 where
   pub first : FirstFrame bytes number inside

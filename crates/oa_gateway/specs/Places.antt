@@ -1,5 +1,5 @@
--- What is done with one number of the server, which serves one client of the gateway after another. (This project's
--- choice.)
+-- The deeds for one number of the server, which serves one client of the gateway after another.
+-- (This project's choice.)
 use Rattle.std.specs.Prelude.{◌≡◌, ◌⊎◌, ◌<◌, ℕ, ◌+◌, ◌-◌, ◌==◌, if◌then◌else◌, List, [], ◌∷◌, length}
 use Rattle.std.specs.Prelude.{slice_index_or, ⊤}
 use Rattle.oa_share.specs.Marks.{StreamPiece, Last, pieces}
@@ -7,14 +7,15 @@ use Rattle.oa_gateway.specs.declared.place.Place.{Place}
 use Rattle.oa_gateway.specs.declared.place.Standing.{Standing}
 use Rattle.oa_gateway.specs.declared.place.Standing.TheVariants.{Absent, Present, Ending, Over}
 
--- the state of the number's present client at the server, and how many ends the server owes to clients that had the
--- number before and have gone
+-- the state of the number's present client at the server, and the number of ends that the server
+-- owes to clients that had the number before and have gone
 pub record Number : Type 0 where
   pub standing : Standing
   pub owed : ℕ
 
--- What is done: some bytes of the client are sent; nothing more comes of it; it has gone, and the number is the next
--- one's; the server has a frame of replies for the number; it has the frame of an end.
+-- The deeds. Some bytes of the client are sent; it sends nothing more; it has gone, and the number
+-- is the next client's. The server sends a frame of replies for the number; it sends the frame of
+-- an end.
 pub data Deed : Type 0 where
   Sends : List ℕ → Deed
   Closes : Deed
@@ -84,8 +85,8 @@ puts Present HearsEnd = []
 puts Ending deed = []
 puts Over deed = []
 
--- What becomes of a frame of the server: its replies go to the client that has the number now, or its end does; it is
--- of a client that has gone; or there is nobody whose it could be.
+-- The decision on a frame of the server. Its replies or its end go to the client that has the
+-- number now; it is for a client that has gone; or it is for no client.
 pub data Told : Type 0 where
   Given : List ℕ → Told
   Ended : Told
@@ -121,7 +122,7 @@ standing_of presence = if presence == 0 then Absent else if presence == 1 then P
 abbrev pub number_of : Place → Number
 number_of place = record { standing = standing_of place.presence; owed = place.owed }
 
--- another server was started: it owes nothing, and of a client that was there nothing more is sent
+-- another server was started: it owes nothing, and receives nothing more of a client that was there
 abbrev pub begins_again : Standing → Standing
 begins_again Absent = Absent
 begins_again Present = Over

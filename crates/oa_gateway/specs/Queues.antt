@@ -1,4 +1,4 @@
--- In which order clients have their turns. (This project's choice.)
+-- The order in which clients have their turns. (This project's choice.)
 use Rattle.std.specs.Prelude.{◌≡◌, ◌<◌, ◌≤◌, ℕ, ◌+◌, ◌-◌, Bool, if◌then◌else◌, List, [], ◌∷◌, ◌++◌, length, take}
 use Rattle.std.specs.Prelude.{slice_range}
 use Rattle.oa_gateway.specs.declared.queue.NextTurn.{NextTurn}
@@ -35,7 +35,7 @@ unfoldable pub after_turns : Clients → List NextTurn → Clients
 after_turns q [] = q
 after_turns q (next ∷ turns) = after_turns (turn_of q next) turns
 
--- who waits when the next batch is made
+-- the clients that wait when the next batch is made
 abbrev pub next_batch : Clients → List ℕ
 next_batch q = q.kept ++ q.waiting
 
@@ -52,7 +52,7 @@ pub record IsWithout (client : ℕ) (old new : Clients) : Type 0 where
 abbrev pub queue_of : Queue → List ℕ → Clients
 queue_of q places = record { kept = take q.kept places; waiting = slice_range places q.next q.end }
 
--- of so many places
+-- an array of this number of places has the queue
 abbrev pub IsQueue : Queue → ℕ → Type 0
 IsQueue q places = (q.kept ≤ q.next) × (q.next ≤ q.end) × (q.end ≤ places)
 
@@ -61,28 +61,29 @@ HasRoom q places = IsQueue q places × (q.kept + (q.end - q.next) < places)
 
 -- ---- turns
 
--- so many are before this client
+-- this number of clients is before this client
 pub record IsBehind (client before : ℕ) (clients : List ℕ) : Type 0 where
   pub front : List ℕ
   pub back : List ℕ
   pub there : clients ≡ front ++ client ∷ back
   pub count : length front ≡ before
 
--- After these turns so many fewer are before it as there were turns, so that its own is the next one at last.
+-- Each of these turns leaves one client fewer before it, so that its own turn is the next one at
+-- last.
 pub record Waits (client before : ℕ) (clients : List ℕ) (turns : List NextTurn) : Type 0 where
   pub left : ℕ
   pub fewer : left + length turns ≡ before
   pub there : IsBehind client left (after_turns (begun clients) turns).waiting
 
--- of how many of these turns the batch took nothing
+-- the number of these turns in which the batch took nothing
 unfoldable pub count_kept : List NextTurn → ℕ
 count_kept [] = 0
 count_kept (Never ∷ turns) = count_kept turns
 count_kept (Last ∷ turns) = count_kept turns
 count_kept (Kept ∷ turns) = 1 + count_kept turns
 
--- And if the batch ends with them, those clients are before it as the next one begins: fewer by one for each other
--- turn.
+-- If the batch ends with them, those clients are before it when the next one begins: one fewer for
+-- each other turn.
 pub record IsNotOvertaken (client before : ℕ) (clients : List ℕ) (turns : List NextTurn) : Type 0 where
   pub left : ℕ
   pub fewer : left + length turns ≡ before + count_kept turns

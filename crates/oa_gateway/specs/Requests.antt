@@ -11,7 +11,7 @@ use Rattle.oa_gateway.specs.declared.requests.Next.TheVariants as next
 abbrev pub AreRequests : List ℕ → List (List ℕ) → Type 0
 AreRequests bytes bodies = Bodies records bytes bodies []
 
--- four bytes that no request begins with: they say 0, or more than a request may have
+-- four bytes that no request begins with: the length 0, or one above the limit of a request
 pub record EndsRequests (bytes : List ℕ) : Type 0 where
   pub four : length bytes ≡ 4
   pub wrong : (said bytes ≡ 0) ⊎ (max_request_bytes < said bytes)
@@ -21,7 +21,7 @@ abbrev pub Follows : Bool → List ℕ → Type 0
 Follows true rest = EndsRequests (take 4 rest)
 Follows false rest = IsPartRecord rest
 
--- what some bytes begin with
+-- the beginning of some bytes
 abbrev pub IsNext : Next → List ℕ → Type 0
 IsNext (next.Whole count) bytes = (count ≤ length bytes) × IsWholeRecord (take count bytes)
 IsNext next.Part bytes = IsPartRecord bytes

@@ -1,4 +1,4 @@
--- What is done with numbers, over any list of deeds. (This project's choice.)
+-- Numbers over any list of deeds. (This project's choice.)
 use Rattle.std.specs.Prelude.{◌≡◌, ◌⊎◌, ℕ, zero, suc, ◌+◌, List, [], ◌∷◌, ◌++◌, ⊤}
 use Rattle.oa_share.specs.Frames.{InHead, items_in}
 use Rattle.oa_share.specs.Marks.{Byte, Last, Now, Of, Owned, States, StreamPiece, named, pieces, put_at}
@@ -23,7 +23,7 @@ unfoldable pub AllMayBeDone : Number → List Deed → Type 0
 AllMayBeDone n [] = ⊤
 AllMayBeDone n (deed ∷ deeds) = MayDo n deed × AllMayBeDone (after n deed) deeds
 
--- no frame of the server was nobody's
+-- each frame of the server was for a client
 unfoldable pub IsSound : Number → List Deed → Type 0
 IsSound n [] = ⊤
 IsSound n (deed ∷ deeds) = (told n deed ≡ Wrong → ⊥) × IsSound (after n deed) deeds
@@ -36,7 +36,7 @@ given_of Ended = []
 given_of Dropped = []
 given_of Wrong = []
 
--- what it is given
+-- what the client gets
 unfoldable pub given : Number → List Deed → List ℕ
 given n [] = []
 given n (Sends bytes ∷ deeds) = given (after n (Sends bytes)) deeds
@@ -45,7 +45,7 @@ given n (Leaves ∷ deeds) = []
 given n (Hears bytes ∷ deeds) = given_of (told n (Hears bytes)) ++ given (after n (Hears bytes)) deeds
 given n (HearsEnd ∷ deeds) = given (after n HearsEnd) deeds
 
--- what the server says for the number after so many more ends, up to the next one
+-- what the server sends for the number after this number of further ends, up to the next one
 unfoldable pub said_behind : ℕ → List Deed → List ℕ
 said_behind ends [] = []
 said_behind ends (Sends bytes ∷ deeds) = said_behind ends deeds
@@ -80,14 +80,15 @@ unfoldable pub StaysThere : List Deed → Type 0
 StaysThere [] = ⊤
 StaysThere (deed ∷ deeds) = Stays deed × StaysThere deeds
 
--- The stream of a client of which this was sent: none, its bytes, or its bytes and one end.
+-- The stream of a client of which these bytes were sent: nothing, the bytes, or the bytes and one
+-- end.
 abbrev pub IsItsStream : Standing → List ℕ → List StreamPiece → Type 0
 IsItsStream Absent bytes all = (bytes ≡ []) × (all ≡ [])
 IsItsStream Present bytes all = all ≡ pieces bytes
 IsItsStream Ending bytes all = all ≡ pieces bytes ++ Last ∷ []
 IsItsStream Over bytes all = ((bytes ≡ []) × (all ≡ [])) ⊎ (all ≡ pieces bytes ++ Last ∷ [])
 
--- The stream of one that has gone: none, or its bytes and one end.
+-- The stream of one that has gone: nothing, or the bytes and one end.
 abbrev pub IsWholeStream : List ℕ → List StreamPiece → Type 0
 IsWholeStream bytes all = ((bytes ≡ []) × (all ≡ [])) ⊎ (all ≡ pieces bytes ++ Last ∷ [])
 
@@ -124,13 +125,14 @@ all_owed n = own_end n.standing + n.owed
 
 -- ---- all numbers
 
--- what goes to the server for all, in the order in which it is done; after a batch the gateway ends, and says *now*
+-- what goes to the server for all numbers, in order; after a batch the gateway ends, and sends
+-- *now*
 unfoldable pub streams : States Number → List (Owned Deed) → List (Owned StreamPiece)
 streams numbers [] = []
 streams numbers (Of number deed ∷ deeds) = named number (puts (numbers number).standing deed)
     ++ streams (put_at number (after (numbers number) deed) numbers) deeds
 streams numbers (Now ∷ deeds) = Of gateway_number Last ∷ Now ∷ streams numbers deeds
 
--- these bytes, taken apart as the server does, are these pieces, whatever follows
+-- demultiplexed as by the server, these bytes are these pieces, whatever follows
 abbrev pub Says : List ℕ → List (Owned StreamPiece) → Type 0
 Says bytes all = (rest : List ℕ) → items_in (InHead []) (bytes ++ rest) ≡ all ++ items_in (InHead []) rest

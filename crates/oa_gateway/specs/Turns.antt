@@ -24,8 +24,8 @@ opcode_asks opcode body = if opcode == 4 then invoke_asks body else if opcode ==
 abbrev pub asks : List ℕ → Bool
 asks body = opcode_asks (opcode_of body) body
 
--- What becomes of a request that asks for something. The first one of a batch may have a reply that is longer than all
--- of a batch are to be, and has memory of its own.
+-- The decision on a request that asks for something. The first one of a batch may have a reply that
+-- is longer than all replies of a batch may be, and has memory of its own.
 abbrev pub fits : Turn → Taking
 fits t = if nat_lt t.room (t.expected + t.weight)
     then (if t.expected == 0 then (if t.first then Taken else Lacks) else Lacks) else Taken
@@ -96,13 +96,14 @@ unfoldable pub bytes_of : List (List ℕ) → ℕ
 bytes_of [] = 0
 bytes_of (body ∷ bodies) = length body + 4 + bytes_of bodies
 
--- The bytes of replies that a batch has after a turn: those that it had, if the turn asked for none or they are not
--- counted; so many at most; or those of one reply.
+-- The bytes of replies that a batch has after a turn: those that it had, if the turn asked for none
+-- or they are not counted; at most the greatest number; or those of one reply.
 abbrev pub RepliesAreBounded : Turn → ℕ → Type 0
 RepliesAreBounded t expected = (expected ≡ t.expected) ⊎ (expected ≤ t.most)
     ⊎ ((t.expected ≡ 0) × (expected ≡ t.weight))
 
--- And the room that they take: there is so much, or it is that of the first reply of a batch, which may have its own.
+-- The memory of these replies: it is there, or it is that of the first reply of a batch, which may
+-- have its own.
 abbrev pub ReplyRoomIsBounded : Turn → ℕ → Type 0
 ReplyRoomIsBounded t expected = (expected ≡ t.expected) ⊎ (expected ≤ t.room)
     ⊎ ((t.expected ≡ 0) × (t.first ≡ true) × (expected ≡ t.weight))
@@ -122,8 +123,8 @@ pub record OneTurn : Type 0 where
   pub turn : Turn
   pub bodies : List (List ℕ)
 
--- what a batch has, before its first turn and after each: how many more requests and bytes it takes, and how many bytes
--- its replies have, about
+-- The state of a batch before its first turn and after each: the numbers of further requests and
+-- bytes that it takes, and the bytes of its replies, about.
 pub record Batch : Type 0 where
   pub requests : ℕ
   pub bytes : ℕ
@@ -173,8 +174,8 @@ AreWithin heaviest longest [] = ⊤
 AreWithin heaviest longest (t ∷ turns) = (t.turn.weight ≤ heaviest) × AreShort longest t.bodies
     × AreWithin heaviest longest turns
 
--- A batch is within its bounds: all its requests; their bytes, but for the last request; and the bytes of their
--- replies, about, but for a single reply.
+-- A batch is within its bounds. These are of the number of requests; of their bytes, except for the
+-- last request; and of the bytes of their replies, about, except for a single reply.
 pub record IsBatchBounded (most heaviest longest : ℕ) (b : Batch) (turns : List OneTurn) : Type 0 where
   pub requests : requests_of turns ≤ b.requests
   pub bytes : bytes_of_turns turns < b.bytes + 4 + longest

@@ -12,15 +12,16 @@ use crate::place::{Fate, Place};
 pub enum Heard {
     /// It has not come whole.
     More,
-    /// It is the gateway's own end: all that was asked before is answered.
+    /// It is the gateway's own end: all earlier requests are answered.
     Answered,
-    /// Its replies, of so many bytes after its head, go to this client.
+    /// Its replies, `count` bytes after its head, go to this client.
     Given { client: u32, count: usize },
     /// It is the end of this client, which gets nothing more.
     Ended(u32),
-    /// It has so many bytes after its head, and is of a client that had this number before and has gone.
+    /// It has `count` bytes after its head, and is for a client that had this number before and has
+    /// gone.
     Dropped { client: u32, count: usize },
-    /// It is of no client that there is or was.
+    /// It is for no client that there is or was.
     Wrong,
 }
 
@@ -31,7 +32,8 @@ struct Frame {
     count: usize,
 }
 
-/// Hears the first frame of the server's bytes, for the client to whose number it is.
+/// Decides on the first frame of the server's bytes, and updates the state of its number.
+/// `places[n]` is the state of number n.
 pub fn hear(places: &mut [Place], bytes: &[u8]) -> Heard
     ensures { Hearing result bytes.now places.old places.new }
 {
@@ -51,7 +53,7 @@ pub fn hear(places: &mut [Place], bytes: &[u8]) -> Heard
     }
 }
 
-/// Hears so many bytes of replies for a number.
+/// Decides on `count` bytes of replies for a number.
 fn hear_replies(places: &[Place], client: u32, count: usize) -> Heard
     requires { client < length places.now }
     ensures { (inside : List ℕ) → length inside ≡ count → HeardReplies result client inside places.now }
@@ -63,7 +65,7 @@ fn hear_replies(places: &[Place], client: u32, count: usize) -> Heard
     }
 }
 
-/// Hears an end for a number.
+/// Decides on an end for a number, and updates the state of the number.
 fn hear_end(places: &mut [Place], client: u32) -> Heard
     requires { client < length places.old }
     ensures { HeardEnd result client places.old places.new }
@@ -75,7 +77,7 @@ fn hear_end(places: &mut [Place], client: u32) -> Heard
     }
 }
 
-/// The first frame of some bytes, if it has come whole.
+/// Returns the first frame of some bytes; None if it has not come whole.
 fn first_frame(bytes: &[u8]) -> Option<Frame>
     ensures none { IsNone result → IsPartFrame bytes.now }
     ensures some { IfSome result (λ f. (8 + f.count ≤ length bytes.now) × FirstFrame bytes.now f.number (slice_range bytes.now 8 (8 + f.count))) }
@@ -91,7 +93,8 @@ fn first_frame(bytes: &[u8]) -> Option<Frame>
     Some(Frame { number, count })
 }
 
-/// The server has ended, and another one was started: it owes nothing, and of the clients that were there nothing is sent to it.
+/// Notes that the server has ended, and that another one was started. The new server owes nothing.
+/// It receives nothing of the clients that were there.
 pub fn restart(places: &mut [Place])
     ensures { AllRestarted places.old places.new }
 {

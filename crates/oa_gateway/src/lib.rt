@@ -1,8 +1,10 @@
-//! What the gateway decides about bytes: which of a client's bytes are whole requests, in which frames they go to the server, and to which client the
-//! server's frames go; whose turn it is, and when a batch begins.
+//! The decisions of the gateway about bytes: which of a client's bytes are whole requests, in which
+//! frames they go to the server, and to which client the server's frames go. It also decides whose
+//! turn it is, and when a batch begins.
 //!
-//! It has no sockets and no clock, and allocates nothing: its caller lends it bytes and places, and carries out its decisions. A number of the server
-//! serves one client after another. Its history is a list of deeds (`specs/Places`), and the theorems are about any such list (`laws`).
+//! It has no sockets and no clock, and allocates nothing: its caller lends it bytes and places, and
+//! carries out its decisions. A number of the server serves one client after another. Its history
+//! is a list of deeds (`specs/Places`), and the theorems are about any such list (`laws`).
 #![tactic(auto)]
 
 mod beginning;

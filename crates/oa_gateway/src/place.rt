@@ -7,13 +7,13 @@ ghost use Rattle.oa_gateway.specs.declared.place.Fate.TheVariants as fate;
 
 use crate::frames::{GATEWAY, put_bytes, put_last};
 
-/// `Place::presence` of a client of which nothing was sent.
+/// `Place::presence` of a client of which no bytes were sent to the server.
 pub const ABSENT: u32 = 0;
-/// Of one of which something was sent.
+/// `Place::presence` of a client of which some bytes were sent.
 pub const PRESENT: u32 = 1;
-/// Of one whose end was sent.
+/// `Place::presence` of a client whose end was sent, too.
 pub const ENDING: u32 = 2;
-/// Of a client that sends and receives nothing more.
+/// `Place::presence` of a client that sends and receives nothing more.
 pub const OVER: u32 = 3;
 
 /// The state of a number's client at the server.
@@ -46,14 +46,15 @@ pub enum Fate {
 #[repr(C)]
 #[derive(Clone, Copy, Debug, PartialEq, Eq)]
 pub struct Place {
-    /// The state of its present client: `ABSENT`, `PRESENT`, `ENDING`, and `OVER` or any other number.
+    /// The state of its present client: `ABSENT`, `PRESENT`, `ENDING`, and `OVER` or any other
+    /// number.
     pub presence: u32,
-    /// How many ends the server owes to clients that had the number before and have gone.
+    /// The number of ends that the server owes to clients that had the number before and have gone.
     pub owed: u32,
 }
 
 impl Place {
-    /// Returns the state of its client.
+    /// Returns the state of the number's present client.
     pub fn standing(&self) -> Standing
         ensures { result ≡ (number_of self.now).standing }
     {
@@ -65,8 +66,9 @@ impl Place {
         }
     }
 
-    /// Sends bytes of the client: puts their frames at the beginning of `out`, and returns how many bytes these are. None, and nothing is done, if the
-    /// client has had its end, if `number` is none of a client, or if `out` may have too little room.
+    /// Sends bytes of the client: puts their frames at the beginning of `out`, and returns the
+    /// number of bytes of these. None, and nothing is done, in three cases: the client has had its
+    /// end, `number` is not one of a client, or `out` may be too short.
     pub fn send(&mut self, number: u32, bytes: &[u8], out: &mut [u8]) -> Option<usize>
         ensures some { IfSome result (λ n. Puts (Sends bytes.now) number n out.new (number_of self.old) (number_of self.new)) }
         ensures none { IsNone result → self.new ≡ self.old }
@@ -83,7 +85,8 @@ impl Place {
         }
     }
 
-    /// Sends bytes of a client that has not had its end.
+    /// Sends bytes of a client that has not had its end. Returns the number of bytes of the frames;
+    /// None if `out` may be too short.
     fn put(&mut self, number: u32, bytes: &[u8], out: &mut [u8]) -> Option<usize>
         requires client { number < gateway_number }
         requires may { MayDo (number_of self.old) (Sends bytes.now) }
@@ -95,8 +98,9 @@ impl Place {
         Some(count)
     }
 
-    /// Nothing more comes of the client. If some of its bytes were sent, its end is put at the beginning of `out`; returns how many bytes go to the server,
-    /// 8 or 0. None, and nothing is done, if `number` is none of a client, or if `out` has too little room.
+    /// Ends the client's stream. If some of its bytes were sent, its end is put at the beginning of
+    /// `out`. Returns the number of bytes for the server, 8 or 0. None, and nothing is done, if
+    /// `number` is not one of a client, or if `out` is too short.
     pub fn close(&mut self, number: u32, out: &mut [u8]) -> Option<usize>
         ensures some { IfSome result (λ n. Puts Closes number n out.new (number_of self.old) (number_of self.new)) }
         ensures none { IsNone result → self.new ≡ self.old }
@@ -120,9 +124,12 @@ impl Place {
         }
     }
 
-    /// The client has gone, and the number is the next one's. If some of its bytes were sent, and its end was not, that is put at the beginning of `out`;
-    /// returns how many bytes go to the server, 8 or 0. None, and nothing is done, if `number` is none of a client, if `out` has too little room, or if
-    /// the server owes 2^32 - 1 ends.
+    /// Notes that the client has gone: the number is the next client's. If some of its bytes were
+    /// sent, and its end was not, that is put at the beginning of `out`. Returns the number of
+    /// bytes for the server, 8 or 0.
+    ///
+    /// None, and nothing is done, in three cases: `number` is not one of a client, `out` is too
+    /// short, or the server owes 2^32 - 1 ends.
     pub fn leave(&mut self, number: u32, out: &mut [u8]) -> Option<usize>
         ensures some { IfSome result (λ n. Puts Leaves number n out.new (number_of self.old) (number_of self.new)) }
         ensures none { IsNone result → self.new ≡ self.old }
@@ -153,7 +160,7 @@ impl Place {
         }
     }
 
-    /// The server has replies for the number.
+    /// Decides on replies of the server for the number.
     pub(crate) fn hear(&self) -> Fate
         ensures { Becomes result (number_of self.now) }
     {
@@ -166,7 +173,7 @@ impl Place {
         }
     }
 
-    /// The server has an end for the number.
+    /// Decides on an end that the server has sent for the number, and updates the state.
     pub(crate) fn hear_end(&mut self) -> Fate
         ensures told { EndBecomes result (number_of self.old) }
         ensures goes { number_of self.new ≡ after (number_of self.old) HearsEnd }
@@ -183,7 +190,7 @@ impl Place {
         }
     }
 
-    /// Another server was started.
+    /// Notes that another server was started: it owes no ends, and a present client is over.
     pub(crate) fn restart(&mut self)
         ensures { number_of self.new ≡ restarted (number_of self.old) }
     {

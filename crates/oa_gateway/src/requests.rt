@@ -1,22 +1,23 @@
-//! Where the requests in a client's bytes end.
+//! The ends of the requests in a client's bytes.
 ghost use Rattle.oa_gateway.specs.Requests.{CutsAt, IsNext};
 
-/// The most bytes of a request, its length apart.
+/// The greatest number of bytes of a request without its length.
 const MOST: usize = oa_model::MAX_REQUEST_BYTES as usize;
 
 /// The whole requests at the beginning of some bytes.
 #[derive(Clone, Copy, Debug, PartialEq, Eq)]
 pub struct Requests {
-    /// How many bytes they are.
+    /// The number of their bytes.
     pub whole: usize,
-    /// Whether the four bytes after them are no length of a request: 0, or above the limit. No request follows then.
+    /// Whether the four bytes after them are no length of a request: 0, or above the limit. No
+    /// request follows then.
     pub ends: bool,
 }
 
 /// The beginning of some bytes.
 #[derive(Clone, Copy)]
 enum Next {
-    /// A whole request, of so many bytes with its length.
+    /// A whole request, of this many bytes with its length.
     Whole(usize),
     /// A part of one, or nothing.
     Part,
@@ -24,7 +25,8 @@ enum Next {
     Ends,
 }
 
-/// Finds the whole requests at the beginning of these bytes. Each is its length in four bytes, the lowest first, and as many bytes.
+/// Finds the whole requests at the beginning of these bytes. Each is its length in four bytes,
+/// little-endian, and that many bytes.
 pub fn find_requests(bytes: &[u8]) -> Requests
     ensures { CutsAt bytes.now result.whole result.ends }
 {
@@ -38,7 +40,7 @@ pub fn find_requests(bytes: &[u8]) -> Requests
     }
 }
 
-/// Finds what these bytes begin with.
+/// Finds the first request of these bytes.
 fn next_request(bytes: &[u8]) -> Next
     ensures { IsNext result bytes.now }
 {

@@ -49,7 +49,7 @@ enum Outcome {
     Hears(Heard),
 }
 
-/// Hears a frame that comes byte by byte.
+/// Hears a frame whose bytes come one at a time.
 fn heard(places: &mut [Place], bytes: &[u8]) -> Heard {
     for count in 0..bytes.len() {
         let found = hear(places, &bytes[..count]);
@@ -60,6 +60,7 @@ fn heard(places: &mut [Place], bytes: &[u8]) -> Heard {
     hear(places, bytes)
 }
 
+/// Returns the result of a call for number 0.
 fn come_of(places: &mut [Place; 1], act: Act) -> Outcome {
     let mut out = [0u8; 32];
     match act {
@@ -71,7 +72,8 @@ fn come_of(places: &mut [Place; 1], act: Act) -> Outcome {
     }
 }
 
-/// Two clients have one number, one after the other. The server's replies to the first come when the second has asked.
+/// Two clients have one number, one after the other. The server's replies to the first come when
+/// the second has asked.
 #[test]
 fn a_number_is_used_again(rt: HostRuntime) {
     let mut places = [Place {
@@ -363,7 +365,8 @@ fn clients_have_turns_in_a_batch(rt: HostRuntime) {
     assert_eq!(rt; (left, expected), (0, 1_020_000));
 }
 
-/// A client with unread replies, which it has not read for so long, silent for so long, with an incomplete request for so long.
+/// Returns the conduct of a client with `unread` bytes of replies. The others are the milliseconds
+/// for which it has read none of them, has been silent, and has had an incomplete request.
 fn conduct(unread: usize, unread_for: u64, silent: u64, incomplete_for: u64) -> Conduct {
     Conduct {
         unread,

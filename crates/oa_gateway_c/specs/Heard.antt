@@ -1,4 +1,4 @@
--- What becomes of a frame of the server, as C sees it. (This project's choice.)
+-- The decision on a frame of the server, as numbers for C. (This project's choice.)
 use Rattle.oa_gateway.specs.declared.hearing.Heard.{Heard}
 use Rattle.oa_gateway.specs.declared.hearing.Heard.TheVariants as heard
 use Rattle.oa_gateway_c.specs.declared.Frame.{Frame}

@@ -1,25 +1,28 @@
-//! Theorems about groups of requests, each the contract of a function with an empty body. They are stated for the
-//! simplest requests, groups of events that are done or refused; the proofs are about requests of any kind.
+//! Theorems about groups of requests, each the contract of a function with an empty body. They are
+//! stated for the simplest requests, groups of events that are done or refused. The proofs are
+//! about requests of any kind.
 ghost use Rattle.oa_groups.specs.Laws.{CallCounts, CallGoesOn, EndCountsAll, LateCallCounts, OneFault, OpeningBegins, StopIsLink};
 ghost use Rattle.oa_groups.specs.Laws.{EndIsServed, HistoryKeepsAnswered, OthersAreRun, StartIsUnderway, StopKeepsAnswered, TakenIsUnderway};
 ghost use Rattle.oa_groups.specs.Simple.{simple};
 
 use oa_disk::Disk;
 
-/// A session is an opening, and calls one after another. It begins with an opening that writes nothing. Each call
-/// that is served belongs to it: from the call's start on, everything answered before it counts. If the device has
-/// not failed, another call may follow.
+/// A session is an opening, and calls one after another. It begins with an opening that writes
+/// nothing. Each call that is served belongs to it: from the call's start on, everything answered
+/// before it counts. If the device has not failed, another call may follow.
 pub fn sessions_go_on<D: Disk>()
     ensures opened { OpeningBegins simple D.Disk }
     ensures called { CallCounts simple D.Disk }
     ensures goes_on { CallGoesOn simple D.Disk }
-    // (after a failure of the device a call does nothing, so the device fails in at most one group of a session)
+    // (after a failure of the device a call does nothing, so the device fails in at most one group
+    // of a session)
     ensures late { LateCallCounts simple D.Disk }
     ensures one { OneFault simple D.Disk }
 {}
 
-/// A crash at any point in time of a session leaves a store of the state after all groups that were answered by then,
-/// and possibly some more; at its end after all groups.
+/// A crash at any point in time of a session leaves a store of the state after some number of
+/// groups. These are all groups that were answered by then, and possibly more. At the end of the
+/// session they are all groups.
 pub fn a_stop_keeps_what_was_answered<D: Disk>()
     ensures stopped { StopKeepsAnswered simple D.Disk }
     ensures all { EndCountsAll simple D.Disk }
@@ -27,10 +30,10 @@ pub fn a_stop_keeps_what_was_answered<D: Disk>()
     ensures link { StopIsLink simple D.Disk }
 {}
 
-/// Requests that are admitted one by one are served when the input ends. Their replies are those of a run, group for
-/// group. Each image since the point in time at which a number of groups was answered is a store of the state after
-/// that many groups or more. If a call of the device fails, its group is kept or not, all of it is answered with the
-/// fault, and later requests are refused.
+/// Requests that are admitted one by one are served when the input ends. Their replies are those of
+/// a run, group for group. At some point in time a number of groups was answered: each image since
+/// then is a store of the state after that many groups or more. If a call of the device fails, its
+/// group is kept or not. All of it is answered with the fault, and later requests are refused.
 pub fn taken_are_served<D: Disk>()
     ensures start { StartIsUnderway simple D.Disk }
     ensures taken { TakenIsUnderway simple D.Disk }
@@ -42,9 +45,10 @@ pub fn no_trace()
     ensures { OthersAreRun simple }
 {}
 
-/// The crash theorem for groups: sessions run and crash at any points in time, each opened on what the crash before
-/// it left. The last crash leaves a store of the state after a run of the requests that were kept: of each session a
-/// prefix of its groups that contains all answered ones. Refused requests may be left out of the run.
+/// The crash theorem for groups: sessions run and crash at any points in time, each opened on what
+/// the crash before it left. The last crash leaves a store of the state after a run of the requests
+/// that were kept: of each session a prefix of its groups that contains all answered ones. Refused
+/// requests may be left out of the run.
 pub fn headline<D: Disk>()
     ensures { HistoryKeepsAnswered simple D.Disk }
 {}

@@ -15,8 +15,8 @@ use oa_store::{OpenFault, Store};
 use oa_table::Table;
 use std::alloc::Global;
 
-/// Opens the store on the disk with its own library. As in a server, it is refused if its table leaves too little of
-/// a bank free.
+/// Opens the store on the disk with its own library. Errors: as of a server's opening, also
+/// `Damaged(0)` if its table leaves too little of a bank free; `Text`; `Memory`.
 fn opened_store(alloc: Global, disk: MemoryDisk) -> Result<(Store<MemoryDisk>, Table), HistoryFault>
     ensures opened { IfOk result (λ r. IsFoundStore disk r.0 r.1) }
     ensures goes_on { IfOk result (λ r. r.0.stopped ≡ false) }
@@ -35,8 +35,9 @@ fn opened_store(alloc: Global, disk: MemoryDisk) -> Result<(Store<MemoryDisk>, T
     Ok((store, table))
 }
 
-/// Opens the store on the disk with its own library, makes a checkpoint of its table, and crashes. Returns the disk
-/// at the end, and the disk that the crash has left.
+/// Opens the store on the disk with its own library, makes a checkpoint of its table, and crashes
+/// at `stop`. Returns the disk at the end, and the disk that the crash has left. Errors: `Open`,
+/// `Text` and `Checkpoint` if an allocation or a call of the disk failed; `Memory`.
 pub fn checkpointed(
     alloc: Global,
     disk: MemoryDisk,

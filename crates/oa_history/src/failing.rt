@@ -16,12 +16,12 @@ use oa_server::laws::{
 use oa_store::OpenFault;
 use std::alloc::Global;
 
-/// The replies of a call, and how many calls of the disk had failed when it returned.
+/// The replies of a call, and the number of calls of the disk that had failed when it returned.
 #[derive(Drop)]
 pub struct Told {
     /// The replies to its requests, in order.
     pub replies: Vec<Reply>,
-    /// How many calls of the disk had failed when it returned.
+    /// The number of calls of the disk that had failed when it returned.
     pub failures: u64,
 }
 
@@ -32,7 +32,8 @@ pub struct Fused {
     pub server: Server<FuseDisk<MemoryDisk>>,
 }
 
-/// Opens a server over the disk. Returns the fault of the device and the disk if the opening met it.
+/// Opens a server over the disk, whose calls from number `first_failing` on fail. Returns the fault
+/// of the device and the disk if the opening met it. Err: the opening failed otherwise.
 fn opened_through(
     alloc: Global,
     disk: MemoryDisk,
@@ -58,7 +59,7 @@ fn opened_through(
     }
 }
 
-/// Makes the calls of a server, one after another.
+/// Makes the calls of a server, one after another. Err: an allocation failed.
 fn told_by(
     alloc: Global,
     server: &mut Server<FuseDisk<MemoryDisk>>,
@@ -76,9 +77,10 @@ fn told_by(
     Ok(told)
 }
 
-/// Opens the store on the disk with its own library, makes the calls, and returns the disk. Each call of the disk
-/// from number `first_failing` on fails. Returns the replies of each call of the server, or the fault of the device
-/// that the opening met.
+/// Opens the store on the disk with its own library, makes the calls, and returns the disk. Each
+/// call of the disk from number `first_failing` on fails, counted from 1. Returns the replies of
+/// each call of the server, or the fault of the device that the opening met. Err: an allocation
+/// failed.
 pub fn withstood(
     alloc: Global,
     disk: MemoryDisk,

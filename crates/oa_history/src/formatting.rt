@@ -14,9 +14,10 @@ use oa_store::format;
 use oa_typelib::Library;
 use std::alloc::Global;
 
-/// Formats the disk with the library and bodies of that size, and crashes at the given point in time. Returns the
-/// disk at the end, and the disk that the crash has left: it has the old contents except for the first byte, or no
-/// store, or the new store; at the end the new store.
+/// Formats the disk with `library` and bodies of `bank` bytes, and crashes at the point in time
+/// `moment`. Returns the disk at the end, and the disk that the crash has left. That has the old
+/// contents except for the first byte, or no store, or the new store; at the end the new store.
+/// Errors: `Format` if the disk was not formatted; `Memory`.
 pub fn formatted(
     alloc: Global,
     disk: MemoryDisk,

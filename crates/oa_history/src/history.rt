@@ -27,7 +27,8 @@ pub struct Lived {
     pub opened: Opened,
 }
 
-/// Runs a session, or makes a checkpoint, and crashes. Returns its result, and the disk that the crash has left.
+/// Runs a session, or makes a checkpoint, and crashes. Returns its result, and the disk that the
+/// crash has left. Err: an allocation or a call of the disk failed.
 pub(crate) fn stepped(
     alloc: Global,
     disk: MemoryDisk,
@@ -49,24 +50,25 @@ pub(crate) fn stepped(
     }
 }
 
-/// Runs a crash history: the sessions and checkpoints on the disk, one after another, each up to its crash; then
-/// opens the disk once more.
+/// Runs a crash history: the sessions and checkpoints on the disk, one after another, each up to
+/// its crash. Then it opens the disk once more. Returns the result of each step, and what is left.
 ///
-/// Each session opens what the crash before it has left. Its replies are those of a run from the recovered state, a
-/// library and a table of objects, group for group. Its own crash keeps a prefix of its groups, each whole, that
-/// contains all answered ones; over a stream all those whose replies had been sent. A checkpoint keeps the state. The
-/// state that is returned at the end is the one that the last crash has kept. A request that was not answered with
-/// S_OK leaves no trace in it.
+/// Each session opens what the crash before it has left. Its replies are those of a run from the
+/// recovered state, a library and a table of objects, group for group. Its own crash keeps a prefix
+/// of its groups, each whole, that contains all answered ones; over a stream, all those whose
+/// replies had been sent. A checkpoint keeps the state. The state that is returned at the end is
+/// the one that the last crash has kept. A request that was not answered with S_OK leaves no trace
+/// in it.
 ///
-/// In a session of many clients, the requests of all clients have one order, that in which their last bytes came,
-/// with the ends of these clients among them. The run is one over these, and each reply goes to the client that made
-/// the request, in a frame of its own.
+/// In a session of many clients, the requests of all clients have one order, that in which their
+/// last bytes came. The ends of these clients are among them. The run is one over these, and each
+/// reply goes to the client that made the request, in a frame of its own.
 ///
-/// The disk must be a store with banks of any size, new or with objects: one that `formatted` or `upgraded` has left,
-/// or a history.
+/// The disk must be a store with banks of any size, new or with objects: one that `formatted` or
+/// `upgraded` has left, or a history.
 ///
-/// Memory is allocated for each disk's calls and for what they write. Err: an allocation failed, or the log of a disk
-/// was full. No recovery fails otherwise.
+/// Memory is allocated for each disk's calls and for what they write. Err: an allocation failed, or
+/// the log of a disk was full. No recovery fails otherwise.
 pub fn relive_on(alloc: Global, disk: MemoryDisk, steps: &[Step]) -> Result<Lived, HistoryFault>
     requires { IsFreshDisk disk }
     ensures lived { IfOk result (λ lived. (state : State) → IsKept disk state
@@ -90,10 +92,12 @@ pub fn relive_on(alloc: Global, disk: MemoryDisk, steps: &[Step]) -> Result<Live
     })
 }
 
-/// Formats the disk with the library and bodies of that size, and then runs a crash history as `relive_on` does. The
-/// first state is that of the library without objects.
+/// Formats the disk with `library` and bodies of `bank` bytes, and then runs a crash history and
+/// returns its results, as `relive_on` does. The first state is that of the library without
+/// objects.
 ///
-/// Err: as of `relive_on`, or the disk was not formatted, also because it is too small for a store.
+/// Errors: those of `relive_on`; `Format` if the disk was not formatted, also because it is too
+/// small for a store.
 pub fn relive(
     alloc: Global,
     library: &Library,

@@ -1,6 +1,7 @@
-//! Crash histories: sessions of a server on a disk in memory, one after another, by calls of the server or over a
-//! stream, of one client or of many, each of which crashes at a point in time of its disk's clock (`relive_on`;
-//! `relive` over a new store); and a session over a disk that fails from some call on (`survive_on`, `survive`).
+//! Crash histories: sessions of a server on a disk in memory, one after another. A session consists
+//! of calls of the server or of a stream, of one client or of many. It crashes at a point in time
+//! of its disk's clock (`relive_on`; `relive` over a new store). Also a session over a disk that
+//! fails from some call on (`survive_on`, `survive`).
 //!
 //! Contract: the crash theorem, as the contracts of these functions (`IsLived`, `IsSurvived`);
 //! docs/internals/reading-the-proofs.md begins with them.

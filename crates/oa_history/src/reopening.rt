@@ -23,8 +23,8 @@ use oa_table::Table;
 use oa_typelib::Library;
 use std::alloc::Global;
 
-/// Returns a disk with a store of this library and no objects, with bodies of that size, as it is found after its
-/// formatting.
+/// Returns a disk with a store of `library` and no objects, with bodies of `bank` bytes, as it is
+/// after its formatting. Errors: `Format` if the disk was not formatted; `Memory`.
 pub(crate) fn begun(
     alloc: Global,
     disk: MemoryDisk,
@@ -47,7 +47,8 @@ pub(crate) fn begun(
     Ok(disk.crash(disk.moments(), Tear::Kept)?)
 }
 
-/// Returns a disk with the contents of this one, all of them on the device.
+/// Returns a disk with the contents of this one, all of them on the device. Err: an allocation
+/// failed.
 fn copied(disk: &MemoryDisk) -> Result<MemoryDisk, HistoryFault>
     ensures contents { IfOk result (λ copy. contents_of copy ≡ contents_of disk.now) }
     ensures wanting { IfErr result (λ fault. fault ≡ Memory) }
@@ -55,8 +56,8 @@ fn copied(disk: &MemoryDisk) -> Result<MemoryDisk, HistoryFault>
     Ok(disk.crash(disk.moments(), Tear::Kept)?)
 }
 
-/// Returns the text of the library, and the table, of the store on the disk. It reads a copy of the disk, so the
-/// disk's clock does not advance.
+/// Returns the text of the library, and the table, of the store on the disk. It reads a copy of the
+/// disk, so the disk's clock does not advance. Errors: `Open` if the store was not read; `Memory`.
 pub(crate) fn shown(alloc: Global, disk: &MemoryDisk) -> Result<(Vec<u8>, Table), HistoryFault>
     ensures shown { IfOk result (λ r. IsStore (contents_of disk.now) r.0.items r.1) }
     ensures wanting { IfErr result (λ fault. (state : State) → HoldsState requests state (contents_of disk.now) → IsWanting fault) }
@@ -68,7 +69,8 @@ pub(crate) fn shown(alloc: Global, disk: &MemoryDisk) -> Result<(Vec<u8>, Table)
     }
 }
 
-/// Returns the library of the store on the disk.
+/// Returns the library of the store on the disk. Errors: those of `shown`; `Text` if the library's
+/// text was not read.
 pub(crate) fn library_on(alloc: Global, disk: &MemoryDisk) -> Result<Library, HistoryFault>
     ensures kept { IfOk result (λ library. (state : State) → HoldsState requests state (contents_of disk.now)
         → IsChecked state.library → library ≡ state.library) }
@@ -86,7 +88,7 @@ pub(crate) fn library_on(alloc: Global, disk: &MemoryDisk) -> Result<Library, Hi
     }
 }
 
-/// Opens the store on the disk with its own library.
+/// Opens the store on the disk with its own library. Errors: those of `library_on`; `Open`.
 pub(crate) fn reopened(alloc: Global, disk: MemoryDisk) -> Result<Opened, HistoryFault>
     requires { IsFreshDisk disk }
     ensures begins { IfOk result (λ opened. (state : State) → IsKept disk state → BeginsServing disk opened.server state) }

@@ -20,7 +20,8 @@ pub struct ServerCall {
 }
 
 impl ServerCall {
-    /// Makes a call of these requests, in groups of 1 to 1,024.
+    /// Makes a call of these requests, one body each, in groups of at most `group` requests, from 1
+    /// to 1,024.
     pub fn new(bodies: Vec<Vec<u8>>, group: usize) -> ServerCall
         requires some { 1 ≤ group }
         requires few { group ≤ max_group }
@@ -45,7 +46,8 @@ pub struct Input {
 }
 
 impl Input {
-    /// Makes an input of these bytes, whose requests are answered in groups of 1 to 1,024.
+    /// Makes an input of these bytes, whose requests are answered in groups of at most `group`,
+    /// from 1 to 1,024.
     pub fn new(bytes: Vec<u8>, framing: Framing, group: usize) -> Input
         requires some { 1 ≤ group }
         requires few { group ≤ max_group }
@@ -73,7 +75,8 @@ pub struct SharedInput {
 }
 
 impl SharedInput {
-    /// Makes an input of these frames, whose requests are answered in groups of 1 to 1,024.
+    /// Makes an input of these frames, whose requests are answered in groups of at most `group`,
+    /// from 1 to 1,024.
     pub fn new(bytes: Vec<u8>, group: usize) -> SharedInput
         requires some { 1 ≤ group }
         requires few { group ≤ max_group }
@@ -84,7 +87,8 @@ impl SharedInput {
     }
 }
 
-/// The requests of a session: calls of a server, one after another, or a stream of one client or of many.
+/// The requests of a session: calls of a server, one after another, or a stream of one client or of
+/// many.
 #[derive(Drop)]
 pub enum Asked {
     /// Calls of a server, one after another.
@@ -100,8 +104,9 @@ pub enum Asked {
 pub struct Session {
     /// Its requests.
     pub asked: Asked,
-    /// The point in time of its crash, by its disk's clock, which begins at 0 with the opening: `2k - 1` lies within
-    /// call k of the disk, and `2k` after it. A point after the session's end counts as its end.
+    /// The point in time of its crash, by its disk's clock, which begins at 0 with the opening: `2k
+    /// - 1` lies within call k of the disk, and `2k` after it. A point after the session's end
+    ///   counts as its end.
     pub moment: u64,
     /// How the crash tears pending writes.
     pub tear: Tear,
@@ -139,7 +144,7 @@ pub struct Answer {
 pub struct Written {
     /// The writer, with the output.
     pub output: Gathered,
-    /// How many requests were answered, and why the session ended.
+    /// The number of requests that were answered, and why the session ended.
     pub served: Served,
 }
 

@@ -19,7 +19,7 @@ use oa_server::laws::{
 };
 use std::alloc::Global;
 
-/// Makes the calls of a server, one after another.
+/// Makes the calls of a server, one after another. Err: an allocation failed.
 fn answered(
     alloc: Global,
     server: &mut Server<MemoryDisk>,
@@ -39,7 +39,8 @@ fn answered(
     Ok(answers)
 }
 
-/// Returns the result of a session whose server has returned this disk, and the disk that its crash has left.
+/// Returns the result of a session whose server has returned this disk, and the disk that its crash
+/// has left. Err: an allocation failed.
 fn cut(
     session: &Session,
     replies: Replies,
@@ -55,8 +56,9 @@ fn cut(
     Ok((Heard { replies, disk }, left))
 }
 
-/// Runs one session, of one client or of many: opens the store on the disk with its own library, makes its requests,
-/// and crashes. Returns its result, and the disk that the crash has left.
+/// Runs one session, of one client or of many: opens the store on the disk with its own library,
+/// makes its requests, and crashes. Returns its result, and the disk that the crash has left. Err:
+/// an allocation failed, or the log of the disk was full.
 pub fn stopped(
     alloc: Global,
     disk: MemoryDisk,

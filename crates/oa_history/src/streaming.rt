@@ -15,7 +15,8 @@ use oa_server::Server;
 use oa_stream::{Ahead, Gathered};
 use std::alloc::Global;
 
-/// Serves one client, with this input, on a writer in memory.
+/// Serves one client, with this input, on a writer in memory. Returns the output and the result of
+/// the session. Err: an allocation failed.
 pub(crate) fn written(
     alloc: Global,
     server: &mut Server<MemoryDisk>,
@@ -35,7 +36,8 @@ pub(crate) fn written(
     Ok(Written { output, served })
 }
 
-/// Serves many clients, with this input of frames, on a writer in memory.
+/// Serves many clients, with this input of frames, on a writer in memory. Returns the frames, and
+/// why the session ended. Err: an allocation failed.
 pub(crate) fn framed(
     alloc: Global,
     server: &mut Server<MemoryDisk>,

@@ -21,7 +21,8 @@ use oa_table::Table;
 use oa_typelib::Library;
 use std::alloc::Global;
 
-/// The replies of calls over a disk that fails from some call on, and what was found on it afterwards.
+/// The replies of calls over a disk that fails from some call on, and what was found on it
+/// afterwards.
 #[derive(Drop)]
 pub struct Survived {
     /// The replies of each call of the server, or the fault of the device that its opening met.
@@ -34,7 +35,8 @@ pub struct Survived {
     pub opened: Opened,
 }
 
-/// Opens the store on the disk with its own library, whatever is pending.
+/// Opens the store on the disk with its own library, whatever is pending. Errors: those of
+/// `library_on`; `Open`.
 fn taken_up(alloc: Global, disk: MemoryDisk) -> Result<Opened, HistoryFault>
     ensures taken { IfOk result (λ r. (state : State) → HoldsState requests state (contents_of disk) → CanBegin state
         → IsTakenUp disk r.server (opened state)) }
@@ -51,15 +53,16 @@ fn taken_up(alloc: Global, disk: MemoryDisk) -> Result<Opened, HistoryFault>
     }
 }
 
-/// Opens a server on the disk, makes the calls, and takes the disk back. Each call of the disk from number
-/// `first_failing` on, counted from the opening's first, fails. Then it opens the returned disk, without failures.
+/// Opens a server on the disk, makes the calls, and takes the disk back. Each call of the disk from
+/// number `first_failing` on, counted from the opening's first, fails. Then it opens the returned
+/// disk, without failures.
 ///
-/// The replies are those of a run, group for group, up to the group in which the device fails: that group gets
-/// STG_E_WRITEFAULT, and later requests E_FAIL, without a call of the disk. The recovered state is the one after all
-/// answered groups, with the group in which the device failed or without it. If the opening met the fault, it is the
-/// old state.
+/// The replies are those of a run, group for group, up to the group in which the device fails. That
+/// group gets STG_E_WRITEFAULT, and later requests E_FAIL, without a call of the disk. The
+/// recovered state is the one after all answered groups, with the group in which the device failed
+/// or without it. If the opening met the fault, it is the old state.
 ///
-/// The disk must be a store, as for `relive_on`; Err as there.
+/// The disk must be a store, as for `relive_on`. Errors are those of `relive_on`.
 pub fn survive_on(
     alloc: Global,
     disk: MemoryDisk,
@@ -83,9 +86,8 @@ pub fn survive_on(
     })
 }
 
-/// Formats the disk with the library and bodies of that size, and then does what `survive_on` does.
-///
-/// Err: as of `relive`.
+/// Formats the disk with `library` and bodies of `bank` bytes, and then does what `survive_on`
+/// does, and returns the same. Errors are those of `relive`.
 pub fn survive(
     alloc: Global,
     library: &Library,

@@ -13,9 +13,10 @@ use oa_store::laws::what_can_be_brought_is_not_refused;
 use oa_store::upgrade;
 use std::alloc::Global;
 
-/// Upgrades the store of format 1 on the disk to format 2 with bodies of that size, and crashes. Returns the disk at
-/// the end, and the disk that the crash has left: it is the same store in the old format or the new one, at the end
-/// in the new one. A server may begin with it if it could with a state of such banks.
+/// Upgrades the store of format 1 on the disk to format 2 with bodies of `bank` bytes, and crashes
+/// at `stop`. Returns the disk at the end, and the disk that the crash has left. That is the same
+/// store in the old format or the new one; at the end in the new one. A server may begin with it if
+/// it could with a state of such banks. Errors: `Upgrade` if the store was not upgraded; `Memory`.
 pub fn upgraded(
     alloc: Global,
     disk: MemoryDisk,

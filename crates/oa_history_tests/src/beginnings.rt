@@ -11,6 +11,7 @@ use oa_typelib::Library;
 use std::alloc::Global;
 use std::rt::HostRuntime;
 
+/// A crash at the end.
 const AT_END: Stop = Stop {
     moment: END,
     tear: Tear::Lost,
@@ -69,8 +70,8 @@ static CREATED: [u8; 27] = [
     0xbb, 0xcc, 0xdd, 0xee, 0xff, 3, 0,
 ];
 
-/// Returns a store of format 1 with the library: in bank 0 the head, the library, a snapshot of no objects, and that
-/// group.
+/// Returns a store of format 1 with the library: in bank 0 the head, the library, a snapshot of no
+/// objects, and that group.
 fn old_store(alloc: Global, library: &Library) -> Option<MemoryDisk>
     ensures { IfSome result IsFreshDisk }
 {

@@ -1,8 +1,8 @@
-//! Tests of sessions on a disk in memory that crash at each point in time, or fail at each call, through the
-//! functions of oa_history.
+//! Tests of sessions on a disk in memory that crash at each point in time, or fail at each call,
+//! through the functions of oa_history.
 //!
-//! Contract: safety, as of every function; the tests also check the number of crashes, opens and failures of a
-//! script.
+//! Contract: safety, as of every function; the tests also check the number of crashes, opens and
+//! failures of a script.
 //!
 //! Used by no crate.
 #![tactic(auto)]

@@ -15,7 +15,7 @@ use crate::seen::{Head, HeadSeen, PropertyHead, PropertySeen};
 use crate::stop::Stop;
 use uuid::Uuid;
 
-/// Reads a `helpstring` attribute and drops its text.
+/// Reads a `helpstring` attribute and drops its text. Err: `Syntax`.
 #[tactic(auto, unfolding(crate::proofs::OnReadings::combinators, crate::specs::GrammarReading::help_at))]
 pub(crate) fn help(r: &mut Reader<'_>) -> Result<(), Stop>
     ensures { ReadsWords (λ _. done) result r.new (help_at r.old) }
@@ -28,7 +28,8 @@ pub(crate) fn help(r: &mut Reader<'_>) -> Result<(), Stop>
 
 // ---- of a library or an item
 
-/// Reads the second part of a version, which is 0 if it is missing, and the closing bracket.
+/// Reads the second part of a version, which is 0 if it is missing, and the closing bracket. Err:
+/// `Syntax`.
 #[tactic(auto, unfolding(crate::proofs::OnReadings::combinators, crate::specs::GrammarReading::minor_at))]
 fn minor(r: &mut Reader<'_>, counts: bool) -> Result<u16, Stop>
     ensures { ReadsWords (λ n. n) result r.new (minor_at counts r.old) }
@@ -43,7 +44,7 @@ fn minor(r: &mut Reader<'_>, counts: bool) -> Result<u16, Stop>
     Ok(0)
 }
 
-/// Reads a `uuid` attribute.
+/// Reads a `uuid` attribute. Err: `Syntax`.
 #[tactic(auto, unfolding(crate::proofs::OnReadings::combinators, crate::specs::GrammarReading::uuid_at))]
 fn uuid(r: &mut Reader<'_>) -> Result<Uuid, Stop>
     ensures { ReadsWords (λ g. Guid g) result r.new (uuid_at r.old) }
@@ -55,7 +56,8 @@ fn uuid(r: &mut Reader<'_>) -> Result<Uuid, Stop>
     Ok(guid)
 }
 
-/// Reads a `version` attribute. If `counts` is false, any numbers are allowed and read as 0.
+/// Reads a `version` attribute. If `counts` is false, any numbers are allowed and read as 0. Err:
+/// `Syntax`.
 #[tactic(auto, unfolding(crate::proofs::OnReadings::combinators, crate::specs::GrammarReading::version_at))]
 fn version(r: &mut Reader<'_>, counts: bool) -> Result<Version, Stop>
     ensures { ReadsWords (λ v. Numbered v) result r.new (version_at counts r.old) }
@@ -67,7 +69,7 @@ fn version(r: &mut Reader<'_>, counts: bool) -> Result<Version, Stop>
     Ok(Version { major, minor })
 }
 
-/// Reads an attribute that has not been read before, and adds it to `seen`.
+/// Reads an attribute that has not been read before, and adds it to `seen`. Err: `Syntax`.
 #[tactic(auto, unfolding(crate::proofs::OnReadings::combinators, crate::specs::GrammarReading::head_attribute_at))]
 fn head_attribute(r: &mut Reader<'_>, counts: bool, seen: HeadSeen) -> Result<HeadSeen, Stop>
     ensures { ReadsWords (λ s. s) result r.new (grown_at (head_attribute_at counts) head_grow seen r.old) }
@@ -104,7 +106,7 @@ fn head_attribute(r: &mut Reader<'_>, counts: bool, seen: HeadSeen) -> Result<He
     Ok(HeadSeen { help: true, ..seen })
 }
 
-/// Reads a comma and the next attribute.
+/// Reads a comma and the next attribute. Err: `Syntax`.
 #[tactic(auto, unfolding(crate::proofs::OnReadings::combinators))]
 fn next_head_attribute(r: &mut Reader<'_>, counts: bool, seen: HeadSeen) -> Result<HeadSeen, Stop>
     ensures { ReadsWords (λ s. s) result r.new (next_grown_at (head_attribute_at counts) head_grow head_full seen r.old) }
@@ -116,7 +118,7 @@ fn next_head_attribute(r: &mut Reader<'_>, counts: bool, seen: HeadSeen) -> Resu
     head_attribute(r, counts, seen)
 }
 
-/// Reads the bracket that closes the list. There must be a `uuid`.
+/// Reads the bracket that closes the list. There must be a `uuid`. Err: `Syntax`.
 #[tactic(auto, unfolding(crate::proofs::OnReadings::combinators))]
 fn last_head_attribute(r: &mut Reader<'_>, seen: HeadSeen) -> Result<Head, Stop>
     ensures { ReadsWords (λ h. h) result r.new (last_at head_finish seen r.old) }
@@ -128,7 +130,8 @@ fn last_head_attribute(r: &mut Reader<'_>, seen: HeadSeen) -> Result<Head, Stop>
     Ok(seen.head)
 }
 
-/// Reads at most `room - 1` further attributes, and the bracket that closes the list.
+/// Reads at most `room - 1` further attributes, and the bracket that closes the list. Err:
+/// `Syntax`.
 #[tactic(auto, unfolding(crate::proofs::OnReadings::round), using(crate::proofs::Loop::gathering))]
 fn more_head_attributes(
     r: &mut Reader<'_>,
@@ -149,7 +152,8 @@ fn more_head_attributes(
     more_head_attributes(r, counts, next, room - 1)
 }
 
-/// Reads the attributes of a library, whose version counts, or of an item, whose version is ignored.
+/// Reads the attributes of a library, whose version counts, or of an item, whose version is
+/// ignored. Err: `Syntax`.
 #[tactic(auto, unfolding(crate::proofs::OnReadings::combinators, crate::specs::GrammarReading::head_at))]
 pub(crate) fn head(r: &mut Reader<'_>, counts: bool) -> Result<Head, Stop>
     ensures { ReadsWords (λ h. h) result r.new (head_at counts r.old) }
@@ -174,7 +178,7 @@ pub(crate) fn head(r: &mut Reader<'_>, counts: bool) -> Result<Head, Stop>
 
 // ---- of a property
 
-/// Reads the number of an `id` with its sign.
+/// Reads the number of an `id` with its sign. Err: `Syntax`.
 #[tactic(auto, unfolding(crate::proofs::OnReadings::combinators, crate::specs::GrammarReading::signed_at))]
 fn signed(r: &mut Reader<'_>) -> Result<i32, Stop>
     ensures { ReadsWords (λ i. i) result r.new (signed_at r.old) }
@@ -186,7 +190,7 @@ fn signed(r: &mut Reader<'_>) -> Result<i32, Stop>
     r.id(false)
 }
 
-/// Reads an `id` attribute.
+/// Reads an `id` attribute, and returns its DISPID. Err: `Syntax`.
 #[tactic(auto, unfolding(crate::proofs::OnReadings::combinators, crate::specs::GrammarReading::numbered_at))]
 pub(crate) fn numbered(r: &mut Reader<'_>) -> Result<i32, Stop>
     ensures { ReadsWords (λ i. i) result r.new (numbered_at r.old) }
@@ -198,7 +202,7 @@ pub(crate) fn numbered(r: &mut Reader<'_>) -> Result<i32, Stop>
     Ok(id)
 }
 
-/// Reads an attribute that has not been read before, and adds it to `seen`.
+/// Reads an attribute that has not been read before, and adds it to `seen`. Err: `Syntax`.
 #[tactic(auto, unfolding(crate::proofs::OnReadings::combinators, crate::specs::GrammarReading::id_at, crate::specs::GrammarReading::property_attribute_at))]
 fn property_attribute(r: &mut Reader<'_>, seen: PropertySeen) -> Result<PropertySeen, Stop>
     ensures { ReadsWords (λ s. s) result r.new (grown_at property_attribute_at property_grow seen r.old) }
@@ -230,7 +234,7 @@ fn property_attribute(r: &mut Reader<'_>, seen: PropertySeen) -> Result<Property
     Ok(PropertySeen { help: true, ..seen })
 }
 
-/// Reads a comma and the next attribute.
+/// Reads a comma and the next attribute. Err: `Syntax`.
 #[tactic(auto, unfolding(crate::proofs::OnReadings::combinators))]
 fn next_property_attribute(r: &mut Reader<'_>, seen: PropertySeen) -> Result<PropertySeen, Stop>
     ensures { ReadsWords (λ s. s) result r.new (next_grown_at property_attribute_at property_grow property_full seen r.old) }
@@ -242,7 +246,7 @@ fn next_property_attribute(r: &mut Reader<'_>, seen: PropertySeen) -> Result<Pro
     property_attribute(r, seen)
 }
 
-/// Reads the bracket that closes the list. There must be an `id`.
+/// Reads the bracket that closes the list. There must be an `id`. Err: `Syntax`.
 #[tactic(auto, unfolding(crate::proofs::OnReadings::combinators))]
 fn last_property_attribute(r: &mut Reader<'_>, seen: PropertySeen) -> Result<PropertyHead, Stop>
     ensures { ReadsWords (λ h. h) result r.new (last_at property_finish seen r.old) }
@@ -257,7 +261,8 @@ fn last_property_attribute(r: &mut Reader<'_>, seen: PropertySeen) -> Result<Pro
     })
 }
 
-/// Reads at most `room - 1` further attributes, and the bracket that closes the list.
+/// Reads at most `room - 1` further attributes, and the bracket that closes the list. Err:
+/// `Syntax`.
 #[tactic(auto, unfolding(crate::proofs::OnReadings::round), using(crate::proofs::Loop::gathering))]
 fn more_property_attributes(
     r: &mut Reader<'_>,
@@ -277,7 +282,7 @@ fn more_property_attributes(
     more_property_attributes(r, next, room - 1)
 }
 
-/// Reads the attributes of a property.
+/// Reads the attributes of a property. Err: `Syntax`.
 #[tactic(auto, unfolding(crate::proofs::OnReadings::combinators, crate::specs::GrammarReading::property_head_at))]
 pub(crate) fn property_head(r: &mut Reader<'_>) -> Result<PropertyHead, Stop>
     ensures { ReadsWords (λ h. h) result r.new (property_head_at r.old) }

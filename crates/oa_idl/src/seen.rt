@@ -1,4 +1,5 @@
-//! The states of lists that are being parsed. They are public because the definitions of the grammar use them.
+//! The states of lists that are being parsed. They are public because the definitions of the
+//! grammar use them.
 use crate::parts::{Literal, MethodKind, Version};
 use uuid::Uuid;
 

@@ -6,7 +6,8 @@ ghost use Rattle.oa_idl.specs.Words.{kind_of, is_structure, is_type_mark, is_res
 use oa_model::VarType;
 use oa_tokens::TokenKind;
 
-/// Returns the kind of a keyword or mark: a name, a mark, or the end of the text, which has no bytes.
+/// Returns the kind of a keyword or mark: a name, a mark, or the end of the text, which has no
+/// bytes.
 pub(crate) fn kind_of(sign: &[u8]) -> TokenKind
     ensures { result ≡ kind_of sign.now }
 {
@@ -59,7 +60,7 @@ pub(crate) fn is_reserved(text: &[u8]) -> bool
     is_structure(text) || is_type_mark(text) || plain_type(text).is_some()
 }
 
-/// Returns the type with this name.
+/// Returns the type with this name; None if there is none.
 #[tactic(auto, unfolding(crate::specs::Words::plain_type))]
 fn plain_type(text: &[u8]) -> Option<VarType>
     ensures { result ≡ plain_type text.now }
@@ -100,7 +101,7 @@ fn plain_type(text: &[u8]) -> Option<VarType>
     None
 }
 
-/// Returns the type with this name after `unsigned`.
+/// Returns the type with this name after `unsigned`; None if there is none.
 #[tactic(auto, unfolding(crate::specs::Words::unsigned_type))]
 fn unsigned_type(text: &[u8]) -> Option<VarType>
     ensures { result ≡ unsigned_type text.now }
@@ -123,7 +124,8 @@ fn unsigned_type(text: &[u8]) -> Option<VarType>
     None
 }
 
-/// Returns the type with this name, after `unsigned` or not. The elements of an array must have a type with an sfType.
+/// Returns the type with this name, after `unsigned` or not. None if there is none, or if it is to
+/// be the type of an array's elements and has no sfType.
 pub(crate) fn type_named(in_array: bool, unsigned: bool, text: &[u8]) -> Option<VarType>
     ensures { result ≡ if_cell in_array (type_named unsigned text.now) }
 {

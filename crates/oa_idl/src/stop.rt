@@ -42,7 +42,8 @@ impl Display for Limit {
 /// Why `parse` returns no tree.
 #[derive(Clone, Copy, Debug, PartialEq, Eq, Error)]
 pub enum ParseError {
-    /// The token that begins at this byte is not allowed there; or the text must not end at this byte, which is its length.
+    /// The token that begins at this byte is not allowed there; or the text must not end at this
+    /// byte, which is its length.
     #[error("syntax at byte {0}")]
     Syntax(usize),
     /// The text, or a name or item in it, exceeds this limit.

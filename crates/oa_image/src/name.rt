@@ -16,6 +16,8 @@ use oa_table::{CellName, Place, place_size};
 use oa_variant::Scalar;
 use std::alloc::Global;
 
+/// Reads the key of a place: the number of scalars as u16, and the scalars. Errors: `Broken`,
+/// `Memory`.
 #[tactic(auto, unfolding(oa_layout::specs::Formats::combinators, crate::specs::Names::key))]
 fn read_key(alloc: Global, r: &mut Ndr<'_>) -> Result<Vec<Scalar>, ReadFault>
     ensures read { ReadsImageBy (λ v. v.items) result r.new (names.key.read r.old) }
@@ -25,6 +27,7 @@ fn read_key(alloc: Global, r: &mut Ndr<'_>) -> Result<Vec<Scalar>, ReadFault>
     read_times::<ScalarFormat>(alloc, count as usize, r)
 }
 
+/// Writes the key of a place: the number of scalars as u16, and the scalars.
 #[tactic(auto, unfolding(oa_layout::specs::Formats::combinators, crate::specs::Names::key), using(oa_layout::specs::Windows::added_added))]
 fn put_key(key: &[Scalar], w: &mut Window, out: &mut [u8])
     requires { length key.now ≤ max_key_scalars }
@@ -34,8 +37,8 @@ fn put_key(key: &[Scalar], w: &mut Window, out: &mut [u8])
     put_each::<ScalarFormat>(key, w, out)
 }
 
-/// The format of places: the interface in wire order, the DISPID as i32, the number of scalars in the key as u16, the
-/// scalars.
+/// The format of places: the interface in wire order, the DISPID as i32, the number of scalars in
+/// the key as u16, the scalars.
 pub(crate) struct PlaceFormat;
 
 impl ReadImage for PlaceFormat {

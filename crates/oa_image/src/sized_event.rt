@@ -27,7 +27,7 @@ impl Model for SizedEvent {
 }
 
 impl SizedEvent {
-    /// Computes the length of an event's image. Allocates nothing.
+    /// Returns an event with the length of its image, which it computes. Allocates nothing.
     #[inline(always)]
     pub fn new(event: Event) -> SizedEvent
         ensures { result ≡ event }

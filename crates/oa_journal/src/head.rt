@@ -13,7 +13,8 @@ use crate::layout::head_bytes;
 use crate::{BankFault, LEAST_BANK_BYTES, MOST_BANK_BYTES, Shape};
 use oa_disk::Disk;
 
-/// The contents of a bank's head: the format with the body's size, and the lengths of library and snapshot.
+/// The contents of a bank's head: the format with the body's size, and the lengths of library and
+/// snapshot.
 #[derive(Clone, Copy, Debug, PartialEq, Eq)]
 pub struct Head {
     /// The format, with the body's size in bytes.
@@ -24,13 +25,14 @@ pub struct Head {
     pub snapshot: u32,
 }
 
+/// Returns whether two slices have the same bytes.
 fn same(one: &[u8], other: &[u8]) -> bool
     ensures { IsTrue result ↔ (one.now ≡ other.now) }
 {
     one == other
 }
 
-/// Returns the format with this number and this size in its head, if there is one.
+/// Returns the format with this number and this size of a body in its head; None if there is none.
 fn told_shape(format: u8, size: u32) -> Option<Shape>
     ensures found { IfSome result (λ shape. IsShape shape × (format_of shape ≡ format) × (told_size shape ≡ size)) }
     ensures none { result ≡ None → (shape : AShape) → IsShape shape → format_of shape ≡ format → told_size shape ≡ size → ⊥ }
@@ -44,7 +46,8 @@ fn told_shape(format: u8, size: u32) -> Option<Shape>
     None
 }
 
-/// Decodes a head; None if the bytes are not one.
+/// Decodes a head. None if the bytes are not one: its number of a format, its size, a fixed byte,
+/// or a length that the body does not have.
 pub(crate) fn head_in(bytes: &[u8; 32]) -> Option<Head>
     ensures found { IfSome result (λ h. HasHeader h.shape (slice_index bytes.now) h.library h.snapshot) }
     ensures none { result ≡ None → (shape : AShape) → HasNoHeader shape (slice_index bytes.now) }
@@ -70,7 +73,8 @@ pub(crate) fn head_in(bytes: &[u8; 32]) -> Option<Head>
     })
 }
 
-/// Reads the head at that place of a disk.
+/// Reads the head at `place`, in bytes from the start of a disk. Errors: `Damaged(place)` if there
+/// is none; `Device`.
 pub(crate) fn head_at<D: Disk>(disk: &mut D, place: u64) -> Result<Head, BankFault>
     requires { place + 32 ≤ D.size_of disk.old }
 
@@ -91,8 +95,9 @@ pub(crate) fn head_at<D: Disk>(disk: &mut D, place: u64) -> Result<Head, BankFau
     Ok(head)
 }
 
-/// Reads the head of a bank of either format at `place`. `Damaged` exactly if there is no head, or the disk is too
-/// small for two banks of its format. Allocates nothing.
+/// Reads the head of a bank of either format at `place`, in bytes from the start of the disk.
+/// Allocates nothing. Errors: `Damaged(place)` exactly if there is no head, or the disk is too
+/// small for two banks of its format; `Device`.
 pub fn read_head<D: Disk>(disk: &mut D, place: u64) -> Result<Head, BankFault>
     requires { place + 32 ≤ D.size_of disk.old }
 

@@ -1,4 +1,5 @@
-//! Reading a bank from a disk: its head, and the parts of its body that are needed, each when it is needed.
+//! Reading a bank from a disk: its head, and the parts of its body that are needed, each when it is
+//! needed.
 ghost use Rattle.std.specs.Prelude.{◌≡◌, ◌↔◌, ◌+◌, ◌-◌, ◌<◌, ◌≤◌, ℕ, List, IsTrue, length, slice_index, OnOk, IfOk, IsErrOf};
 ghost use Rattle.std.specs.Int.{to_le_bytes, w32};
 ghost use Rattle.oa_disk.specs.Disk.{HasBytesAt};
@@ -21,14 +22,14 @@ use oa_image::ImageFault;
 use oa_table::Table;
 use std::alloc::{AllocError, Global};
 
-/// Returns this many zeros.
+/// Returns `count` bytes of 0. Err: the allocation failed.
 fn zeros(alloc: Global, count: usize) -> Result<Vec<u8>, AllocError>
     ensures { IfOk result (λ bytes. length bytes.items ≡ count) }
 {
     vec![in alloc; 0; count]
 }
 
-/// Reads `count` bytes of a disk from a place on.
+/// Reads `count` bytes of a disk from place `at` on. Errors: `Memory`, `Device`.
 pub(crate) fn read_part<D: Disk>(
     alloc: Global,
     disk: &mut D,
@@ -49,7 +50,7 @@ pub(crate) fn read_part<D: Disk>(
     Ok(bytes)
 }
 
-/// Copies the bytes into a vector.
+/// Returns a copy of the bytes. Err: the allocation failed.
 fn copied(alloc: Global, bytes: &[u8]) -> Result<Vec<u8>, AllocError>
     ensures { IfOk result (λ copy. copy.items ≡ bytes.now) }
 {
@@ -58,14 +59,15 @@ fn copied(alloc: Global, bytes: &[u8]) -> Result<Vec<u8>, AllocError>
     Ok(copy)
 }
 
-/// Returns whether a gate with this byte is open.
+/// Returns whether a gate with this byte is open. Any byte but 1 is a closed gate.
 fn opens(gate: u8) -> bool
     ensures { IsTrue result ↔ (gate ≡ 1) }
 {
     gate == 1
 }
 
-/// Reads whether the gate at that place of a disk is open.
+/// Reads whether the gate at place `at` of a disk is open; the body ends at place `end`. Err: the
+/// read failed.
 fn is_open<D: Disk>(
     disk: &mut D,
     ahead: &mut DiskAhead,
@@ -86,7 +88,8 @@ fn is_open<D: Disk>(
     Ok(opens(ahead.seen(at, 1)[0]))
 }
 
-/// Reads `count` bytes of a disk from a place on, through the read-ahead buffer if they fit into it.
+/// Reads `count` bytes of a disk from place `at` on, through the read-ahead buffer if they fit into
+/// it. The body ends at place `end`. Errors: `Memory`, `Device`.
 fn group_bytes<D: Disk>(
     alloc: Global,
     disk: &mut D,
@@ -113,13 +116,14 @@ fn group_bytes<D: Disk>(
     Ok(copied(alloc, ahead.seen(at, count))?)
 }
 
+/// Returns whether two formats are the same, with the same size of a body.
 fn is_same(one: Shape, other: Shape) -> bool
     ensures { IsTrue result ↔ (one ≡ other) }
 {
     one == other
 }
 
-/// Returns the number that four bytes encode.
+/// Returns the number that the first four bytes encode, little-endian.
 fn number(bytes: &[u8]) -> u32
     requires { length bytes.now ≡ 4 }
     ensures { to_le_bytes w32 result ≡ bytes.now }
@@ -127,7 +131,8 @@ fn number(bytes: &[u8]) -> u32
     u32::from_le_bytes([bytes[0], bytes[1], bytes[2], bytes[3]])
 }
 
-/// Reads the head at that place, which must be one of that format.
+/// Reads the head at `place`, which must be one of that format. Errors: `Damaged(place)` if it is
+/// not; `Device`.
 fn head_of<D: Disk>(disk: &mut D, shape: Shape, place: u64) -> Result<Head, BankFault>
     requires { place + 32 ≤ D.size_of disk.old }
 
@@ -146,7 +151,8 @@ fn head_of<D: Disk>(disk: &mut D, shape: Shape, place: u64) -> Result<Head, Bank
     Ok(head)
 }
 
-/// Reads the library of the bank with its head and body at these places of a disk, and nothing else.
+/// Reads the library of the bank with its head and body at these places of a disk, and nothing
+/// else. Errors: `Damaged(head)` if the head is not one of that format; `Memory`; `Device`.
 pub(crate) fn library_at<D: Disk>(
     alloc: Global,
     disk: &mut D,
@@ -167,7 +173,8 @@ pub(crate) fn library_at<D: Disk>(
     read_part(alloc, disk, body, told.library as usize)
 }
 
-/// Reads the head of a bank, and the table of its snapshot.
+/// Reads the head of the bank at these places of a disk, and the table of its snapshot. Errors:
+/// `Damaged` with the place of the first invalid part; `Memory`; `Device`.
 fn first_at<D: Disk>(
     alloc: Global,
     disk: &mut D,
@@ -193,8 +200,9 @@ fn first_at<D: Disk>(
     Ok((told, first))
 }
 
-/// Reads the group after the open gate at that place of a body. The next gate is 5 bytes and the group's length
-/// further on.
+/// Returns the bytes of the group after the open gate at byte `at` of a body of `size` bytes. The
+/// next gate is 5 bytes and the group's length further on. Errors: `Damaged` with the gate's place
+/// on the disk if the length is 0 or leaves no gate after the group; `Memory`; `Device`.
 fn group_at<D: Disk>(
     alloc: Global,
     disk: &mut D,
@@ -233,7 +241,9 @@ fn group_at<D: Disk>(
     group_bytes(alloc, disk, ahead, end, gate + 5, count as usize)
 }
 
-/// Applies the group after the open gate at that place, and returns the place of the next gate.
+/// Applies the group after the open gate at byte `at` of a body of `size` bytes. Returns the place
+/// of the next gate in the body. Errors: `Damaged` with the gate's place on the disk; `Memory`;
+/// `Device`.
 fn read_group<D: Disk>(
     alloc: Global,
     disk: &mut D,
@@ -264,7 +274,9 @@ fn read_group<D: Disk>(
     }
 }
 
-/// Applies the groups of a body from a place on. Returns the table, and the place of the closed gate after them.
+/// Applies the groups of a body of `size` bytes from byte `from` on. Returns the table, the place
+/// in the body of the closed gate after them, and the buffer. Errors: `Damaged` with the place on
+/// the disk of the first invalid group's gate; `Memory`; `Device`.
 fn read_groups<D: Disk>(
     alloc: Global,
     disk: &mut D,
@@ -298,8 +310,9 @@ fn read_groups<D: Disk>(
     Ok((table, at, ahead.into_buffer()))
 }
 
-/// Reads the table of the bank with its head and body at these places of a disk, and the place of the closed gate in
-/// its body. The library is skipped.
+/// Reads the table of the bank with its head and body at these places of a disk; the library is
+/// skipped. Returns the table, the place of the closed gate in the body, and the buffer. Errors:
+/// `Damaged` with the place of the first invalid part; `Memory`; `Device`.
 pub(crate) fn table_at<D: Disk>(
     alloc: Global,
     disk: &mut D,

@@ -26,7 +26,7 @@ impl Model for Batch {
 }
 
 impl Batch {
-    /// Makes a batch without events.
+    /// Makes a batch without events. Allocates nothing.
     pub fn new(alloc: Global) -> Batch
         ensures { result ≡ [] }
     {
@@ -42,7 +42,7 @@ impl Batch {
         self.bytes.len() <= 5
     }
 
-    /// Returns the length of its events in bytes.
+    /// Returns the length of its events in bytes, together.
     pub fn len(&self) -> usize
         ensures { result ≡ length self.now }
     {
@@ -66,8 +66,8 @@ impl Batch {
     }
 }
 
-/// Appends an event over the free byte after the others, and a free byte after it, with one allocation. If that
-/// fails, no byte changes.
+/// Appends an event over the free byte after the others, and a free byte after it, with one
+/// allocation. Err: that failed, and no byte has changed.
 fn add_event(bytes: &mut Vec<u8>, event: &SizedEvent) -> Result<(), AllocError>
     requires { (length bytes.old.items ≡ 0) ⊎ (5 ≤ length bytes.old.items) }
     ensures ok { OnOk result (group_of bytes.new.items ≡ group_of bytes.old.items ++ event_image event.now) }

@@ -12,8 +12,9 @@ use oa_disk::Disk;
 use oa_store::Store;
 use oa_table::Table;
 
-/// Checkpoints the store if one is due and the batch is empty, so that the next group fits; otherwise does nothing.
-/// Images are stores of the same table at every point in time. Allocates nothing.
+/// Checkpoints the store if one is due and the batch is empty, so that the next group fits;
+/// otherwise does nothing. Images are stores of the same table at every point in time. Allocates
+/// nothing. Err: a call of the device failed, and the store has stopped.
 pub fn make_room<D: Disk>(
     store: &mut Store<D>,
     table: &Table,
@@ -22,7 +23,8 @@ pub fn make_room<D: Disk>(
     requires open { IsOpenFor batch.now store.old }
     requires kept { CanBeKept (body_bytes store.old.bank.shape) table.now }
 
-    // (whichever table the images are stores of: it is the one in memory while the batch has no event)
+    // (whichever table the images are stores of: it is the one in memory while the batch has no
+    // event)
     ensures carries { Carries batch.now (unlocked_table table.now) store.old store.new }
     ensures room { MakesRoom batch.now store.old store.new result }
     ensures stops { StopsWhereRefused store.old store.new result }
@@ -40,8 +42,9 @@ pub fn make_room<D: Disk>(
     store.checkpoint(table).map_err(|_| DeviceFailed)
 }
 
-/// Commits the batch as one group, with two writes and two syncs, and empties it; an empty batch makes no call of the
-/// device. The batch keeps its memory. Allocates nothing. Err: a call failed.
+/// Commits the batch as one group, with two writes and two syncs, and empties it; an empty batch
+/// makes no call of the device. The batch keeps its memory. Allocates nothing. Err: a call failed,
+/// and the store has stopped.
 pub fn commit<D: Disk>(store: &mut Store<D>, batch: &mut Batch) -> Result<(), DeviceFailed>
     requires open { IsOpenFor batch.old store.old }
     requires few { length batch.old + 6 ≤ ample_bytes }
@@ -55,7 +58,8 @@ pub fn commit<D: Disk>(store: &mut Store<D>, batch: &mut Batch) -> Result<(), De
     commit_bytes(store, &mut batch.bytes)
 }
 
-/// Commits the events in `bytes` as one group, and empties it; an empty batch makes no call.
+/// Commits the events in `bytes` as one group, and empties it; an empty batch makes no call. Err: a
+/// call of the device failed.
 fn commit_bytes<D: Disk>(store: &mut Store<D>, bytes: &mut Vec<u8>) -> Result<(), DeviceFailed>
     requires open { IsOpenFor (group_of bytes.old.items) store.old }
     requires len { (length bytes.old.items ≡ 0) ⊎ (5 ≤ length bytes.old.items) }

@@ -1,7 +1,8 @@
-//! A table in memory over a store: the events of its changes are held in a batch, and committed group by group.
+//! A table in memory over a store: the events of its changes are held in a batch, and committed
+//! group by group.
 //!
-//! Contract: a crash during `commit` leaves a store of the old table or of the one that the events of the batch make,
-//! and after `Ok` of the latter.
+//! Contract: a crash during `commit` leaves a store of the old table or of the one that the events
+//! of the batch make, and after `Ok` of the latter.
 //!
 //! Used by oa_groups and oa_server.
 #![tactic(auto)]

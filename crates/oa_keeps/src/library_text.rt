@@ -51,7 +51,7 @@ impl From<CheckError> for TextError {
     }
 }
 
-/// Returns the library of a tree.
+/// Returns the library of a tree. Errors: `NoLibrary`, `Memory`.
 fn made(alloc: Global, tree: Tree) -> Result<Library, TextError>
     requires { IsOfText tree }
     ensures { IsMade tree result }
@@ -59,9 +59,9 @@ fn made(alloc: Global, tree: Tree) -> Result<Library, TextError>
     Ok(check(alloc, tree)?)
 }
 
-/// Returns the library of a text in UTF-8. Errors: `NoLibrary` if the bytes are not UTF-8, the text violates the
-/// grammar or a limit, or `check` refuses its tree; `Memory` if an allocation fails, which cannot happen for bytes
-/// that are not UTF-8 or are more than a library's text may have.
+/// Returns the library of a text in UTF-8. Errors: `NoLibrary` if the bytes are not UTF-8, the text
+/// violates the grammar or a limit, or `check` refuses its tree; `Memory` if an allocation fails,
+/// which cannot happen for bytes that are not UTF-8 or are more than a library's text may have.
 pub fn read_library(alloc: Global, bytes: &[u8]) -> Result<Library, TextError>
     ensures { IsTextOf bytes.now result }
 {

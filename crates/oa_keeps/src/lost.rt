@@ -37,7 +37,8 @@ impl Lost {
         }
     }
 
-    /// Returns the DISPID of the member; -1 (DISPID_UNKNOWN), which no member has, for a whole interface or coclass.
+    /// Returns the DISPID of the member; -1 (DISPID_UNKNOWN), which no member has, for a whole
+    /// interface or coclass.
     pub fn dispid(&self) -> i32
         ensures { result ≡ dispid_lost self.now }
     {
@@ -73,7 +74,7 @@ fn any_keeps(now: &Dispinterface<'_>, places: &[usize], was: &Declaration<'_>) -
     }
 }
 
-/// Returns the DISPID of a declaration that is not preserved.
+/// Returns the DISPID of a declaration that is not preserved; None if it is.
 fn lost_declaration(now: &Dispinterface<'_>, was: &Declaration<'_>) -> Option<i32>
     ensures { result ≡ lost_declaration now.now was.now }
 {
@@ -84,7 +85,8 @@ fn lost_declaration(now: &Dispinterface<'_>, was: &Declaration<'_>) -> Option<i3
     }
 }
 
-/// Returns the DISPID of the declaration at a place, if it has the form (a put or not) and is not preserved.
+/// Returns the DISPID of the declaration at a place, if it has the form (a put or not) and is not
+/// preserved; otherwise None.
 fn lost_form(
     now: &Dispinterface<'_>,
     was: &Dispinterface<'_>,
@@ -97,7 +99,8 @@ fn lost_form(
     lost_declaration(now, &form.declaration)
 }
 
-/// Returns the first lost declaration of a form (a put or not) among those at some places.
+/// Returns the DISPID of the first lost declaration of a form (a put or not) among those at some
+/// places; None if none is lost.
 fn lost_at(
     now: &Dispinterface<'_>,
     was: &Dispinterface<'_>,
@@ -115,7 +118,8 @@ fn lost_at(
     None
 }
 
-/// Returns the first lost declaration of a member, a get before its put.
+/// Returns the DISPID of the first lost declaration of a member, a get before its put; None if none
+/// is lost.
 fn lost_of_member(now: &Dispinterface<'_>, was: &Dispinterface<'_>, places: &[usize]) -> Option<i32>
     ensures { result ≡ first_answer (lost_declaration now.now) (put_last (filter_map (slice_get (declarations was.now)) places.now)) }
 {
@@ -126,6 +130,7 @@ fn lost_of_member(now: &Dispinterface<'_>, was: &Dispinterface<'_>, places: &[us
     lost_at(now, was, places, true)
 }
 
+/// Returns the DISPID of the first lost declaration of an interface; None if none is lost.
 fn lost_member(now: &Dispinterface<'_>, was: &Dispinterface<'_>) -> Option<i32>
     ensures { result ≡ lost_member now.now was.now }
 {
@@ -139,6 +144,7 @@ fn lost_member(now: &Dispinterface<'_>, was: &Dispinterface<'_>) -> Option<i32>
     None
 }
 
+/// Returns the first incompatibility of a new library with an old interface; None if there is none.
 fn lost_interface(new: &Library, was: &Dispinterface<'_>) -> Option<Lost>
     ensures { result ≡ lost_interface new.now was.now }
 {
@@ -152,13 +158,16 @@ fn lost_interface(new: &Library, was: &Dispinterface<'_>) -> Option<Lost>
     }
 }
 
-/// Returns the first incompatibility of an interface, if there is one.
+/// Returns the first incompatibility of a new library with an old interface, if there is one; None
+/// if there is no incompatibility.
 fn lost_of(new: &Library, was: Option<Dispinterface<'_>>) -> Option<Lost>
     ensures { result ≡ option_and_then (lost_interface new.now) was.entry }
 {
     lost_interface(new, &was?)
 }
 
+/// Returns the first incompatibility with an old interface, in the text's order; None if there is
+/// none.
 fn first_interface(new: &Library, old: &Library) -> Option<Lost>
     ensures { result ≡ first_answer (lost_interface new.now) (interfaces_of old.now.items) }
 {
@@ -172,13 +181,15 @@ fn first_interface(new: &Library, old: &Library) -> Option<Lost>
     None
 }
 
+/// Returns the GUID of an interface; None if there is no interface.
 fn guid_of(interface: Option<Dispinterface<'_>>) -> Option<Uuid>
     ensures { result ≡ option_map (λ i. i.guid) interface.entry }
 {
     Some(interface?.interface().guid)
 }
 
-/// Returns whether a coclass has an interface with the GUID of the one at a place, if the old coclass has that.
+/// Returns whether a coclass has an interface with the GUID of the one at a place, if the old
+/// coclass has that.
 fn keeps_entry(
     new: &Library,
     old: &Library,
@@ -199,7 +210,8 @@ fn keeps_entry(
     }
 }
 
-/// Returns whether a coclass has an interface with the GUID of each interface of the old coclass at a place.
+/// Returns whether a coclass has an interface with the GUID of each interface of the old coclass at
+/// a place.
 fn keeps_entries(new: &Library, old: &Library, place: usize, was: &Coclass, now: &Coclass) -> bool
     requires there { slice_get old.now.items place ≡ Some (AClass was.now) }
     requires found { class_of new.now was.now.guid ≡ Some now.now }
@@ -214,7 +226,7 @@ fn keeps_entries(new: &Library, old: &Library, place: usize, was: &Coclass, now:
     true
 }
 
-/// Returns the GUID of the default interface of the coclass at a place.
+/// Returns the GUID of the default interface of the coclass at a place; None if it has none.
 fn default_before(old: &Library, place: usize) -> Option<Uuid>
     ensures { result ≡ option_and_then (default_guid old.now.items) (option_and_then as_class (slice_get old.now.items place)) }
 {
@@ -222,7 +234,8 @@ fn default_before(old: &Library, place: usize) -> Option<Uuid>
     guid_of(old.interface_at(default))
 }
 
-/// Returns whether the default interface of a coclass has the GUID of that of the old coclass at a place.
+/// Returns whether the default interface of a coclass has the GUID of that of the old coclass at a
+/// place.
 fn keeps_default(new: &Library, old: &Library, place: usize, was: &Coclass, now: &Coclass) -> bool
     requires there { slice_get old.now.items place ≡ Some (AClass was.now) }
     requires found { class_of new.now was.now.guid ≡ Some now.now }
@@ -232,6 +245,7 @@ fn keeps_default(new: &Library, old: &Library, place: usize, was: &Coclass, now:
     default_before(old, place) == after
 }
 
+/// Returns whether a coclass of the new library preserves the old coclass at a place.
 fn keeps_class(new: &Library, old: &Library, place: usize, was: &Coclass) -> bool
     requires there { slice_get old.now.items place ≡ Some (AClass was.now) }
     ensures { result ≡ keeps_class new.now old.now was.now }
@@ -242,7 +256,8 @@ fn keeps_class(new: &Library, old: &Library, place: usize, was: &Coclass) -> boo
     keeps_entries(new, old, place, was, now) && keeps_default(new, old, place, was, now)
 }
 
-/// Returns the coclass at a place, if there is one and it is lost.
+/// Returns the incompatibility with the item at a place, if it is a coclass and is lost; otherwise
+/// None.
 fn lost_class(new: &Library, old: &Library, place: usize) -> Option<Lost>
     ensures { result ≡ option_and_then (lost_class new.now old.now) (option_and_then as_class (slice_get old.now.items place)) }
 {
@@ -254,6 +269,8 @@ fn lost_class(new: &Library, old: &Library, place: usize) -> Option<Lost>
     }
 }
 
+/// Returns the first incompatibility with an old coclass, in the text's order; None if there is
+/// none.
 fn first_class(new: &Library, old: &Library) -> Option<Lost>
     ensures { result ≡ first_answer (lost_class new.now old.now) (classes_of old.now.items) }
 {
@@ -267,12 +284,16 @@ fn first_class(new: &Library, old: &Library) -> Option<Lost>
     None
 }
 
-/// Returns the first incompatibility of a new library with an old one; None if it is backward compatible. For each
-/// old interface, the new library must have one with its GUID that declares everything that the old one declares,
-/// each with its name (A to Z folded), DISPID, kind, type and parameters. For each old coclass, it must have one with
-/// its GUID, all of its interfaces, and its default one. It may have more. The old interfaces are checked first, in
-/// the text's order, each with its members in the order in which their names first occur, a get before its put; then
-/// the coclasses. Allocates nothing.
+/// Returns the first incompatibility of a new library with an old one; None if it is backward
+/// compatible. Allocates nothing.
+///
+/// For each old interface, the new library must have one with its GUID that declares everything
+/// that the old one declares. Each declaration must have its name (A to Z folded), DISPID, kind,
+/// type and parameters. For each old coclass, it must have one with its GUID, all of its
+/// interfaces, and its default one. It may have more.
+///
+/// The old interfaces are checked first, in the text's order. The members of each are in the order
+/// in which their names first occur, a get before its put. Then the coclasses are checked.
 pub fn keeps(new: &Library, old: &Library) -> Option<Lost>
     ensures exactly { (result ≡ None) ↔ KeepsLibrary new.now old.now }
     ensures first { result ≡ first_lost new.now old.now }

@@ -49,6 +49,7 @@ impl PutImage for BoundFormat {
     }
 }
 
+/// Reads one element of an array of type `elem`. Errors: `Broken`, `Memory`.
 #[tactic(auto, unfolding(crate::specs::Arrays::cell_of))]
 fn read_cell(alloc: Global, elem: VarType, r: &mut Ndr<'_>) -> Result<Scalar, ReadFault>
     ensures read { ReadsImage result r.new ((arrays.cell_of elem).read r.old) }
@@ -60,7 +61,7 @@ fn read_cell(alloc: Global, elem: VarType, r: &mut Ndr<'_>) -> Result<Scalar, Re
     }
 }
 
-/// Allocates `count` cells to be filled.
+/// Allocates `count` elements to be filled. Err: the allocation failed.
 fn blank(alloc: Global, count: usize) -> Result<Cells<Scalar>, AllocError>
     ensures { IfOk result (λ cells. length cells ≡ count) }
 {
@@ -71,6 +72,7 @@ fn blank(alloc: Global, count: usize) -> Result<Cells<Scalar>, AllocError>
     )
 }
 
+/// Reads `count` elements of an array of type `elem`. Errors: `Broken`, `Memory`.
 #[tactic(auto, unfolding(crate::specs::Formats::times), using(crate::proofs::Loops::cells_full, crate::proofs::Loops::cells_err))]
 fn read_cells(
     alloc: Global,
@@ -90,7 +92,8 @@ fn read_cells(
     Ok(cells)
 }
 
-/// Reads the bounds of an array. Returns them and the number of cells.
+/// Reads the bounds of an array of type `elem`. Returns them and the number of elements. Errors:
+/// `Broken`, also if no array has such bounds; `Memory`.
 #[tactic(auto, unfolding(crate::specs::Formats::combinators, crate::specs::Arrays::bounds_of), using(crate::specs::Arrays::shape_here, crate::proofs::Loops::shape_not))]
 fn read_bounds(
     alloc: Global,
@@ -108,7 +111,8 @@ fn read_bounds(
     }
 }
 
-/// Reads the part of an array's image that follows the number of the type.
+/// Reads the part of an array's image after the number of the type: the number of bounds, the
+/// bounds, and the elements of type `elem`. Errors: `Broken`, `Memory`.
 #[tactic(auto, unfolding(crate::specs::Formats::combinators, crate::specs::Arrays::array_of), using(crate::proofs::Loops::all_fit))]
 pub(crate) fn read_array(
     alloc: Global,
@@ -123,6 +127,7 @@ pub(crate) fn read_array(
     Ok(array)
 }
 
+/// Writes one element of an array of type `elem`.
 fn put_cell(elem: VarType, s: &Scalar, w: &mut Window, out: &mut [u8])
     requires { FitsType s.now elem }
     ensures { Adds ((arrays.cell_of elem).image s.now) w.old w.new out.old out.new }
@@ -130,6 +135,7 @@ fn put_cell(elem: VarType, s: &Scalar, w: &mut Window, out: &mut [u8])
     put_element(elem, s, w, out)
 }
 
+/// Writes the elements of an array of type `elem`, one after the other.
 fn put_cells(elem: VarType, cells: &[Scalar], w: &mut Window, out: &mut [u8])
     requires { All (λ s. FitsType s elem) cells.now }
     ensures { Adds (flat_map (arrays.cell_of elem).image cells.now) w.old w.new out.old out.new }
@@ -139,7 +145,8 @@ fn put_cells(elem: VarType, cells: &[Scalar], w: &mut Window, out: &mut [u8])
     }
 }
 
-/// Writes the part of an array's image that follows the number of the type.
+/// Writes the part of an array's image after the number of the type: the number of bounds, the
+/// bounds, and the elements.
 #[tactic(auto, unfolding(crate::specs::Formats::combinators, crate::specs::Arrays::bounds_of, crate::specs::Arrays::array_of), using(crate::specs::Windows::added_added))]
 pub(crate) fn put_array(a: &SafeArray<Scalar>, w: &mut Window, out: &mut [u8])
     ensures { Adds ((arrays.array_of a.now.elem).image a.now) w.old w.new out.old out.new }
@@ -151,7 +158,8 @@ pub(crate) fn put_array(a: &SafeArray<Scalar>, w: &mut Window, out: &mut [u8])
     put_cells(a.elem(), cells, w, out)
 }
 
-/// Writes one cell of an array of the type, as it is in the image of the array.
+/// Writes one element to a window, as it is in the image of an array of type `elem`: in an array of
+/// VARIANT with the number of its type. Allocates nothing.
 #[tactic(auto, unfolding(crate::specs::Elements::element_image))]
 pub fn put_element(elem: VarType, s: &Scalar, w: &mut Window, out: &mut [u8])
     ensures { Adds (element_image elem s.now) w.old w.new out.old out.new }
@@ -162,9 +170,9 @@ pub fn put_element(elem: VarType, s: &Scalar, w: &mut Window, out: &mut [u8])
     }
 }
 
-/// Writes the part of an array's image before its cells: the number of their type with VT_ARRAY (0x2000) as u16, the
-/// number of bounds as u16, and each bound in 8 bytes: its count as u32 and its lowest index as i32. Allocates
-/// nothing.
+/// Writes the part of an array's image before its elements: the number of their type with VT_ARRAY
+/// (0x2000) as u16, the number of bounds as u16, and each bound in 8 bytes. These are its count as
+/// u32 and its lowest index as i32. Allocates nothing.
 #[tactic(auto, unfolding(crate::specs::Formats::combinators, crate::specs::Arrays::bounds_of, crate::specs::Variants::kind, crate::specs::Elements::array_head), using(crate::specs::Windows::added_added))]
 pub fn put_array_head(a: &SafeArray<Scalar>, w: &mut Window, out: &mut [u8])
     ensures { Adds (array_head a.now) w.old w.new out.old out.new }
@@ -202,8 +210,8 @@ pub fn elements_len(elem: VarType, elements: &[Scalar]) -> usize
     len
 }
 
-/// Returns the length in bytes of an array's image: the number of the type, the number of bounds, the bounds, and the
-/// elements.
+/// Returns the length in bytes of an array's image: the number of the type, the number of bounds,
+/// the bounds, and the elements.
 #[tactic(auto, unfolding(crate::specs::Lengths::value_size))]
 pub(crate) fn array_image_len(a: &SafeArray<Scalar>) -> usize
     ensures value { result ≡ value_size (variants.Array a.now) }

@@ -21,8 +21,8 @@ pub enum ReadFault {
 /// Why a whole image could not be read.
 #[derive(Clone, Copy, Debug, PartialEq, Eq, Error)]
 pub enum ImageFault {
-    /// The bytes are the image of no value. The number is the place, in bytes from the first, up to which they were
-    /// read.
+    /// The bytes are the image of no value. The number is the place, in bytes from the first, up to
+    /// which they were read.
     #[error("damaged at {0}")]
     Damaged(usize),
     /// An allocation failed.

@@ -31,7 +31,8 @@ const MAX_SCALE: u8 = 28;
 /// The factor of a magnitude's high bits: 2^64.
 const ABOVE_LOW: u128 = 0x1_0000_0000_0000_0000;
 
-/// Reads how many bytes a text has; None for the null text.
+/// Reads the number of bytes of a text; None for the null text. Err: `Broken`, also if no text has
+/// that number.
 #[tactic(auto, unfolding(oa_ndr::specs::Reading::bind, crate::specs::Formats::coded, crate::specs::Values::text_header))]
 fn read_text_header(r: &mut Ndr<'_>) -> Result<Option<u32>, ReadFault>
     ensures { ReadsImage result r.new (values.text_header.read r.old) }
@@ -46,6 +47,7 @@ fn read_text_header(r: &mut Ndr<'_>) -> Result<Option<u32>, ReadFault>
     Err(ReadFault::Broken)
 }
 
+/// Reads a text: the number of its bytes, and the bytes. Errors: `Broken`, `Memory`.
 #[tactic(auto, unfolding(crate::specs::Formats::combinators, crate::specs::Values::texts))]
 fn read_text(alloc: Global, r: &mut Ndr<'_>) -> Result<Bstr, ReadFault>
     ensures { ReadsImage result r.new (values.text.read r.old) }
@@ -59,6 +61,8 @@ fn read_text(alloc: Global, r: &mut Ndr<'_>) -> Result<Bstr, ReadFault>
     }
 }
 
+/// Reads a DECIMAL of 14 bytes: its scale, its sign, the high 32 and the low 64 bits of its
+/// magnitude. Err: `Broken`, also for a scale above 28.
 #[tactic(auto, unfolding(crate::specs::Formats::combinators, crate::specs::Values::decimal))]
 fn read_decimal(r: &mut Ndr<'_>) -> Result<Decimal, ReadFault>
     ensures { ReadsImage result r.new (values.decimal.read r.old) }
@@ -74,6 +78,7 @@ fn read_decimal(r: &mut Ndr<'_>) -> Result<Decimal, ReadFault>
     Err(ReadFault::Broken)
 }
 
+/// Reads the number of a scalar's type. Err: `Broken`, also if no type has it.
 #[tactic(auto, unfolding(oa_ndr::specs::Reading::bind, crate::specs::Formats::coded, crate::specs::Values::vt))]
 fn read_vt(r: &mut Ndr<'_>) -> Result<VarType, ReadFault>
     ensures { ReadsImage result r.new (values.vt.read r.old) }
@@ -81,7 +86,8 @@ fn read_vt(r: &mut Ndr<'_>) -> Result<VarType, ReadFault>
     VarType::from_vt(read_u16(r)?).ok_or(ReadFault::Broken)
 }
 
-/// Reads the part of a scalar's image that follows the number of the type.
+/// Reads the part of a scalar's image after the number of the type, for this type. Errors:
+/// `Broken`, `Memory`.
 #[tactic(auto, unfolding(crate::specs::Formats::combinators, crate::specs::Values::of_type))]
 pub(crate) fn read_content(
     alloc: Global,
@@ -113,6 +119,7 @@ pub(crate) fn read_content(
     })
 }
 
+/// Writes a text: the number of its bytes, and the bytes.
 #[tactic(auto, unfolding(crate::specs::Formats::combinators, crate::specs::Values::texts), using(crate::specs::Windows::added_added))]
 fn put_text(text: &Bstr, w: &mut Window, out: &mut [u8])
     ensures { Adds (values.text.image text.now) w.old w.new out.old out.new }
@@ -124,6 +131,7 @@ fn put_text(text: &Bstr, w: &mut Window, out: &mut [u8])
     put_bytes(text.as_bytes(), w, out)
 }
 
+/// Writes a DECIMAL in 14 bytes, as `read_decimal` reads it.
 #[tactic(auto, unfolding(crate::specs::Formats::combinators, crate::specs::Values::decimal), using(crate::specs::Windows::added_added))]
 fn put_decimal(d: &Decimal, w: &mut Window, out: &mut [u8])
     ensures { Adds (values.decimal.image d.now) w.old w.new out.old out.new }
@@ -184,7 +192,7 @@ impl PutImage for ScalarFormat {
     }
 }
 
-/// Returns the length of a text's content: the number of its bytes, and the bytes.
+/// Returns the length in bytes of a text's content: the number of its bytes, and the bytes.
 fn text_len(s: &Scalar) -> usize
     ensures value { result ≡ 4 + length (bytes_of (text_of s.now)) }
     ensures small { result ≤ max_content_bytes }
@@ -195,7 +203,7 @@ fn text_len(s: &Scalar) -> usize
     }
 }
 
-/// Returns the length of a scalar's image after the number of its type.
+/// Returns the length in bytes of a scalar's image after the number of its type.
 #[inline(always)]
 #[tactic(auto, unfolding(crate::specs::Lengths::content_size))]
 pub(crate) fn content_len(elem: VarType, s: &Scalar) -> usize

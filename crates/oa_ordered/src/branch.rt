@@ -12,7 +12,7 @@ use std::alloc::{AllocError, AllocFailed, Global};
 use std::marker::Model;
 use std::mem::replace;
 
-/// How many rows a branch has before it is split.
+/// The number of rows of a full branch. A longer one is split.
 pub(crate) const FULL_BRANCH: usize = 128;
 
 /// Rows that are adjacent in the order of their keys.
@@ -63,7 +63,8 @@ impl<K, V> Branch<K, V> {
         }
     }
 
-    /// Returns the value of a key. `near` has no effect on the result.
+    /// Returns the value of a key; None if it is not in the branch. `near`, a number of entries
+    /// before it, has no effect on the result.
     pub(crate) fn get_near(&self, key: &K, near: usize) -> Option<&V>
     where
         K: Ord,
@@ -76,7 +77,8 @@ impl<K, V> Branch<K, V> {
         }
     }
 
-    /// Returns the value of a key, to be changed. `near` has no effect on the result.
+    /// Returns the value of a key, to be changed; None if it is not in the branch. `near`, a number
+    /// of entries before it, has no effect on the result.
     pub(crate) fn get_mut_near(&mut self, key: &K, near: usize) -> Option<&mut V>
     where
         K: Ord,
@@ -90,7 +92,8 @@ impl<K, V> Branch<K, V> {
         }
     }
 
-    /// Sets the value of a key, and returns the one before.
+    /// Sets the value of a key, and returns the one before; None if the key is new. Err: an
+    /// allocation failed; key and value are returned.
     pub(crate) fn insert(
         &mut self,
         alloc: Global,
@@ -116,7 +119,7 @@ impl<K, V> Branch<K, V> {
         }
     }
 
-    /// Removes a key, and returns its value.
+    /// Removes a key, and returns its value; None if it is not in the branch.
     pub(crate) fn remove(&mut self, key: &K) -> Option<V>
     where
         K: Ord + Drop,
@@ -134,15 +137,15 @@ impl<K, V> Branch<K, V> {
         }
     }
 
-    /// Returns how many rows there are.
+    /// Returns the number of rows.
     pub(crate) fn len(&self) -> usize
         ensures { (result ≡ 0) ↔ (self.now ≡ []) }
     {
         self.rows.len()
     }
 
-    /// Keeps the rows before `at`, and returns those from there on as a branch of their own. Err: one of the two would
-    /// be empty, or an allocation failed; all rows stay.
+    /// Keeps the rows before row `at`, counted from 0, and returns those from there on as a branch
+    /// of their own. Err: one of the two would be empty, or an allocation failed; all rows stay.
     pub(crate) fn split_off(&mut self, at: usize) -> Result<Branch<K, V>, AllocError>
         ensures ok { IfOk result (λ rest. self.new ++ rest ≡ self.old) }
         ensures kept { OnOk result (0 < length self.new) }

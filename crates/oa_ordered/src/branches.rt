@@ -11,10 +11,10 @@ use crate::rows::FULL;
 use std::alloc::{AllocError, AllocFailed, Global};
 use std::mem::replace;
 
-/// How many rows stay in a full branch that is split between others.
+/// The number of rows that stay in a full branch that is split between others.
 const HALF_BRANCH: usize = FULL_BRANCH / 2;
 
-/// How many entries are in a full branch of full rows.
+/// The number of entries of a full branch of full rows.
 pub(crate) const BRANCH_ENTRIES: usize = FULL_BRANCH * FULL;
 
 /// Returns whether the key is in this branch if it is in any.
@@ -32,8 +32,9 @@ fn is_branch_for<K: Ord, V>(branches: &[Branch<K, V>], key: &K, branch: usize) -
     branches[branch + 1].begins_after(key)
 }
 
-/// Returns the branch in which the key is or belongs: the last that begins at or before it, or else the first. If
-/// `near` is not the first one, it looks there first.
+/// Returns the number of the branch in which the key is or belongs: the last that begins at or
+/// before it, or otherwise the first. If `near` is not the first one, it looks in branch `near`
+/// first.
 pub(crate) fn branch_for<K: Ord, V>(branches: &[Branch<K, V>], key: &K, near: usize) -> usize
     requires { AreOrdered K.cmp branches.now }
     ensures { IsRowFor K.cmp key.now branches.now result }
@@ -56,8 +57,8 @@ pub(crate) fn branch_for<K: Ord, V>(branches: &[Branch<K, V>], key: &K, near: us
     low
 }
 
-/// Splits a branch that is longer than a full one; if an allocation fails, it stays as it is. The last one keeps its
-/// first `FULL_BRANCH` rows, so that rising keys fill the branches.
+/// Splits a branch that is longer than a full one; if an allocation fails, it stays as it is. The
+/// last one keeps its first `FULL_BRANCH` rows, so that rising keys fill the branches.
 fn split_long_branch<K: Drop, V: Drop>(branches: &mut Vec<Branch<K, V>>, branch: usize)
     requires branch { branch < length branches.old.items }
     requires filled { AreFilled branches.old.items }
@@ -77,7 +78,8 @@ fn split_long_branch<K: Drop, V: Drop>(branches: &mut Vec<Branch<K, V>>, branch:
     };
 }
 
-/// Splits a branch in two.
+/// Splits a branch in two, of which the first keeps `keep` rows. Err: an allocation failed or a
+/// part would be empty; all rows stay.
 fn split_branch<K: Drop, V: Drop>(
     branches: &mut Vec<Branch<K, V>>,
     branch: usize,
@@ -96,7 +98,8 @@ fn split_branch<K: Drop, V: Drop>(
     Ok(())
 }
 
-/// Sets the value of a key in its branch, and returns the one before.
+/// Sets the value of a key in its branch, and returns the one before; None if the key is new. Err:
+/// an allocation failed; key and value are returned.
 fn insert_in_branch<K: Ord + Drop, V: Drop>(
     alloc: Global,
     branches: &mut Vec<Branch<K, V>>,
@@ -118,7 +121,8 @@ fn insert_in_branch<K: Ord + Drop, V: Drop>(
     branches[branch].insert(alloc, key, value)
 }
 
-/// Sets the value of a key, and returns the one before.
+/// Sets the value of a key, and returns the one before; None if the key is new. Err: an allocation
+/// failed; key and value are returned.
 pub(crate) fn insert_in<K: Ord + Drop, V: Drop>(
     alloc: Global,
     branches: &mut Vec<Branch<K, V>>,
@@ -151,7 +155,8 @@ fn drop_branch<K: Drop, V: Drop>(branches: &mut Vec<Branch<K, V>>, branch: usize
     }
 }
 
-/// Removes a key, and returns its value. A branch is removed with its last entry.
+/// Removes a key, and returns its value; None if it is in no branch. A branch is removed with its
+/// last entry.
 pub(crate) fn remove_in<K: Ord + Drop, V: Drop>(
     branches: &mut Vec<Branch<K, V>>,
     key: &K,
@@ -172,8 +177,8 @@ pub(crate) fn remove_in<K: Ord + Drop, V: Drop>(
     value
 }
 
-/// Splits a row in two, and makes a branch of both. Err: an allocation failed or a part is empty, and the row has not
-/// changed.
+/// Splits a row in two, of which the first keeps `keep` entries, and returns a branch of both. Err:
+/// an allocation failed or a part would be empty, and the row has not changed.
 pub(crate) fn branches_of_row<K: Drop, V: Drop>(
     alloc: Global,
     row: &mut Row<K, V>,
@@ -194,7 +199,8 @@ pub(crate) fn branches_of_row<K: Drop, V: Drop>(
     Ok(branches)
 }
 
-/// Makes branches of rows in order: full ones, except the last. The list frees its memory while they allocate theirs.
+/// Makes branches of rows in order: full ones, except the last. The list frees its memory while
+/// they allocate theirs. Err: an allocation failed.
 pub(crate) fn branches_of<K: Drop, V: Drop>(
     alloc: Global,
     rows: Vec<Row<K, V>>,

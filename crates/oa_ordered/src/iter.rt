@@ -31,7 +31,7 @@ impl<'a, K, V> Model for Iter<'a, K, V> {
 }
 
 impl<'a, K, V> Iter<'a, K, V> {
-    /// Makes an iterator over entries and then over those of branches, `count` in all.
+    /// Makes an iterator over entries and then over those of branches, `len` in all.
     pub(crate) fn new(
         entries: &'a [(K, V)],
         branches: &'a [Branch<K, V>],

@@ -12,8 +12,8 @@ use crate::rows::{FULL, HALF, rows_of};
 use std::alloc::{AllocError, AllocFailed, Global};
 use std::mem::replace;
 
-/// The entries of a map: in one row, or in branches of rows. Once they are in branches, they stay there until all are
-/// removed.
+/// The entries of a map: in one row, or in branches of rows. Once they are in branches, they stay
+/// there until all are removed.
 #[derive(Drop)]
 pub(crate) enum Root<K, V> {
     One(Row<K, V>),
@@ -21,7 +21,7 @@ pub(crate) enum Root<K, V> {
 }
 
 impl<K, V> Root<K, V> {
-    /// Makes the root of entries in order, without unused space.
+    /// Makes the root of entries in order, without unused space. Err: an allocation failed.
     pub(crate) fn of_entries(alloc: Global, entries: Vec<(K, V)>) -> Result<Root<K, V>, AllocError>
     where
         K: Drop,
@@ -37,7 +37,8 @@ impl<K, V> Root<K, V> {
         Ok(Root::Many(branches))
     }
 
-    /// Sets the value of a key, and returns the one before.
+    /// Sets the value of a key, and returns the one before; None if the key is new. Err: an
+    /// allocation failed; key and value are returned.
     pub(crate) fn insert(
         &mut self,
         alloc: Global,
@@ -78,8 +79,8 @@ impl<K, V> Root<K, V> {
         }
     }
 
-    /// Splits the one row into a branch of two if it is longer than a full one; if an allocation fails, it stays as
-    /// it is.
+    /// Splits the one row into a branch of two if it is longer than a full one. The first keeps
+    /// `keep` entries. If an allocation fails, the row stays as it is.
     fn split_long_row(&mut self, alloc: Global, keep: usize)
     where
         K: Drop,
@@ -102,7 +103,7 @@ impl<K, V> Root<K, V> {
         *self = Root::Many(branches);
     }
 
-    /// Removes a key, and returns its value.
+    /// Removes a key, and returns its value; None if it is not in the map.
     pub(crate) fn remove(&mut self, key: &K) -> Option<V>
     where
         K: Ord + Drop,

@@ -7,15 +7,15 @@ use crate::row::{Row, make_room, place_in, place_to_insert};
 use std::alloc::{AllocError, AllocFailed, Global};
 use std::cmp::Ordering;
 
-/// How many entries a row has before it is split.
+/// The number of entries of a full row. A longer one is split.
 pub(crate) const FULL: usize = 64;
 
-/// How many entries stay in a full row that is split.
+/// The number of entries that stay in a full row that is split.
 pub(crate) const HALF: usize = FULL / 2;
 
-/// After this many rows, a new one is allocated in full length at once. If keys rise, such rows get full, so at most
-/// an eighth is unused. A row that grew by eighths, between the allocations of its values, would leave a hole at each
-/// step.
+/// After this many rows, a new one is allocated in full length at once. If keys rise, such rows get
+/// full, so at most an eighth is unused. A row that grew by eighths, between the allocations of its
+/// values, would leave a hole at each step.
 const MANY: usize = 8;
 
 /// A place in rows: the row, and the place in it.
@@ -25,7 +25,8 @@ pub(crate) struct Place {
     pub(crate) at: usize,
 }
 
-/// Returns the row in which the key is or belongs: the last that begins at or before it, or else the first.
+/// Returns the number of the row in which the key is or belongs: the last that begins at or before
+/// it, or otherwise the first.
 fn row_for<K: Ord, V>(rows: &[Row<K, V>], key: &K) -> usize
     requires { AreOrdered K.cmp rows.now }
     ensures { IsRowFor K.cmp key.now rows.now result }
@@ -43,7 +44,7 @@ fn row_for<K: Ord, V>(rows: &[Row<K, V>], key: &K) -> usize
     low
 }
 
-/// Returns the row in which the key is or belongs. Looks at the last one first.
+/// Returns the number of the row in which the key is or belongs. It looks at the last one first.
 fn row_to_insert<K: Ord, V>(rows: &[Row<K, V>], key: &K) -> usize
     requires { AreOrdered K.cmp rows.now }
     ensures { IsRowFor K.cmp key.now rows.now result }
@@ -57,7 +58,8 @@ fn row_to_insert<K: Ord, V>(rows: &[Row<K, V>], key: &K) -> usize
     row_for(rows, key)
 }
 
-/// Where a search begins: by bisection, or after the last entry, where new keys often belong.
+/// The beginning of a search: by bisection, or after the last entry, to which new keys often
+/// belong.
 #[derive(Clone, Copy)]
 pub(crate) enum Search {
     Halves,
@@ -65,7 +67,7 @@ pub(crate) enum Search {
 }
 
 impl Search {
-    /// Returns the row in which the key is or belongs.
+    /// Returns the number of the row in which the key is or belongs.
     fn row<K: Ord, V>(self, rows: &[Row<K, V>], key: &K) -> usize
         requires { AreOrdered K.cmp rows.now }
         ensures { IsRowFor K.cmp key.now rows.now result }
@@ -76,7 +78,8 @@ impl Search {
         }
     }
 
-    /// Returns the place of the key among entries in order, or the place at which to insert it.
+    /// Returns the place of the key among entries in order. Err: the key is not there; it contains
+    /// the place at which to insert it.
     fn place<K: Ord, V>(self, entries: &[(K, V)], key: &K) -> Result<usize, usize>
         requires { IsOrdered K.cmp entries.now }
         ensures found { IfOk result (λ at. IsFoundIn K.cmp key.now entries.now at) }
@@ -89,7 +92,8 @@ impl Search {
     }
 }
 
-/// Returns the place of the key, or the place at which to insert it.
+/// Returns the place of the key. Err: the key is not there; it contains the place at which to
+/// insert it.
 pub(crate) fn place_of<K: Ord, V>(
     rows: &[Row<K, V>],
     key: &K,
@@ -109,8 +113,8 @@ pub(crate) fn place_of<K: Ord, V>(
     }
 }
 
-/// Returns the place of the key, or the place at which to insert it. Looks first at the entry that has `near` entries
-/// before it if all rows are full.
+/// Returns the place of the key. It looks first at the entry that has `near` entries before it if
+/// all rows are full. Err: the key is not there; it contains the place at which to insert it.
 pub(crate) fn place_near<K: Ord, V>(
     rows: &[Row<K, V>],
     key: &K,
@@ -133,7 +137,7 @@ pub(crate) fn place_near<K: Ord, V>(
     place_of(rows, key, Search::Halves)
 }
 
-/// Appends a row with one entry.
+/// Appends a row with one entry. Err: an allocation failed; the entry is returned.
 fn begin_row<K: Drop, V: Drop>(
     alloc: Global,
     rows: &mut Vec<Row<K, V>>,
@@ -154,7 +158,7 @@ fn begin_row<K: Drop, V: Drop>(
     Ok(())
 }
 
-/// Splits a full row in two.
+/// Splits a full row in two. Err: an allocation failed, and the row stays as it is.
 fn split<K: Drop, V: Drop>(rows: &mut Vec<Row<K, V>>, row: usize) -> Result<(), AllocError>
     requires row { row < length rows.old.items }
     requires full { FULL ≤ length (slice_index_or rows.old.items row []) }
@@ -169,7 +173,7 @@ fn split<K: Drop, V: Drop>(rows: &mut Vec<Row<K, V>>, row: usize) -> Result<(), 
     Ok(())
 }
 
-/// Inserts an entry at a place of a row.
+/// Inserts an entry at a place of a row. Err: the allocation failed; the entry is returned.
 fn insert_free<K: Drop, V: Drop>(
     rows: &mut Vec<Row<K, V>>,
     place: Place,
@@ -215,8 +219,9 @@ fn is_past_full<K, V>(rows: &[Row<K, V>], place: Place) -> bool
     place.row + 1 == rows.len() && place.at >= FULL && place.at == rows[place.row].len()
 }
 
-/// Inserts an entry at a place, before those from there on. After all others it begins a row if the last one is full,
-/// so that rising keys fill the rows.
+/// Inserts an entry at a place, before those from there on. After all others it begins a row if the
+/// last one is full, so that rising keys fill the rows. Err: an allocation failed; the entry is
+/// returned.
 pub(crate) fn insert_at<K: Drop, V: Drop>(
     alloc: Global,
     rows: &mut Vec<Row<K, V>>,
@@ -240,7 +245,8 @@ pub(crate) fn insert_at<K: Drop, V: Drop>(
     Ok(())
 }
 
-/// Makes rows of entries in order: full ones, except the last. The list frees its memory while they allocate theirs.
+/// Makes rows of entries in order: full ones, except the last. The list frees its memory while they
+/// allocate theirs. Err: an allocation failed.
 pub(crate) fn rows_of<K: Drop, V: Drop>(
     alloc: Global,
     entries: Vec<(K, V)>,
@@ -273,7 +279,8 @@ fn drop_row<K: Drop, V: Drop>(rows: &mut Vec<Row<K, V>>, row: usize)
     }
 }
 
-/// Removes the entry at a place, and its row if that was the last one in it.
+/// Removes the entry at a place and returns it. Its row is removed, too, if that was the last one
+/// in it.
 pub(crate) fn remove_at<K: Drop, V: Drop>(rows: &mut Vec<Row<K, V>>, place: Place) -> (K, V)
     requires row { place.row < length rows.old.items }
     requires place { place.at < length (slice_index_or rows.old.items place.row []) }

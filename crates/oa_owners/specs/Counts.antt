@@ -1,4 +1,5 @@
--- The number of locks of the array in a cell: as many as clients have. (This project's choice.)
+-- The number of locks of the array in a cell: that of all clients together. (This project's
+-- choice.)
 use Rattle.std.specs.Prelude.{◌≡◌, ℕ, ◌+◌, if◌then◌else◌, List, [], ◌∷◌, map}
 use Rattle.std.specs.List.Sorted.{IsStrictlySortedBy}
 use Rattle.std.specs.Map.{keys_of}

@@ -46,8 +46,8 @@ impl ClientCells {
         self.counts.iter()
     }
 
-    /// Adds a lock of a cell. It allocates only for the first lock of the cell. Err: the allocation failed; the key
-    /// is returned, and nothing changed.
+    /// Adds a lock of a cell. It allocates only for the first lock of the cell. Err: the allocation
+    /// failed; the key is returned, and nothing changed.
     pub(crate) fn add(&mut self, cell: CellKey) -> Result<(), CellKey>
         ensures added { OnOk result (self.new ≡ with_cell cell self.old) }
         ensures back { IfErr result (λ back. back ≡ cell) }
@@ -67,14 +67,14 @@ impl ClientCells {
         Ok(())
     }
 
-    /// Returns whether the client has a lock of a cell.
+    /// Returns whether the client has a lock of this cell.
     pub(crate) fn has(&self, cell: &CellKey) -> bool
         ensures { result ≡ has_cell cell.now self.now }
     {
         count_of(&self.counts, cell) != 0
     }
 
-    /// Releases a lock of a cell, if there is one.
+    /// Releases one of the client's locks of this cell, if it has one.
     pub(crate) fn take_one(&mut self, cell: &CellKey)
         ensures { self.new ≡ without_cell cell.now self.old }
     {
@@ -93,7 +93,7 @@ impl ClientCells {
     }
 }
 
-/// Returns the number of locks of a cell.
+/// Returns the number of locks of this cell; 0 if there is none.
 fn count_of(counts: &OrderedMap<CellKey, u32>, cell: &CellKey) -> u32
     ensures { result ≡ unwrap_or (lookup (is_at (cell_cmp cell.now)) counts.now) 0 }
 {

@@ -11,8 +11,8 @@ use std::marker::Model;
 
 /// The locks of all clients, in the order of the clients and then of the cells.
 ///
-/// A client has one entry, with one entry for each cell that it has locked and the number of its locks. Look-ups take
-/// logarithmic time. A client's entry stays until its end.
+/// A client has one entry, with one entry for each cell that it has locked and the number of its
+/// locks. Look-ups take logarithmic time. A client's entry stays until its end.
 #[derive(Drop)]
 pub struct Owners {
     alloc: Global,
@@ -40,16 +40,17 @@ impl Owners {
         }
     }
 
-    /// Returns the clients by rising number, each with the cells that it has locked. (The clause states which cells,
-    /// each as often as it is locked.) Allocates nothing.
+    /// Returns the clients by rising number, each with the cells that it has locked and the number
+    /// of its locks of each. Allocates nothing.
     pub fn clients(&self) -> Iter<'_, u32, ClientCells>
         ensures { all_cells result ≡ map name_of self.now }
     {
         self.clients.iter()
     }
 
-    /// Adds a lock of the client on this cell. It allocates only for the client's first lock of the cell. Err: the
-    /// allocation failed; the key is returned, and nothing changed.
+    /// Adds a lock of the client with this number on this cell. It allocates only for the client's
+    /// first lock of the cell. Err: the allocation failed; the key is returned, and no lock
+    /// changed.
     pub fn add(&mut self, client: u32, cell: CellKey) -> Result<(), CellKey>
         ensures added { OnOk result (self.new ≡ with_one client cell self.old) }
         ensures back { IfErr result (λ back. back ≡ cell) }
@@ -61,7 +62,8 @@ impl Owners {
         Err(cell)
     }
 
-    /// Finds or makes the entry of a client. Returns false if the allocation failed.
+    /// Finds or makes the entry of a client. Returns whether it has one: `false` if the allocation
+    /// failed.
     fn begin(&mut self, client: u32) -> bool
         ensures { self.new ≡ self.old }
     {
@@ -72,7 +74,8 @@ impl Owners {
         self.clients.insert(client, cells).is_ok()
     }
 
-    /// Adds a lock to the entry of a client; without an entry it returns the key.
+    /// Adds a lock to the entry of a client. Err: it has no entry, or an allocation failed; the key
+    /// is returned.
     fn add_to(&mut self, client: u32, cell: CellKey) -> Result<(), CellKey>
         ensures added { OnOk result (self.new ≡ with_one client cell self.old) }
         ensures back { IfErr result (λ back. back ≡ cell) }
@@ -86,7 +89,7 @@ impl Owners {
         cells.add(cell)
     }
 
-    /// Returns whether the client has a lock of this cell.
+    /// Returns whether the client with this number has a lock of this cell.
     pub fn owns(&self, client: u32, cell: &CellKey) -> bool
         ensures { result ≡ owns client cell.now self.now }
     {
@@ -98,7 +101,7 @@ impl Owners {
         cells.has(cell)
     }
 
-    /// Releases one of the client's locks of this cell, if it has one.
+    /// Releases one lock of this cell of the client with this number, if it has one.
     pub fn take_one(&mut self, client: u32, cell: &CellKey)
         ensures { self.new ≡ without_one client cell.now self.old }
     {
@@ -110,7 +113,7 @@ impl Owners {
         cells.take_one(cell);
     }
 
-    /// Removes all locks of a client that ends, and returns them.
+    /// Releases all locks of the client with this number, which ends, and returns them.
     pub fn take_all(&mut self, client: u32) -> ClientCells
         ensures others { self.new ≡ of_others client self.old }
         ensures own { result ≡ cells_of client self.old }

@@ -5,7 +5,8 @@ ghost use Rattle.oa_model.specs.Limits.{max_arguments};
 use oa_variant::Variant;
 use std::marker::Model;
 
-/// The DISPIDs of the named arguments of a call, at most 32 (rgdispidNamedArgs, MS-OAUT section 3.1.4.4).
+/// The DISPIDs of the named arguments of a call, at most 32 (rgdispidNamedArgs, MS-OAUT section
+/// 3.1.4.4).
 #[derive(Debug, Drop)]
 pub struct Dispids {
     dispids: Vec<i32>,
@@ -40,8 +41,8 @@ impl Dispids {
     }
 }
 
-/// The arguments of a call in the order of rgvarg, at most 32 (MS-OAUT section 3.1.4.4): the named ones first, then the others from the
-/// last parameter to the first.
+/// The arguments of a call in the order of rgvarg, at most 32 (MS-OAUT section 3.1.4.4): the named
+/// ones first, then the others from the last parameter to the first.
 #[derive(Debug, Drop)]
 pub struct Arguments {
     values: Vec<Variant>,

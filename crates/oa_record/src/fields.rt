@@ -24,7 +24,8 @@ use uuid::Uuid;
 /// The largest number of bytes that the fields of a reply can have.
 pub const MAX_FIELDS_BYTES: usize = 4_294_967_275;
 
-/// The largest encoded value, in bytes, that fits a reply: after the 8 bytes of count and reserved number, and with its padding.
+/// The largest encoded value, in bytes, that fits a reply: after the 8 bytes of count and reserved
+/// number, and with its padding.
 const MAX_VALUE_BYTES: usize = (MAX_FIELDS_BYTES - 8) / 8 * 8;
 
 /// Encodes a u32 and a reserved u32, which is 0, in 8 bytes.
@@ -36,7 +37,8 @@ fn two_words(number: u32) -> [u8; 8]
     [a, b, c, d, 0, 0, 0, 0]
 }
 
-/// Appends the zeros that pad `len` bytes to a multiple of 8.
+/// Appends the zeros that pad `len` bytes to a multiple of 8. Err: the allocation fails; `out` is
+/// unchanged.
 fn pad(out: &mut Vec<u8>, len: usize) -> Result<(), AllocError>
     requires { len ≤ 8589934592 }
     ensures ok { OnOk result (out.new.items ≡ out.old.items ++ replicate (padding 8 len) 0) }
@@ -85,8 +87,8 @@ fn add_object(out: &mut Vec<u8>, number: u32, class: &Uuid) -> Result<(), AllocE
     Ok(())
 }
 
-/// Appends an object field, for a list of objects: u32 number, u32 reserved, the 16 bytes of its coclass's GUID. Err: the allocation fails;
-/// `out` is unchanged.
+/// Appends an object field, for a list of objects: u32 number, u32 reserved, the 16 bytes of its
+/// coclass's GUID. Err: the allocation fails; `out` is unchanged.
 pub fn put_object_field(out: &mut Vec<u8>, number: u32, class: &Uuid) -> Result<(), AllocError>
     ensures value { OnOk result (out.new.items ≡ out.old.items ++ object_field number class.now) }
     ensures len { OnOk result (length out.new.items ≡ length out.old.items + 24) }
@@ -97,8 +99,9 @@ pub fn put_object_field(out: &mut Vec<u8>, number: u32, class: &Uuid) -> Result<
     undone(out, len, added)
 }
 
-/// Returns the fields of the refusal of a library that would lose something: the 16 bytes of the GUID of its interface or coclass, i32
-/// DISPID, u32 reserved. Err: the allocation fails.
+/// Returns the fields of the refusal of a library that would lose something: the 16 bytes of the
+/// GUID of its interface or coclass in wire order, i32 DISPID, u32 reserved. Err: the allocation
+/// fails.
 pub fn lost_field(alloc: Global, guid: &Uuid, dispid: i32) -> Result<Vec<u8>, AllocError>
     ensures value { IfOk result (λ v. v.items ≡ lost_field guid.now dispid) }
     ensures len { IfOk result (λ v. length v.items ≡ 24) }
@@ -121,7 +124,8 @@ fn long_field(bits: u32) -> [u8; 32]
     ]
 }
 
-/// Appends a value field. `len` is the number of bytes of the encoded value. After Err, `out` may end with a part of it.
+/// Appends a value field. `len` is the number of bytes of the encoded value. After Err, `out` may
+/// end with a part of it.
 fn add_value(out: &mut Vec<u8>, value: &Variant, len: usize) -> Result<(), AllocError>
     requires counted { len ≡ length (canon value.now) }
     requires few { len ≤ max_value_bytes }
@@ -133,10 +137,11 @@ fn add_value(out: &mut Vec<u8>, value: &Variant, len: usize) -> Result<(), Alloc
     pad(out, len)
 }
 
-/// Appends a value field: u32 count of the value's bytes, u32 reserved, these bytes, zeros up to a multiple of 8. After Err, `out` is
-/// unchanged.
+/// Appends a value field: u32 count of the value's bytes, u32 reserved, these bytes, zeros up to a
+/// multiple of 8. After Err, `out` is unchanged.
 ///
-/// Errors: `TooLong` if and only if the encoded value, an array, has more than 4,294,967,264 bytes; `Memory` if an allocation fails.
+/// Errors: `TooLong` if and only if the encoded value, an array, has more than 4,294,967,264 bytes;
+/// `Memory` if an allocation fails.
 pub fn put_variant_field(out: &mut Vec<u8>, value: &Variant) -> Result<(), FieldFault>
     ensures value { OnOk result (out.new.items ≡ out.old.items ++ variant_field value.now) }
     ensures err { OnErr result (out.new.items ≡ out.old.items) }
@@ -152,9 +157,11 @@ pub fn put_variant_field(out: &mut Vec<u8>, value: &Variant) -> Result<(), Field
     Ok(())
 }
 
-/// Returns a value field: u32 count of the value's bytes, u32 reserved, these bytes, zeros up to a multiple of 8.
+/// Returns a value field: u32 count of the value's bytes, u32 reserved, these bytes, zeros up to a
+/// multiple of 8.
 ///
-/// Errors: `TooLong` if and only if the encoded value, an array, has more than 4,294,967,264 bytes; `Memory` if an allocation fails.
+/// Errors: `TooLong` if and only if the encoded value, an array, has more than 4,294,967,264 bytes;
+/// `Memory` if an allocation fails.
 #[tactic(auto, using(crate::proofs::Longs::long_is))]
 pub fn variant_field(alloc: Global, value: &Variant) -> Result<Vec<u8>, FieldFault>
     ensures value { IfOk result (λ v. v.items ≡ variant_field value.now) }
@@ -182,7 +189,8 @@ fn one_len(value: &Scalar) -> usize
     scalar_len(value)
 }
 
-/// Appends the encoding of a scalar, aligned as if it began at offset 0. Err: an allocation fails; `out` is unchanged.
+/// Appends the encoding of a scalar, aligned as if it began at offset 0. Err: an allocation fails;
+/// `out` is unchanged.
 fn add_scalar(out: &mut Vec<u8>, value: &Scalar) -> Result<(), AllocError>
     ensures ok { OnOk result (out.new.items ≡ out.old.items ++ canon (One value.now)) }
     ensures err { OnErr result (out.new.items ≡ out.old.items) }
@@ -205,7 +213,8 @@ fn add_scalar_field(out: &mut Vec<u8>, value: &Scalar) -> Result<(), AllocError>
     Ok(())
 }
 
-/// Appends a value field with a scalar, without a copy into a `Variant`. Err: an allocation fails; `out` is unchanged.
+/// Appends a value field with a scalar, without a copy into a `Variant`. Err: an allocation fails;
+/// `out` is unchanged.
 fn put_scalar_field(out: &mut Vec<u8>, value: &Scalar) -> Result<(), AllocError>
     ensures value { OnOk result (out.new.items ≡ out.old.items ++ variant_field (One value.now)) }
     ensures err { OnErr result (out.new.items ≡ out.old.items) }
@@ -215,9 +224,10 @@ fn put_scalar_field(out: &mut Vec<u8>, value: &Scalar) -> Result<(), AllocError>
     undone(out, len, added)
 }
 
-/// Returns a value field with a scalar: u32 count of the value's bytes at 0, u32 reserved at 4, from 8 on these bytes as
-/// `oa_wire_variant::write_variant` encodes the scalar (wireVARIANT, MS-OAUT section 2.2.29), zeros up to a multiple of 8. Err: an
-/// allocation fails.
+/// Returns a value field with a scalar: u32 count of the value's bytes at 0, u32 reserved at 4,
+/// from 8 on these bytes, zeros up to a multiple of 8. The bytes are those of
+/// `oa_wire_variant::write_variant` (wireVARIANT, MS-OAUT section 2.2.29). Err: an allocation
+/// fails.
 pub fn scalar_field(alloc: Global, value: &Scalar) -> Result<Vec<u8>, AllocError>
     ensures value { IfOk result (λ v. v.items ≡ variant_field (One value.now)) }
     ensures len { IfOk result (λ v. length v.items ≤ max_fields_bytes) }
@@ -235,7 +245,7 @@ fn signed_bytes(id: i32) -> [u8; 4]
     id.to_le_bytes()
 }
 
-/// Appends DISPIDs, 4 bytes each.
+/// Appends DISPIDs, 4 bytes each. Err: the allocation fails, and some may have been appended.
 fn put_ids(out: &mut Vec<u8>, ids: &[i32]) -> Result<(), AllocError>
     ensures { OnOk result (out.new.items ≡ out.old.items ++ flat_map signed_word ids.now) }
 {
@@ -245,7 +255,8 @@ fn put_ids(out: &mut Vec<u8>, ids: &[i32]) -> Result<(), AllocError>
     Ok(())
 }
 
-/// Returns a field of at most 17 DISPIDs: u32 count, u32 reserved, i32 each, zeros up to a multiple of 8. Err: an allocation fails.
+/// Returns a field of at most 17 DISPIDs: u32 count, u32 reserved, i32 each, zeros up to a multiple
+/// of 8. Err: an allocation fails.
 pub fn ids_field(alloc: Global, ids: &[i32]) -> Result<Vec<u8>, AllocError>
     requires { length ids.now ≤ max_names }
     ensures value { IfOk result (λ v. v.items ≡ ids_field ids.now) }
@@ -267,7 +278,8 @@ fn unit_bytes(character: u8) -> [u8; 2]
     (character as u16).to_le_bytes()
 }
 
-/// Appends a UTF-16 unit for each character of `text`.
+/// Appends a UTF-16 unit for each character of `text`. Err: the allocation fails, and some may have
+/// been appended.
 fn put_units(out: &mut Vec<u8>, text: &[u8]) -> Result<(), AllocError>
     ensures ok { OnOk result (out.new.items ≡ out.old.items ++ flat_map half_word text.now) }
     ensures front { OnErr result (take (length out.old.items) out.new.items ≡ out.old.items) }
@@ -290,10 +302,11 @@ fn add_string(out: &mut Vec<u8>, text: &[u8]) -> Result<(), AllocError>
     Ok(())
 }
 
-/// Appends a string field of ASCII characters: u32 count, u32 reserved, a UTF-16 unit for each, zeros up to a multiple of 8. After Err,
-/// `out` is unchanged.
+/// Appends a string field of ASCII characters: u32 count, u32 reserved, a UTF-16 unit for each,
+/// zeros up to a multiple of 8. After Err, `out` is unchanged.
 ///
-/// Errors: `TooLong` if and only if the text has more than 4,294,967,295 characters; `Memory` if an allocation fails.
+/// Errors: `TooLong` if and only if the text has more than 4,294,967,295 characters; `Memory` if an
+/// allocation fails.
 fn put_string_field(out: &mut Vec<u8>, text: &[u8]) -> Result<(), FieldFault>
     ensures value { OnOk result (out.new.items ≡ out.old.items ++ string_field text.now) }
     ensures err { OnErr result (out.new.items ≡ out.old.items) }
@@ -308,10 +321,11 @@ fn put_string_field(out: &mut Vec<u8>, text: &[u8]) -> Result<(), FieldFault>
     Ok(())
 }
 
-/// Returns a string field of ASCII characters: u32 count of the characters at 0, u32 reserved at 4, from 8 on a UTF-16 unit of 2 bytes for
-/// each, zeros up to a multiple of 8.
+/// Returns a string field of ASCII characters: u32 count of the characters at 0, u32 reserved at 4.
+/// From 8 on it has a UTF-16 unit of 2 bytes for each, and zeros up to a multiple of 8.
 ///
-/// Errors: `TooLong` if and only if the text has more than 4,294,967,295 characters; `Memory` if an allocation fails.
+/// Errors: `TooLong` if and only if the text has more than 4,294,967,295 characters; `Memory` if an
+/// allocation fails.
 pub fn string_field(alloc: Global, text: &[u8]) -> Result<Vec<u8>, FieldFault>
     ensures value { IfOk result (λ v. v.items ≡ string_field text.now) }
     ensures long { IsErrOf result TooLong ↔ (4294967295 < length text.now) }

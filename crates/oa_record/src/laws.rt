@@ -25,7 +25,8 @@ pub fn one_refusal()
     ensures index { (body : List ℕ) (i j : Option ℕ) → IsBadVarType body i → IsBadVarType body j → i ≡ j }
 {}
 
-/// A body that encodes a request has at least 8 bytes and contains the opcode of this request at its offset 4.
+/// A body that encodes a request has at least 8 bytes and contains the opcode of this request at
+/// its offset 4.
 pub fn opcode_stands()
     ensures { (body : List ℕ) (q : ARequest) → Asks body q → (8 ≤ length body) × (opcode_at body ≡ opcode_number (request_opcode q)) }
 {}

@@ -4,7 +4,8 @@ ghost use Rattle.oa_model.specs.Limits.{max_names};
 
 use std::marker::Model;
 
-/// From 1 to 17 names as UTF-16 units: first that of a member, then those of its parameters (rgszNames, MS-OAUT section 3.1.4.3).
+/// From 1 to 17 names as UTF-16 units: first that of a member, then those of its parameters
+/// (rgszNames, MS-OAUT section 3.1.4.3).
 #[derive(Debug, Drop)]
 pub struct Names {
     names: Vec<Vec<u16>>,
@@ -22,7 +23,7 @@ impl Model for Names {
 }
 
 impl Names {
-    /// Makes a list of 1 to 17 names.
+    /// Makes a list of 1 to 17 names, each as UTF-16 units.
     pub fn new(names: Vec<Vec<u16>>) -> Names
         requires some { 1 ≤ length names.items }
         requires few { length names.items ≤ max_names }

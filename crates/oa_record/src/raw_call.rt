@@ -14,7 +14,8 @@ pub(crate) struct RawCall<'a> {
     fields: Vec<&'a [u8]>,
 }
 
-/// The head of a call whose only argument, if any, is a property's new value, and the bytes of that value's field.
+/// The head of a call whose only argument, if any, is a property's new value, and the bytes of that
+/// value's field.
 #[derive(Drop)]
 pub(crate) struct ValueParts<'a> {
     pub head: CallHead,
@@ -34,7 +35,8 @@ impl<'a> Model for RawCall<'a> {
 }
 
 impl<'a> RawCall<'a> {
-    /// Makes a call of at most 32 arguments and at most 32 named ones.
+    /// Makes a call with the DISPIDs of at most 32 named arguments, and the fields of at most 32
+    /// arguments.
     pub(crate) fn new(head: CallHead, named: Vec<i32>, fields: Vec<&'a [u8]>) -> RawCall<'a>
         requires few_named { length named.items ≤ max_arguments }
         requires few { length fields.items ≤ max_arguments }
@@ -55,7 +57,7 @@ impl<'a> RawCall<'a> {
         self.fields.as_slice()
     }
 
-    /// Returns the call with decoded arguments.
+    /// Returns the call with these decoded arguments, at most 32.
     pub(crate) fn with(self, values: Vec<Variant>) -> Call
         requires { length values.items ≤ max_arguments }
         ensures { result ≡ record { head = self.entry.head; named = self.entry.named; arguments = values.items } }

@@ -16,8 +16,8 @@ use Rattle.oa_table.specs.Locks.{locks_at}
 use Rattle.oa_table.specs.declared.name.CellName.{CellName}
 use Rattle.oa_turn.specs.Turns.{Run, Turn}
 
--- Each array of the table has as many locks as clients have on it; the table's objects are numbered, in the order of
--- their numbers.
+-- Each array of the table has the locks that clients have on it. The table's objects are numbered,
+-- in the order of their numbers.
 pub record HasLedger (one : Shared) : Type 0 where
   pub numbered : is_numbered one.state.table ≡ true
   pub ledger : IsLedger one.locks one.state.table

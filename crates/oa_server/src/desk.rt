@@ -1,4 +1,5 @@
-//! The open group of a session over a store, with the client of each reply and the owner of each lock.
+//! The open group of a session over a store, with the client of each reply and the owner of each
+//! lock.
 ghost use Rattle.std.specs.Prelude.{◌≡◌, ◌∷◌, [], ℕ, false, true};
 ghost use Rattle.oa_groups.specs.Groupings.{IsEnded, IsTaken};
 ghost use Rattle.oa_decision.specs.declared.decision.LockChange.{LockChange as AChange};
@@ -57,8 +58,9 @@ impl Desk {
     }
 }
 
-/// Executes one body of a client in the open group; the body is not a group of its own. Returns `true` if the group
-/// ended and its replies can be sent.
+/// Executes one body of the client with this number in the open group. The body does not come
+/// alone. Returns `true` if the group has ended and its replies can be sent. If the device has
+/// failed, these replies are errors.
 pub(crate) fn ask_over<D: Disk>(
     alloc: Global,
     host: &mut Host,
@@ -88,7 +90,7 @@ pub(crate) fn ask_over<D: Disk>(
     }
 }
 
-/// Executes one body that changes no lock.
+/// Executes one body that changes no lock, and returns what `ask_over` does.
 fn take_for<D: Disk>(
     alloc: Global,
     host: &mut Host,
@@ -114,8 +116,8 @@ fn take_for<D: Disk>(
     take(alloc, host, store, &mut desk.open_group, body)
 }
 
-/// Executes one body of any client that is a group of its own, while nothing is held: its reply can be sent at once.
-/// No lock changes its owner.
+/// Executes one body of any client that comes alone, while no reply is held. Returns its reply,
+/// which can be sent at once. No lock changes its owner.
 pub(crate) fn ask_alone<D: Disk>(
     alloc: Global,
     host: &mut Host,
@@ -138,8 +140,8 @@ pub(crate) fn ask_alone<D: Disk>(
     take_alone(alloc, host, store, &mut desk.open_group, body)
 }
 
-/// Holds the reply to a body that made no event, and ends the group if that fills it. Returns `true` if the group
-/// ended.
+/// Holds the reply to a body that made no event. Returns `true` if this reply fills the group,
+/// which then ends.
 fn hold<D: Disk>(
     alloc: Global,
     host: &Host,
@@ -169,8 +171,9 @@ fn hold<D: Disk>(
     true
 }
 
-/// Ends a client: the frame for its end follows all of its replies, and its locks are released. After a fault of the
-/// device nothing is released.
+/// Ends the client with this number. The frame for its end follows all of its replies, and its
+/// locks are released. Returns `true` if the group has ended and its replies can be sent. If the
+/// device has failed, nothing is released.
 pub(crate) fn end_over<D: Disk>(
     alloc: Global,
     host: &mut Host,
@@ -204,7 +207,7 @@ pub(crate) fn end_over<D: Disk>(
     hold(alloc, host, store, desk, asker, reply)
 }
 
-/// Ends the open group: its replies can be sent.
+/// Commits the open group. Its replies can then be sent; if the device fails, they become errors.
 pub(crate) fn finish_over<D: Disk>(
     alloc: Global,
     host: &Host,

@@ -11,8 +11,8 @@ use oa_record::Reply;
 use oa_turn::Host;
 use std::alloc::{AllocError, Global};
 
-/// A library and a table in memory, the storage of the table, and the open group of a session of one client or of
-/// many.
+/// A library and a table in memory, the storage of the table, and the open group of a session of
+/// one client or of many.
 #[derive(Drop)]
 pub(crate) struct Engine<D: Disk> {
     pub alloc: Global,
@@ -47,7 +47,7 @@ impl<D: Disk> Engine<D> {
     }
 }
 
-/// Answers one body.
+/// Returns the reply to one body, which over a store is a group of its own.
 pub(crate) fn answer_with<D: Disk>(
     alloc: Global,
     host: &mut Host,
@@ -65,7 +65,8 @@ pub(crate) fn answer_with<D: Disk>(
     }
 }
 
-/// Answers bodies in groups of this size. Err: an allocation failed before anything was done.
+/// Returns the replies to `bodies`, in order. Over a store, up to `group` of them are committed
+/// together. Err: an allocation failed before anything was done.
 pub(crate) fn run_with<D: Disk>(
     alloc: Global,
     host: &mut Host,

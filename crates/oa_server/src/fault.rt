@@ -6,8 +6,8 @@ use oa_keeper::DeviceFailed;
 use std::alloc::AllocError;
 use thiserror::Error;
 
-/// Why a change was not made. The table and the batch have not changed, and images are stores of the same table as
-/// before.
+/// Why a change was not made. The table and the batch have not changed, and images are stores of
+/// the same table as before.
 #[derive(Clone, Copy, Debug, PartialEq, Eq, Error)]
 pub(crate) enum HoldFault {
     /// An allocation failed.

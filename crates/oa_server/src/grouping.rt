@@ -1,4 +1,5 @@
-//! Group commit: the events of a group of requests are committed together, and the replies are held back until then.
+//! Group commit: the events of a group of requests are committed together, and the replies are held
+//! back until then.
 ghost use Rattle.std.specs.Prelude.{◌≡◌, ◌≤◌, ◌<◌, ◌+◌, ◌++◌, ◌∷◌, [], IfOk, OnErr, false, length, map, true, vec_capacity};
 ghost use Rattle.oa_groups.specs.Groupings.{IsEnded, IsSettled, IsTaken};
 ghost use Rattle.oa_groups.specs.Served.{IsServed};
@@ -20,8 +21,9 @@ use oa_store::Store;
 use oa_turn::Host;
 use std::alloc::{AllocError, Global};
 
-/// Answers one body as a group of one, with a batch of its own. After a fault of the device the reply is that the
-/// store has failed, and nothing is done.
+/// Returns the reply to one body, which is a group of its own, with a batch of its own. If the
+/// device fails in this call, the reply is STG_E_WRITEFAULT. If it failed earlier, the reply is
+/// E_FAIL, and nothing is done.
 pub(crate) fn answer_over<D: Disk>(
     alloc: Global,
     host: &mut Host,
@@ -48,7 +50,8 @@ pub(crate) fn answer_over<D: Disk>(
     reply
 }
 
-/// Answers one request to replace the library, which is a group of its own.
+/// Returns the reply to a request to replace the library, which is a group of its own:
+/// STG_E_WRITEFAULT if the device fails.
 fn replaced_over<D: Disk>(
     alloc: Global,
     host: &mut Host,
@@ -67,7 +70,8 @@ fn replaced_over<D: Disk>(
     }
 }
 
-/// Ends the open group: commits its events; its replies can then be sent, or have become faults.
+/// Commits the events of the open group. Its replies can then be sent; if the device fails, each
+/// becomes STG_E_WRITEFAULT.
 pub(crate) fn settle<D: Disk>(
     alloc: Global,
     host: &Host,
@@ -90,8 +94,11 @@ pub(crate) fn settle<D: Disk>(
     }
 }
 
-/// Executes one request in the open group; the request is not a group of its own. Returns `true` if the group ended
-/// and the replies that it holds can be sent.
+/// Executes one request, which does not come alone, in the open group. Returns `true` if the group
+/// has ended and the held replies can be sent.
+///
+/// If a checkpoint or a commit fails, each reply of the group becomes STG_E_WRITEFAULT. If the
+/// device failed earlier, nothing is done, and the reply is E_FAIL.
 pub(crate) fn take<D: Disk>(
     alloc: Global,
     host: &mut Host,
@@ -135,8 +142,8 @@ pub(crate) fn take<D: Disk>(
     }
 }
 
-/// Answers one request to replace the library, after the group before it has ended, in which the device may have
-/// failed.
+/// Returns the reply to a request to replace the library, after the group before it has ended. If
+/// the device failed in that group or earlier, nothing is done, and the reply is E_FAIL.
 fn replaced_or_late<D: Disk>(
     alloc: Global,
     host: &mut Host,
@@ -154,8 +161,8 @@ fn replaced_or_late<D: Disk>(
     bare_reply(alloc, body, HResult::E_FAIL)
 }
 
-/// Executes a request that is a group of its own, after ending the open group. All replies that are held can be sent
-/// then.
+/// Ends the open group, and then executes a request that comes alone. All held replies can then be
+/// sent.
 fn take_apart<D: Disk>(
     alloc: Global,
     host: &mut Host,
@@ -179,7 +186,8 @@ fn take_apart<D: Disk>(
     open_group.replies.push_reserved(reply);
 }
 
-/// Executes a request that is a group of its own, while no reply is held: its own can be sent at once.
+/// Executes a request that comes alone, while no reply is held. Returns its reply, which can be
+/// sent at once.
 pub(crate) fn take_alone<D: Disk>(
     alloc: Global,
     host: &mut Host,
@@ -202,7 +210,8 @@ pub(crate) fn take_alone<D: Disk>(
     replaced_or_late(alloc, host, store, body)
 }
 
-/// Ends the open group at the end of the input: its replies can be sent.
+/// Commits the open group when the input has ended: its replies can then be sent. Without replies
+/// it does nothing.
 pub(crate) fn finish<D: Disk>(
     alloc: Global,
     host: &Host,
@@ -223,7 +232,7 @@ pub(crate) fn finish<D: Disk>(
     settle(alloc, host, store, open_group);
 }
 
-/// Executes one request, and returns the replies of a group that has ended.
+/// Executes one request, and appends to `out` the replies of a group that has ended.
 fn take_on<D: Disk>(
     alloc: Global,
     host: &mut Host,
@@ -253,7 +262,7 @@ fn take_on<D: Disk>(
     }
 }
 
-/// Ends the open group at the end of the input, and returns its replies, too.
+/// Commits the open group when the input has ended, and appends its replies to `out`.
 fn finish_on<D: Disk>(
     alloc: Global,
     host: &Host,
@@ -271,7 +280,7 @@ fn finish_on<D: Disk>(
     hand_out(&mut open_group.replies, out);
 }
 
-/// Moves replies to those that are returned.
+/// Moves `replies` to the end of `out`, which has capacity for them.
 fn hand_out(replies: &mut Vec<Reply>, out: &mut Vec<Reply>)
     requires { length out.old.items + length replies.old.items ≤ vec_capacity out.old }
     ensures out { out.new.items ≡ out.old.items ++ replies.old.items }
@@ -282,7 +291,8 @@ fn hand_out(replies: &mut Vec<Reply>, out: &mut Vec<Reply>)
     out.append(replies).unwrap();
 }
 
-/// Answers bodies in groups of this size. Err: an allocation failed before anything was done.
+/// Returns the replies to `bodies`, in order, which are committed in groups of up to `group`. Err:
+/// an allocation failed before anything was done.
 pub(crate) fn run_over<D: Disk>(
     alloc: Global,
     host: &mut Host,

@@ -23,8 +23,8 @@ use oa_store::Store;
 use oa_turn::{Host, Plan, Planned};
 use std::alloc::Global;
 
-/// Executes one turn over a store. Its event is added to the batch; before the first event of a batch, a checkpoint
-/// is made if one is due. Err: the checkpoint failed.
+/// Executes one turn over a store, and returns its reply. Its event is added to `batch`. Before the
+/// first event of a batch, a checkpoint is made if one is due. Err: the checkpoint failed.
 pub(crate) fn turn_held<D: Disk>(
     alloc: Global,
     host: &mut Host,
@@ -49,7 +49,9 @@ pub(crate) fn turn_held<D: Disk>(
     }
 }
 
-/// Makes a planned change in memory, holds its event, and returns the reply.
+/// Makes a planned change in memory, adds its event to `batch`, and returns the reply. If an
+/// allocation fails, nothing has changed, and the reply is E_OUTOFMEMORY. Err: the checkpoint
+/// failed.
 fn hold<D: Disk>(
     alloc: Global,
     host: &mut Host,
@@ -81,9 +83,9 @@ fn hold<D: Disk>(
     }
 }
 
-/// Makes a change that is allowed, and holds its event in a batch, after a checkpoint if one is due: that has the
-/// table before the change. After it memory is allocated for the event's bytes and for the table. `Device`: the
-/// checkpoint failed.
+/// Makes a change that is allowed, and adds its event to `batch`. If a checkpoint is due, it is
+/// made first, with the table before the change. Errors: `Device` if the checkpoint failed;
+/// `Memory` if an allocation failed after it. The table and the batch have then not changed.
 fn hold_change<D: Disk>(
     host: &mut Host,
     store: &mut Store<D>,
@@ -107,8 +109,8 @@ fn hold_change<D: Disk>(
     Ok(())
 }
 
-/// Makes a change that is allowed, and adds its event to the batch. It allocates first for the event's bytes, then
-/// for the table.
+/// Makes a change that is allowed, and adds its event to `batch`. It allocates first for the
+/// event's bytes, then for the table. Err: `Memory`, and nothing has changed.
 fn add_change(host: &mut Host, batch: &mut Batch, event: SizedEvent) -> Result<(), HoldFault>
     requires { CanBeMade host.old event }
     ensures change { MakesChange event host.old host.new result }

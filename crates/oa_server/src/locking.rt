@@ -23,7 +23,8 @@ use oa_table::CellName;
 use oa_turn::{Host, Plan};
 use std::alloc::Global;
 
-/// Executes one turn in memory for a client's body that does not replace the library.
+/// Executes one turn in memory for a body of the client with this number, and returns the reply.
+/// The body does not replace the library.
 pub(crate) fn turn_for(
     alloc: Global,
     host: &mut Host,
@@ -41,7 +42,8 @@ pub(crate) fn turn_for(
     }
 }
 
-/// Executes one turn in memory for a request of any client to replace the library: no lock changes its owner.
+/// Executes in memory a request of any client to replace the library, and returns the reply. No
+/// lock changes its owner.
 pub(crate) fn replace_for(host: &mut Host, body: &[u8]) -> Reply
     requires kind { is_replacement body.now ≡ true }
     ensures turn { (client : ℕ) (locks : List AClientLock) → TurnsFor client body.now result (shared host.old locks) (shared host.new locks) }
@@ -52,8 +54,9 @@ pub(crate) fn replace_for(host: &mut Host, body: &[u8]) -> Reply
     host.replace(body)
 }
 
-/// Executes the turn of a client's body that changes a lock; None, with nothing done, for any other body. A client
-/// can release only its own locks.
+/// Executes a body that changes a lock, for the client with this number, and returns the reply.
+/// None, with nothing done, for any other body. A client can release only its own locks. If an
+/// allocation fails, the reply is E_OUTOFMEMORY.
 pub(crate) fn lock_turn(
     alloc: Global,
     host: &mut Host,
@@ -76,7 +79,8 @@ pub(crate) fn lock_turn(
     }
 }
 
-/// Executes a LOCK. If the allocation for its owner fails, the lock is released.
+/// Executes a LOCK, and makes the client its owner. If the allocation for that fails, the lock is
+/// released, and the reply is E_OUTOFMEMORY.
 fn lock_for(
     alloc: Global,
     host: &mut Host,
@@ -102,7 +106,7 @@ fn lock_for(
     bare_reply(alloc, body, HResult::E_OUTOFMEMORY)
 }
 
-/// Executes an UNLOCK.
+/// Executes an UNLOCK. If the client has no lock of the cell, the reply is E_UNEXPECTED.
 fn unlock_for(
     alloc: Global,
     host: &mut Host,
@@ -131,7 +135,7 @@ fn is_done(reply: &Reply) -> bool
     reply.code().0 == 0
 }
 
-/// Removes the owner of a lock that was released.
+/// Removes one lock of the cell from the client's, if `done`: the lock was released.
 fn give_back(owners: &mut Owners, done: bool, client: u32, cell: &CellKey)
     ensures given { done ≡ true → owners.new ≡ without_one client cell.now owners.old }
     ensures kept { done ≡ false → owners.new ≡ owners.old }
@@ -141,7 +145,7 @@ fn give_back(owners: &mut Owners, done: bool, client: u32, cell: &CellKey)
     }
 }
 
-/// Executes the turn of a body that changes a lock, for any client.
+/// Executes the turn of a body that changes a lock, for any client, and returns the reply.
 fn relock(alloc: Global, host: &mut Host, body: &[u8]) -> Reply
     ensures turn { (change : AChange) → AsksLock host.old body.now change → Ordinary host.old body.now result host.new }
     ensures made { (change : AChange) → AsksLock host.old body.now change → HasEvent host.old body.now result [] }
@@ -155,7 +159,7 @@ fn relock(alloc: Global, host: &mut Host, body: &[u8]) -> Reply
     }
 }
 
-/// Releases all locks of a client that ends.
+/// Releases all locks of the client with this number, which ends.
 pub(crate) fn let_go(host: &mut Host, owners: &mut Owners, client: u32)
     ensures state { shared host.new owners.new ≡ behind_end client (shared host.old owners.old) }
     ensures same { held_of host.new ≡ held_of host.old }
@@ -183,7 +187,7 @@ fn take_back_times(host: &mut Host, name: &CellName, count: u32)
     }
 }
 
-/// Releases all locks that clients still have when a session ends.
+/// Releases all locks that clients still have when a session ends. After it no lock has an owner.
 pub(crate) fn let_all_go(alloc: Global, host: &mut Host, owners: &mut Owners)
     ensures state { shared host.new owners.new ≡ behind_all (shared host.old owners.old) }
     ensures none { owners.new ≡ [] }

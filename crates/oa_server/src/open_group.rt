@@ -24,7 +24,8 @@ pub(crate) struct OpenGroup {
 }
 
 impl OpenGroup {
-    /// Makes an empty group, with capacity for its replies.
+    /// Makes an empty group of at most `size` requests, with capacity for their replies. Err: the
+    /// allocation of that capacity failed.
     pub(crate) fn new(alloc: Global, size: usize) -> Result<OpenGroup, AllocError>
         ensures replies { IfOk result (λ open_group. open_group.replies.items ≡ []) }
         ensures places { IfOk result (λ open_group. size ≤ vec_capacity open_group.replies) }
@@ -52,7 +53,7 @@ impl OpenGroup {
         }
     }
 
-    /// Returns whether the group is full.
+    /// Returns whether the group is full: by its number of requests, or by the bytes of its events.
     pub(crate) fn is_full(&self) -> bool
         ensures fills { result ≡ fills self.now.size (length self.now.replies.items) (length self.now.batch) }
         ensures few { result ≡ false → length self.now.batch < group_bytes }
@@ -62,14 +63,15 @@ impl OpenGroup {
     }
 }
 
-/// Returns the reply to a body with only a code. Allocates nothing.
+/// Returns a reply with the tag of `body`, this code and no fields. Allocates nothing.
 pub(crate) fn bare_reply(alloc: Global, body: &[u8], code: HResult) -> Reply
     ensures { result ≡ refusal (tag_at body.now) code None }
 {
     Reply::bare(alloc, tag_of(body), code, None)
 }
 
-/// Turns the replies of a group that could not be committed into faults. Allocates nothing.
+/// Replaces each reply of a group that could not be committed by STG_E_WRITEFAULT, with the same
+/// tag. Allocates nothing.
 pub(crate) fn withdraw(alloc: Global, replies: &mut Vec<Reply>)
     ensures items { replies.new.items ≡ map withdrawn replies.old.items }
     ensures len { length replies.new.items ≡ length replies.old.items }
@@ -78,7 +80,7 @@ pub(crate) fn withdraw(alloc: Global, replies: &mut Vec<Reply>)
     take_back(alloc, replies);
 }
 
-/// Replaces each reply by the fault.
+/// Replaces each reply by STG_E_WRITEFAULT, with the same tag.
 fn take_back(alloc: Global, replies: &mut [Reply])
     ensures { replies.new ≡ map withdrawn replies.old }
 {

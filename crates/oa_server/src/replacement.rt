@@ -16,9 +16,12 @@ use oa_store::{Store, WriteFault};
 use oa_turn::{Host, ReplacementPlan};
 use std::alloc::Global;
 
-/// Executes a body of opcode 12 over a store as a group of its own, while no group is open. The store switches to its
-/// other bank with the new library; if the body is refused, the device is not called. Err: the device has failed, and
-/// the store may have either library; the state in memory is the one after the turn.
+/// Executes a body of opcode 12 over a store as a group of its own, while no group is open, and
+/// returns the reply. The store switches to its other bank with the new library. If the body is
+/// refused, the device is not called.
+///
+/// Err: the device has failed, and the store may have either library. The state in memory is the
+/// one after the turn.
 pub(crate) fn replace_over<D: Disk>(
     alloc: Global,
     host: &mut Host,

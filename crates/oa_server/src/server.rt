@@ -27,7 +27,7 @@ pub struct Server<D: Disk> {
 }
 
 impl Server<NoDisk> {
-    /// Makes a server of this library in memory, with no objects. It makes no call of a disk.
+    /// Makes a server of `library` in memory, with no objects. Makes no call of a disk.
     pub fn in_memory(alloc: Global, library: Library) -> Server<NoDisk>
         ensures state { result.engine.host ≡ record { bank = default_bank_bytes; library = library; table = first_table } }
         ensures memory { InMemory result.engine.storage }
@@ -40,7 +40,8 @@ impl Server<NoDisk> {
 }
 
 impl<D: Disk> Server<D> {
-    /// Makes a server of this library over a store with its text, and with the table that was read from it.
+    /// Makes a server of `library` over `store`, which has the library's text, with the table that
+    /// was read from it.
     pub(crate) fn over_store(
         alloc: Global,
         library: Library,
@@ -73,8 +74,10 @@ impl<D: Disk> Server<D> {
         engine.into_disk()
     }
 
-    /// Answers one request. Over a store it is a group of one, which is committed before this returns. If an
-    /// allocation fails, the reply is E_OUTOFMEMORY, and nothing has changed.
+    /// Returns the reply to one request, the bytes of `body`. Over a store the request is a group
+    /// of one, which is committed before this returns. If an allocation fails, the reply is
+    /// E_OUTOFMEMORY, and nothing has changed. If the device fails, it is STG_E_WRITEFAULT; after
+    /// that, E_FAIL.
     pub fn answer(&mut self, body: &[u8]) -> Reply
         ensures answers { AnswersOne self.old.engine.storage self.new.engine.storage self.old.engine.host body.now result self.new.engine.host }
         ensures memory { InMemory self.old.engine.storage → Turn self.old.engine.host body.now result self.new.engine.host }
@@ -87,9 +90,9 @@ impl<D: Disk> Server<D> {
         )
     }
 
-    /// Answers requests one after another. Over a store, the changes of up to `group` requests (1 to 1,024) are
-    /// committed together, before their replies; in memory `group` has no effect. Err: an allocation failed before
-    /// anything was done.
+    /// Returns the replies to the requests in `bodies`, in order. Over a store, the changes of up
+    /// to `group` requests (1 to 1,024) are committed together, before their replies; in memory
+    /// `group` has no effect. Err: an allocation failed before anything was done.
     pub fn run(&mut self, bodies: &[Vec<u8>], group: usize) -> Result<Vec<Reply>, AllocError>
         requires positive { 1 ≤ group }
         requires small { group ≤ max_group }

@@ -23,8 +23,8 @@ use oa_record::{Reply, is_replacement};
 use oa_stream::{Ahead, Sink, Source, Unwritten};
 use std::alloc::AllocError;
 
-/// In memory each reply is written at once. Over a store it is held until its group ends, and then all replies of the
-/// group are written.
+/// In memory each reply is written at once. Over a store it is held until its group ends, and then
+/// all replies of the group are written.
 impl<D: Disk> Responder for Engine<D> {
     ghost ready = { TakesBodies };
 
@@ -109,7 +109,7 @@ impl<D: Disk> Responder for Engine<D> {
     }
 }
 
-/// Writes the held replies, and drops them.
+/// Writes the held replies, and drops them. Err: the writer failed; they are dropped, too.
 fn put_held<W: Sink>(
     framing: Framing,
     writer: &mut W,
@@ -126,7 +126,7 @@ fn put_held<W: Sink>(
     put
 }
 
-/// Writes replies one after another.
+/// Writes replies one after another. Err: the writer failed, and no later reply is written.
 fn put_replies<W: Sink>(
     framing: Framing,
     writer: &mut W,
@@ -142,13 +142,15 @@ fn put_replies<W: Sink>(
 }
 
 impl<D: Disk> Server<D> {
-    /// Serves one client over lines of hexadecimal digits: one line for each request and for each reply. An empty
-    /// line ends the session as Closed, a line above 8,388,608 characters as TooLong.
+    /// Serves one client over lines of hexadecimal digits: one line for each request and for each
+    /// reply. Returns the number of answered requests, and why the session ended. An empty line
+    /// ends the session as `Closed`, a line above 8,388,608 characters as `TooLong`.
     ///
-    /// Over a store, the changes of up to `group` requests (1 to 1,024) are committed together, and their replies are
-    /// written after that; REPLACE LIBRARY ends the open group, and is a group of its own. In memory each reply is
-    /// written before the next line is read. At the end the open group is committed and its replies are written. The
-    /// writer is flushed before each wait for more input. Err: an allocation failed before anything was read.
+    /// Over a store, the changes of up to `group` requests (1 to 1,024) are committed together, and
+    /// their replies are written after that. REPLACE LIBRARY ends the open group, and is a group of
+    /// its own. In memory each reply is written before the next line is read. At the end the open
+    /// group is committed and its replies are written. The writer is flushed before each wait for
+    /// more input. Err: an allocation failed before anything was read.
     pub fn serve_hex<R: Source + Drop, W: Sink>(
         &mut self,
         reader: &mut Ahead<R>,
@@ -169,9 +171,13 @@ impl<D: Disk> Server<D> {
         session_with(&mut self.engine, Framing::HexLines, reader, writer, group)
     }
 
-    /// Serves one client over records: each request and each reply follows its length in bytes, a little-endian u32.
-    /// The length of a request is at most 4,194,304; a greater one ends the session as TooLong, and 0 as Closed.
-    /// Groups and flushes are as in `serve_hex`. Err: an allocation failed before anything was read.
+    /// Serves one client over records: each request and each reply follows its length in bytes, a
+    /// little-endian u32. Returns the number of answered requests, and why the session ended. The
+    /// length of a request is at most 4,194,304; a greater one ends the session as `TooLong`, and 0
+    /// as `Closed`.
+    ///
+    /// Groups of at most `group` requests and flushes are as in `serve_hex`. Err: an allocation
+    /// failed before anything was read.
     pub fn serve<R: Source + Drop, W: Sink>(
         &mut self,
         reader: &mut Ahead<R>,
@@ -193,8 +199,9 @@ impl<D: Disk> Server<D> {
     }
 }
 
-/// Serves one client in either framing. It allocates an open group, and buffers for the longest line and the longest
-/// body, and frees them at the end.
+/// Serves one client in either framing. It allocates an open group, and buffers for the longest
+/// line and the longest body, and frees them at the end. Err: one of these allocations failed
+/// before anything was read.
 fn session_with<D: Disk, R: Source + Drop, W: Sink>(
     engine: &mut Engine<D>,
     framing: Framing,
@@ -223,8 +230,8 @@ fn session_with<D: Disk, R: Source + Drop, W: Sink>(
     Ok(served)
 }
 
-/// Serves one client with all memory allocated: an empty group with capacity for its replies, and buffers for a line
-/// and a body.
+/// Serves one client with all memory allocated: an empty group with capacity for its replies, and
+/// buffers for a line and a body.
 fn talk<D: Disk, R: Source + Drop, W: Sink>(
     engine: &mut Engine<D>,
     framing: Framing,

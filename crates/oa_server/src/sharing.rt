@@ -27,8 +27,8 @@ use oa_share::{SessionEnd, SharedResponder, put_last_of, put_reply_of, serve_cli
 use oa_stream::{Ahead, Sink, Source, Unwritten};
 use std::alloc::{AllocError, Global};
 
-/// In memory each reply is written at once. Over a store it is held until its group ends, and then all replies of the
-/// group are written, each to its client.
+/// In memory each reply is written at once. Over a store it is held until its group ends, and then
+/// all replies of the group are written, each to its client.
 impl<D: Disk> SharedResponder for Engine<D> {
     ghost ready = { TakesAsked };
 
@@ -139,7 +139,8 @@ impl<D: Disk> SharedResponder for Engine<D> {
     }
 }
 
-/// Writes the held replies, each to its client, and drops them.
+/// Writes the held replies, each to its client, and drops them. Err: the writer failed; they are
+/// dropped, too.
 fn put_told<W: Sink>(alloc: Global, writer: &mut W, desk: &mut Desk) -> Result<(), Unwritten>
     requires unbroken { (W.out writer.old).broken ≡ false }
     requires each { length desk.old.askers.items ≡ length desk.old.open_group.replies.items }
@@ -159,7 +160,8 @@ fn clear(desk: &mut Desk)
     desk.open_group.replies.clear();
 }
 
-/// Writes replies one after another, each to its client.
+/// Writes replies one after another, each to its client. Err: the writer failed, and no later reply
+/// is written.
 fn put_all<W: Sink>(
     alloc: Global,
     writer: &mut W,
@@ -177,7 +179,7 @@ fn put_all<W: Sink>(
     Ok(())
 }
 
-/// Returns the client of a reply.
+/// Returns the client of reply `i`, counted from 0.
 fn asker_of(askers: &[Asker], i: usize) -> Asker
     requires { i < length askers.now }
     ensures { get_or askers.now i result ≡ result }
@@ -201,8 +203,8 @@ fn put_one<W: Sink>(
     }
 }
 
-/// Writes the end of a client: for a record that was cut or too long the reply bad stub data, with tag 0, and then
-/// the frame that ends its replies.
+/// Writes the end of a client: for a record that was cut or too long the reply bad stub data, with
+/// tag 0, and then the frame that ends its replies.
 fn put_end<W: Sink>(alloc: Global, writer: &mut W, client: u32, why: End) -> Result<(), Unwritten>
     requires { (W.out writer.old).broken ≡ false }
     ensures { Puts result (W.out writer.old) (W.out writer.new) (spelled_frames (frames_of (ALeave client why))) }
@@ -226,15 +228,17 @@ fn is_answered(why: End) -> bool
 }
 
 impl<D: Disk> Server<D> {
-    /// Serves many clients over frames: reads their requests from a reader, and writes frames of replies to a writer.
+    /// Serves many clients over frames: reads their requests from a reader, and writes frames of
+    /// replies to a writer. Returns why the session ended.
     ///
-    /// Over a store, the changes of up to `group` requests (1 to 1,024) of any clients are committed together, and
-    /// their replies are written after that, each to its client. The end of a client counts as a request. A *now*
-    /// ends the open group; so does REPLACE LIBRARY, which is a group of its own. In memory each reply is written at
-    /// once.
+    /// Over a store, the changes of up to `group` requests (1 to 1,024) of any clients are
+    /// committed together. Their replies are written after that, each to its client. The end of a
+    /// client counts as a request. A *now* ends the open group; so does REPLACE LIBRARY, which is a
+    /// group of its own. In memory each reply is written at once.
     ///
-    /// At the start no client has a lock: locks of before belong to nobody. The end of a client releases its locks,
-    /// and the end of the session those of all present clients. Err: an allocation failed before anything was read.
+    /// At the start no client has a lock: locks of before belong to nobody. The end of a client
+    /// releases its locks, and the end of the session those of all present clients. Err: an
+    /// allocation failed before anything was read.
     pub fn serve_shared<R: Source + Drop, W: Sink>(
         &mut self,
         reader: &mut Ahead<R>,

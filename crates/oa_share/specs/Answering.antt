@@ -6,7 +6,8 @@ use Rattle.oa_share.specs.Marks.{Owned, Now}
 use Rattle.oa_share.specs.Outgoing.{spelled_frames}
 use Rattle.oa_share.specs.Readers.{Brought}
 
--- a turn: the state before, what is asked, what is sent then (any number of replies, to any clients), the state after
+-- a turn: the state before, the request, what is sent then (any number of replies, to any clients),
+-- the state after
 abbrev pub SharedTurn : Type 0 → Type 1
 SharedTurn S = S → Owned Brought → List (ℕ × List ℕ) → S → Type 0
 

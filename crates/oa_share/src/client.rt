@@ -12,7 +12,8 @@ use std::alloc::{AllocError, Global};
 use std::marker::Model;
 use std::mem::replace;
 
-/// The bytes of an incomplete record of a client; or its stream has ended, and what follows is ignored.
+/// The state of a client's stream: the bytes of an incomplete record, or that the stream has ended
+/// and its further bytes are ignored.
 #[derive(Drop)]
 pub(crate) struct Client {
     alloc: Global,
@@ -50,8 +51,8 @@ impl Client {
         !self.over && self.part.is_empty()
     }
 
-    /// Consumes bytes up to the end of the first whole item. Err: an allocation for a part of a record failed, and
-    /// nothing was consumed.
+    /// Consumes bytes up to the end of the first whole item, and returns the item. Err: an
+    /// allocation for a part of a record failed, and nothing was consumed.
     pub(crate) fn advance<'a>(&mut self, bytes: &'a [u8]) -> Result<ClientStep<'a>, AllocError>
         requires { 0 < length bytes.now }
         ensures taken { IfOk result (λ s. Takes s.taken s.what (length bytes.now)) }
@@ -88,7 +89,8 @@ impl Client {
         }
     }
 
-    /// Returns the record that these bytes complete. If it begins with them, nothing is copied.
+    /// Returns the record that `bytes` complete. If it begins with them, nothing is copied. Err: an
+    /// allocation failed, and nothing changed.
     fn gather<'a>(&mut self, bytes: &'a [u8]) -> Result<WholeRecord<'a>, AllocError>
         requires { IsWholeBehind bytes.now self.old }
         ensures record { IfOk result (λ r. ClientBrings (Some self.old) bytes.now (brought (what.Body r)) (Some self.new)) }

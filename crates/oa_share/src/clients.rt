@@ -14,8 +14,9 @@ use std::marker::Model;
 
 /// The present clients by their numbers, each with the bytes of its incomplete record.
 ///
-/// A client is present from its first bytes to its end. For each, at most the bytes of one record are kept: 4 bytes
-/// for the length, which is at most `MAX_REQUEST_BYTES`, and fewer bytes than that.
+/// A client is present from its first bytes to its end. For each, at most the bytes of one record
+/// are kept: 4 bytes for the length, which is at most `MAX_REQUEST_BYTES`, and fewer bytes than
+/// that.
 #[derive(Drop)]
 pub struct Clients {
     alloc: Global,
@@ -52,7 +53,8 @@ impl Clients {
         }
     }
 
-    /// Returns whether a client is present, between two records, and has not ended.
+    /// Returns whether the client with this number is present, between two records, and has not
+    /// ended.
     pub(crate) fn is_between(&self, client: u32) -> bool
         ensures { result ≡ true → state_of self.now client ≡ Some (Held []) }
     {
@@ -69,12 +71,13 @@ impl Clients {
         self.clients.len()
     }
 
-    /// Consumes a client's bytes, up to the end of its next record or of the length that ends its stream; all of them
-    /// if they complete neither, or if the stream has ended before. A record that is whole in these bytes is
-    /// borrowed; one that came in parts is returned by value.
+    /// Consumes bytes of the client with this number: up to the end of its next record, or of the
+    /// length that ends its stream. It consumes all bytes if they complete neither, or if the
+    /// stream ended before. Returns the number of consumed bytes and the item. A record that is
+    /// whole in these bytes is borrowed; one that came in parts is returned by value.
     ///
-    /// Err: an allocation failed, for a new client or for a part of a record. Nothing was consumed, and the call may
-    /// be repeated.
+    /// Err: an allocation failed, for a new client or for a part of a record. Nothing was consumed,
+    /// and the call may be repeated.
     pub fn step<'a>(&mut self, client: u32, bytes: &'a [u8]) -> Result<ClientStep<'a>, AllocError>
         requires { 0 < length bytes.now }
         ensures taken { IfOk result (λ s. Takes s.taken s.what (length bytes.now)) }
@@ -88,7 +91,8 @@ impl Clients {
         found.advance(bytes)
     }
 
-    /// Consumes bytes of a new client.
+    /// Consumes bytes of a client that is not present, and adds it. Err: an allocation failed, and
+    /// nothing changed.
     fn enter<'a>(&mut self, client: u32, bytes: &'a [u8]) -> Result<ClientStep<'a>, AllocError>
         requires some { 0 < length bytes.now }
         requires absent { state_of self.old client ≡ None }
@@ -105,8 +109,9 @@ impl Clients {
         }
     }
 
-    /// Ends a client's stream and removes the client. Returns `Closed` between two records, `Cut` inside one, None if
-    /// the stream had ended before. A client that is not present has an empty stream. Allocates nothing.
+    /// Ends the stream of the client with this number, and removes the client. Returns `Closed`
+    /// between two records, `Cut` inside one, None if the stream had ended before. A client that is
+    /// not present has an empty stream. Allocates nothing.
     pub fn end(&mut self, client: u32) -> Option<End>
         ensures brings { EndsWith result (state_of self.old client) (state_of self.new client) }
         ensures others { OthersStay client self.old self.new }
@@ -118,7 +123,8 @@ impl Clients {
         }
     }
 
-    /// Ends and removes the client with the lowest number; None if there is no client.
+    /// Ends and removes the client with the lowest number. Returns the number, and the end as `end`
+    /// does; None if there is no client.
     pub fn end_lowest(&mut self) -> Option<(u32, Option<End>)>
         ensures { EndsLowest result self.old self.new }
     {

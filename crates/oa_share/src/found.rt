@@ -1,4 +1,4 @@
-//! Where a record ends.
+//! The end of a record.
 ghost use Rattle.std.specs.Prelude.{◌≡◌, ◌≤◌, ◌<◌, ◌+◌, ◌++◌, length, take, IfSome, IsNone};
 ghost use Rattle.oa_share.specs.Readers.{IsPartRecord, said};
 ghost use Rattle.oa_share.specs.Steps.{FindsEnd};
@@ -19,7 +19,8 @@ pub(crate) enum Found {
     Ends(End, usize),
 }
 
-/// Finds the end of the record that begins with `front` and continues with `bytes`.
+/// Finds the end of the record that begins with `front` and continues with `bytes`; `front` is not
+/// a whole record.
 pub(crate) fn find(front: &[u8], bytes: &[u8]) -> Found
     requires part { IsPartRecord front.now }
     requires some { 0 < length bytes.now }
@@ -31,7 +32,8 @@ pub(crate) fn find(front: &[u8], bytes: &[u8]) -> Found
     }
 }
 
-/// Finds the end of a record whose body has `n` bytes.
+/// Finds the end of a record whose body has `n` bytes. Lengths count only once, when their fourth
+/// byte comes.
 fn find_of(n: usize, front: &[u8], bytes: &[u8]) -> Found
     requires part { IsPartRecord front.now }
     requires some { 0 < length bytes.now }
@@ -52,7 +54,8 @@ fn find_of(n: usize, front: &[u8], bytes: &[u8]) -> Found
     }
 }
 
-/// Returns the length in a record's first four bytes, if they have come.
+/// Returns the length in bytes of a record's body, from its first four bytes; None if they have not
+/// all come.
 fn length_of(front: &[u8], bytes: &[u8]) -> Option<usize>
     ensures none { IsNone result → length front.now + length bytes.now < 4 }
     ensures some { IfSome result (λ n. (n ≡ said (front.now ++ bytes.now)) × (4 ≤ length front.now + length bytes.now)) }

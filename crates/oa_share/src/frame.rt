@@ -23,7 +23,7 @@ pub enum FrameHead {
 }
 
 impl FrameHead {
-    /// Decodes eight bytes: the client's number, then the length, each with its lowest byte first.
+    /// Decodes eight bytes: the client's number, then the length in bytes, both little-endian.
     pub fn from_bytes(bytes: &[u8; 8]) -> FrameHead
         ensures head { result ≡ frame_head_of bytes.now }
         ensures some { SaysSome result }
@@ -48,7 +48,7 @@ impl FrameHead {
     }
 }
 
-/// Encodes the head of a frame of this many bytes for a client.
+/// Returns the head of a frame with `count` bytes of the client with this number.
 pub fn frame_head(client: u32, count: u32) -> [u8; 8]
     ensures { result ≡ frames.frame_head client count }
 {

@@ -22,7 +22,8 @@ pub fn one_client_has_all()
         → asked_in reads states (named client stream) ≡ named client (brought_in reads (states client) stream) }
 {}
 
-/// A session of records reads from some bytes what they contain as one client's stream: its bodies, and its end.
+/// A session of records reads from some bytes what they contain as one client's stream: its bodies,
+/// and its end.
 pub fn each_is_a_session()
     ensures reads { (bytes rest : List ℕ) (bodies : List (List ℕ)) (why : AnEnd) → ReadTo records (At why) bodies bytes rest → (why ≡ ReadFault → ⊥)
         → brought_in records_of None (pieces bytes ++ Last ∷ []) ≡ map Body bodies ++ Ends why ∷ [] }
@@ -31,7 +32,8 @@ pub fn each_is_a_session()
         → (bodies : List (List ℕ)) × (why : AnEnd) × (rest : List ℕ) × ReadTo records (At why) bodies bytes rest × (why ≡ ReadFault → ⊥) }
 {}
 
-/// The meaning of frames: a client's bytes, its end, or *now*: everything is to be committed and answered.
+/// The meaning of frames: a client's bytes, its end, or *now*: everything is to be committed and
+/// answered.
 pub fn frames_are_read()
     ensures bytes { (client : ℕ) (bytes rest : List ℕ) → client < all_clients → 0 < length bytes → length bytes ≤ max_frame_bytes
         → items_in (InHead []) (frame_of client bytes ++ rest) ≡ named client (pieces bytes) ++ items_in (InHead []) rest }
@@ -40,7 +42,8 @@ pub fn frames_are_read()
     ensures now { (rest : List ℕ) → items_in (InHead []) (frame_of all_clients [] ++ rest) ≡ Now ∷ items_in (InHead []) rest }
 {}
 
-/// It does not matter where a client's bytes are divided into frames, as long as nothing comes between them.
+/// The division of a client's bytes into frames does not matter, as long as nothing comes between
+/// them.
 pub fn cuts_do_not_matter()
     ensures { (client : ℕ) (front back rest : List ℕ) → client < all_clients → 0 < length front → 0 < length back
         → length front + length back ≤ max_frame_bytes

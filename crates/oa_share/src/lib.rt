@@ -1,9 +1,10 @@
 //! Many clients in one stream of frames: demultiplexing their requests, and a session over them.
 //!
-//! Contract: each client's bodies are those that a session of its own would have read, whatever comes between them
-//! (`laws::each_has_its_own`, `laws::each_is_a_session`). `Streams::take` finds them one by one, in the order in
-//! which they came (`TakesApart`). `serve_clients` has them answered in that order, and writes exactly the replies,
-//! or a prefix of them if the writer fails (`ServesClients`).
+//! Contract: each client's bodies are those that a session of its own would have read, whatever
+//! comes between them (`laws::each_has_its_own`, `laws::each_is_a_session`). `Streams::take` finds
+//! them one by one, in the order in which they came (`TakesApart`). `serve_clients` calls its
+//! server in that order. It writes exactly the replies, or a prefix of them if the writer fails
+//! (`ServesClients`).
 #![tactic(auto)]
 
 mod client;

@@ -9,8 +9,8 @@ use crate::frame_head;
 use oa_frame::put_some;
 use oa_stream::{Sink, Unwritten};
 
-/// Writes a frame with one reply, given in two parts, for this client: the frame's head, the reply's length in 4
-/// bytes, the reply.
+/// Writes a frame with one reply, given in two parts, for the client with this number: the frame's
+/// head, the reply's length in 4 bytes, the reply. Err: the writer failed.
 pub fn put_reply_of<W: Sink>(
     writer: &mut W,
     client: u32,
@@ -25,7 +25,8 @@ pub fn put_reply_of<W: Sink>(
     put_some(writer, fields)
 }
 
-/// Writes everything before the second part: the head of the frame, the reply's length, and the first part.
+/// Writes everything before the second part: the head of the frame, the reply's length, and the
+/// first part.
 #[inline(always)]
 fn put_front<W: Sink>(
     writer: &mut W,
@@ -54,7 +55,7 @@ fn lay_out(client: u32, head: &[u8; 16], fields: &[u8], bytes: &mut [u8; 32])
     bytes[12..28].copy_from_slice(head);
 }
 
-/// Returns the bytes before a reply of this length: the head of its frame, and its length.
+/// Returns the bytes before a reply of `count` bytes: the head of its frame, and its length.
 fn lengths(client: u32, count: usize) -> [u8; 12]
     requires { count ≤ 4294967291 }
     ensures { result ≡ frames.frame_head client (4 + count) ++ to_le_bytes w32 count }
@@ -64,7 +65,7 @@ fn lengths(client: u32, count: usize) -> [u8; 12]
     [a, b, c, d, e, f, g, h, i, j, k, l]
 }
 
-/// Writes the frame that ends this client's replies.
+/// Writes the frame that ends the replies of the client with this number. Err: the writer failed.
 pub fn put_last_of<W: Sink>(writer: &mut W, client: u32) -> Result<(), Unwritten>
     requires unbroken { (W.out writer.old).broken ≡ false }
     ensures { Puts result (W.out writer.old) (W.out writer.new) (spelled_frame (client, [])) }

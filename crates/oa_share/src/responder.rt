@@ -8,26 +8,29 @@ ghost use Rattle.oa_stream.specs.Sink.{IsHandedOn};
 use oa_frame::End;
 use oa_stream::{Sink, Unwritten};
 
-/// A server of many clients. It may hold replies back, and send those to many requests, of any clients, at once.
+/// A server of many clients. It may hold replies back, and send those to many requests, of any
+/// clients, at once. A body that *comes alone* (REPLACE LIBRARY) is a barrier: a *now* comes before
+/// it.
 ///
-/// Contracts see what is sent as a list. Each entry is a client's number and the bytes of a reply without a length,
-/// or no bytes after the client's last reply.
+/// Contracts see what is sent as a list. Each entry is a client's number and the bytes of a reply
+/// without a length, or no bytes after the client's last reply.
 pub trait SharedResponder {
     /// The invariant between two turns.
     ghost ready: { Self → Type 0 };
 
-    /// A turn: the state before, what is asked, what is sent then, the state after.
+    /// A turn: the state before, the request, what is sent then, the state after.
     ghost turn: { Self → Owned Brought → List (ℕ × List ℕ) → Self → Type 0 };
 
-    /// The bodies that come alone (barriers): a *now* is made, and the writer flushed, before such a body is
-    /// answered.
+    /// The bodies that come alone (barriers): a *now* is made, and the writer flushed, before such
+    /// a body is answered.
     ghost alone: { List ℕ → Bool };
 
-    /// Returns whether a body comes alone.
+    /// Returns whether a body comes alone, so that held replies have to leave before it.
     fn is_alone(&self, body: &[u8]) -> bool
         ensures { result ≡ alone body.now };
 
-    /// Answers a body of this client that does not come alone, and writes what is sent then.
+    /// Answers a body of the client with this number; the body does not come alone. Writes the
+    /// replies that are then ready, which may be none. Err: the writer failed.
     fn answer_client<W: Sink>(
         &mut self,
         client: u32,
@@ -40,8 +43,8 @@ pub trait SharedResponder {
         ensures answers { AnswersClient turn result (Of client (Body body.now)) (W.out writer.old) (W.out writer.new) self.old self.new }
         ensures ready { ready self.new };
 
-    /// Answers a body of this client that comes alone, after a *now* whose replies have all left the writer, and
-    /// writes what is sent then.
+    /// Answers a body of the client with this number that comes alone, after a *now* whose replies
+    /// have all left the writer. Writes the reply. Err: the writer failed.
     fn answer_client_alone<W: Sink>(
         &mut self,
         client: u32,
@@ -56,7 +59,8 @@ pub trait SharedResponder {
         ensures answers { AnswersClient turn result (Of client (Body body.now)) (W.out writer.old) (W.out writer.new) self.old self.new }
         ensures ready { ready self.new };
 
-    /// Ends this client's stream: `Closed`, `Cut` or `TooLong`. Writes what is sent then.
+    /// Ends the stream of the client with this number: `Closed`, `Cut` or `TooLong`. Writes the
+    /// replies that are then ready. Err: the writer failed.
     fn end_client<W: Sink>(
         &mut self,
         client: u32,
@@ -68,7 +72,7 @@ pub trait SharedResponder {
         ensures answers { AnswersClient turn result (Of client (Ends why)) (W.out writer.old) (W.out writer.new) self.old self.new }
         ensures ready { ready self.new };
 
-    /// *Now*: commits the open group, and writes held replies.
+    /// *Now*: commits the open group, and writes all held replies. Err: the writer failed.
     fn commit_now<W: Sink>(&mut self, writer: &mut W) -> Result<(), Unwritten>
         requires ready { ready self.old }
         requires unbroken { (W.out writer.old).broken ≡ false }

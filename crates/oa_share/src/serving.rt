@@ -15,7 +15,7 @@ use oa_model::MAX_RECORDS;
 use oa_stream::{Ahead, More, Sink, Source, Unwritten};
 use std::alloc::Global;
 
-/// The result of a part of a session.
+/// The result of one step of a session.
 #[derive(Clone, Copy)]
 pub(crate) enum Progress {
     /// It was answered, or contained nothing whole.
@@ -26,14 +26,15 @@ pub(crate) enum Progress {
     Unwritten,
 }
 
-/// Serves many clients: reads their requests from frames, and answers by frames on a writer. The writer is flushed
-/// before each wait for more input, at each *now*, before a body that comes alone is answered, and at the end.
+/// Serves many clients: reads their requests from frames, and answers by frames on a writer. The
+/// writer is flushed before each wait for more input, at each *now*, before a body that comes alone
+/// is answered, and at the end. Returns why the session ended.
 ///
-/// The session ends with the input; at an invalid head; if an allocation for a part of a record fails; if the reader
-/// or the writer fails. In the first two cases each present client ends, the lowest number first. Unless the writer
-/// has failed, held requests are then committed and answered, and the writer is flushed; if it has failed, they are
-/// committed. No byte is consumed after an invalid head. A steady reader is called at most once more than bytes were
-/// consumed.
+/// The session ends with the input; at an invalid head; if an allocation for a part of a record
+/// fails; if the reader or the writer fails. In the first two cases each present client ends, the
+/// lowest number first. Unless the writer has failed, held requests are then committed and
+/// answered, and the writer is flushed; if it has failed, they are committed. No byte is consumed
+/// after an invalid head. A steady reader is called at most once more than bytes were consumed.
 pub fn serve_clients<S: SharedResponder, R: Source + Drop, W: Sink>(
     server: &mut S,
     alloc: Global,
@@ -57,7 +58,8 @@ pub fn serve_clients<S: SharedResponder, R: Source + Drop, W: Sink>(
     close(server, &mut streams, writer, SessionEnd::ReadFault)
 }
 
-/// Waits for more input if nothing is read ahead; otherwise consumes the first part of it, and answers it.
+/// Waits for more input if nothing is read ahead; otherwise consumes the first item of it, and
+/// answers that.
 fn part<S: SharedResponder, R: Source + Drop, W: Sink>(
     server: &mut S,
     streams: &mut Streams,
@@ -82,7 +84,8 @@ fn part<S: SharedResponder, R: Source + Drop, W: Sink>(
     }
 }
 
-/// Flushes, and waits for more input. Nothing is read after an invalid head.
+/// Flushes, and waits for more input. If the writer fails, the open group is committed, and nothing
+/// is read.
 fn wait<S: SharedResponder, R: Source + Drop, W: Sink>(
     server: &mut S,
     streams: &Streams,
@@ -108,7 +111,9 @@ fn wait<S: SharedResponder, R: Source + Drop, W: Sink>(
     }
 }
 
-/// Answers the record in the frame of this length at the front of the read-ahead buffer, in place.
+/// Answers, in place, the record of `client` in the frame at the front of the read-ahead buffer.
+/// The frame has `count` bytes with its head. If the writer failed before the answer, it is not
+/// consumed.
 fn answer_record<S: SharedResponder, R: Source + Drop, W: Sink>(
     server: &mut S,
     streams: &Streams,
@@ -138,8 +143,8 @@ fn answer_record<S: SharedResponder, R: Source + Drop, W: Sink>(
     }
 }
 
-/// Consumes the first part of the read-ahead buffer, and answers it. If it could not be answered because the writer
-/// failed before, it is not consumed.
+/// Consumes the first item of the read-ahead buffer, and answers it. If the writer failed before
+/// the answer, the item is not consumed.
 fn take_part<S: SharedResponder, R: Source + Drop, W: Sink>(
     server: &mut S,
     streams: &mut Streams,
@@ -171,7 +176,8 @@ fn take_part<S: SharedResponder, R: Source + Drop, W: Sink>(
     }
 }
 
-/// Answers what the bytes contained.
+/// Answers one item. Errors: `Undone` if the writer failed before it was executed, otherwise
+/// `Answered`.
 fn answer<S: SharedResponder, W: Sink>(
     server: &mut S,
     arrival: Arrival<'_>,
@@ -196,7 +202,8 @@ fn answer<S: SharedResponder, W: Sink>(
     }
 }
 
-/// Answers a body; if it comes alone, after a *now*. If the writer failed in it, held replies are lost.
+/// Answers a body; if it comes alone, after a *now*. If the writer fails after it was executed,
+/// held replies are lost, and the error is `Answered`; before it, `Undone`.
 fn answer_body<S: SharedResponder, W: Sink>(
     server: &mut S,
     client: u32,
@@ -218,7 +225,7 @@ fn answer_body<S: SharedResponder, W: Sink>(
     Ok(())
 }
 
-/// Answers a body that comes alone, after a *now*.
+/// Answers a body that comes alone, after a *now*. Errors are those of `answer_body`.
 fn answer_alone<S: SharedResponder, W: Sink>(
     server: &mut S,
     client: u32,
@@ -241,7 +248,7 @@ fn answer_alone<S: SharedResponder, W: Sink>(
     Ok(())
 }
 
-/// Answers the end of a client's stream. If the writer failed in it, held replies are lost.
+/// Answers the end of a client's stream. Err: the writer failed, and held replies are lost.
 fn answer_end<S: SharedResponder, W: Sink>(
     server: &mut S,
     client: u32,
@@ -260,7 +267,7 @@ fn answer_end<S: SharedResponder, W: Sink>(
     Ok(())
 }
 
-/// Commits the open group, writes held replies, and flushes.
+/// Commits the open group, writes held replies, and flushes. Err: the writer failed.
 fn make_now<S: SharedResponder, W: Sink>(server: &mut S, writer: &mut W) -> Result<(), Unwritten>
     requires ready { S.ready server.old }
     requires unbroken { (W.out writer.old).broken ≡ false }
@@ -271,7 +278,8 @@ fn make_now<S: SharedResponder, W: Sink>(server: &mut S, writer: &mut W) -> Resu
     writer.deliver()
 }
 
-/// Ends the session: first the present clients, if they end with it, then a *now*.
+/// Ends the session: first the present clients, if they end with it, then a *now*. Returns why the
+/// session ended: `WriteFault` if the writer fails.
 fn close<S: SharedResponder, W: Sink>(
     server: &mut S,
     streams: &mut Streams,
@@ -294,7 +302,8 @@ fn close<S: SharedResponder, W: Sink>(
     }
 }
 
-/// Ends the present clients, if they end with the session.
+/// Ends the present clients if the session ends with the input or at an invalid head. Err: the
+/// writer failed.
 fn end_clients<S: SharedResponder, W: Sink>(
     server: &mut S,
     streams: &mut Streams,
@@ -314,7 +323,7 @@ fn end_clients<S: SharedResponder, W: Sink>(
     }
 }
 
-/// Ends all present clients, the lowest number first.
+/// Ends all present clients, the lowest number first. Err: the writer failed.
 fn end_all<S: SharedResponder, W: Sink>(
     server: &mut S,
     streams: &mut Streams,
@@ -332,7 +341,7 @@ fn end_all<S: SharedResponder, W: Sink>(
     Ok(())
 }
 
-/// Ends the first client.
+/// Ends the client with the lowest number. Err: the writer failed.
 fn end_next<S: SharedResponder, W: Sink>(
     server: &mut S,
     streams: &mut Streams,

@@ -7,8 +7,8 @@ pub enum SessionEnd {
     Closed,
     /// The input ended inside a frame. The part of it that came counts.
     Cut,
-    /// A head was invalid: a length above `MAX_FRAME_BYTES`, or one above 0 for all clients. Nothing after it was
-    /// consumed.
+    /// A head was invalid: a length above `MAX_FRAME_BYTES`, or one above 0 for all clients.
+    /// Nothing after it was consumed.
     Unknown,
     /// An allocation for a part of a record or for a new client failed.
     Memory,

@@ -25,7 +25,7 @@ impl WholeRecord<'_> {
     }
 }
 
-/// Returns the bytes after a length.
+/// Returns the bytes after the first four, which are a length.
 fn behind_length(bytes: &[u8]) -> &[u8]
     ensures { result.now ≡ drop 4 bytes.now }
 {
@@ -46,7 +46,7 @@ pub enum What<'a> {
 /// A step through a client's bytes.
 #[derive(Drop)]
 pub struct ClientStep<'a> {
-    /// How many bytes were consumed.
+    /// The number of bytes that were consumed.
     pub taken: usize,
     /// The item that the last of them completes.
     pub what: What<'a>,

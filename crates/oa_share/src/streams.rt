@@ -30,7 +30,7 @@ pub enum Arrival<'a> {
 /// The consumed first bytes of some frames.
 #[derive(Drop)]
 pub struct Portion<'a> {
-    /// How many bytes were consumed.
+    /// The number of bytes that were consumed.
     pub count: usize,
     /// The item that the last of them completes.
     pub arrived: Arrival<'a>,
@@ -43,7 +43,7 @@ pub struct Streams {
     /// The bytes of an incomplete head.
     head: [u8; 8],
     have: usize,
-    /// The client of a frame, and how many of its bytes are still to come.
+    /// The client of a frame, and the number of its bytes that are still to come.
     client: u32,
     left: u32,
     broken: bool,
@@ -61,7 +61,7 @@ impl Model for Streams {
 }
 
 impl Streams {
-    /// Makes a stream of which nothing has come. Allocates nothing.
+    /// Makes a stream before its first byte. Allocates nothing.
     pub fn new(alloc: Global) -> Streams
         ensures { result ≡ starting }
     {
@@ -75,9 +75,10 @@ impl Streams {
         }
     }
 
-    /// Consumes bytes up to the end of the first item (a record, a client's end, a *now*, an invalid head), or all of
-    /// them. After an invalid head everything is ignored. Err: an allocation for a client's bytes failed; nothing was
-    /// consumed, and the call may be repeated.
+    /// Consumes a prefix of `bytes` up to the end of the first item, or all bytes. Returns the
+    /// number of consumed bytes and the item. An item is a record, a client's end, a *now* or an
+    /// invalid head. After an invalid head everything is ignored. Err: an allocation for a client's
+    /// bytes failed; nothing was consumed, and the call may be repeated.
     pub fn take<'a>(&mut self, bytes: &'a [u8]) -> Result<Portion<'a>, AllocError>
         requires { 0 < length bytes.now }
         ensures taken { IfOk result (λ t. TakesSome t.count (length bytes.now)) }
@@ -98,9 +99,10 @@ impl Streams {
         Ok(self.take_head(bytes))
     }
 
-    /// Returns the client and the length, with its head, of the frame at the front of these bytes, if the frame is
-    /// whole and contains one whole record of a present client that is between two records; otherwise None. Such a
-    /// record can be answered in place: the stream after it is as it was before it.
+    /// Returns the client of the frame at the front of `bytes`, and the frame's length in bytes
+    /// with its head. The frame must be whole and contain one whole record, and the client be
+    /// present and between two records; otherwise None. Such a record can be answered in place: the
+    /// stream after it is as it was before it.
     pub fn whole_record(&self, bytes: &[u8]) -> Option<(u32, usize)>
         ensures { IfSome result (λ f. BringsRecord self.now bytes.now f.0 f.1) }
     {
@@ -129,9 +131,9 @@ impl Streams {
         self.clients.numbers_rise();
     }
 
-    /// Removes the client with the lowest number, after the last bytes have come, and returns how its stream ended:
-    /// `Closed` between two records, `Cut` inside one, no end if it had ended before. None if there is no client.
-    /// Allocates nothing.
+    /// Removes the client with the lowest number, after the last bytes have come. Returns its
+    /// number and how its stream ended: `Closed` between two records, `Cut` inside one, None if it
+    /// had ended before. Returns None if there is no client. Allocates nothing.
     pub fn last(&mut self) -> Option<(u32, Option<End>)>
         ensures { EndsLowest result self.old.clients self.new.clients }
     {
@@ -162,7 +164,8 @@ impl Streams {
         }
     }
 
-    /// Consumes bytes within a client's frame.
+    /// Consumes bytes of the frame whose head was read. Err: an allocation failed, and nothing was
+    /// consumed.
     fn take_within<'a>(&mut self, bytes: &'a [u8]) -> Result<Portion<'a>, AllocError>
         requires some { 0 < length bytes.now }
         requires within { IsClients self.old.place }
@@ -182,7 +185,7 @@ impl Streams {
         })
     }
 
-    /// Consumes bytes within a head.
+    /// Consumes bytes of a frame's head. If they complete it, returns its item.
     fn take_head<'a>(&mut self, bytes: &'a [u8]) -> Portion<'a>
         requires some { 0 < length bytes.now }
         requires head { IsHeads self.old.place }
@@ -206,7 +209,8 @@ impl Streams {
         Portion { count, arrived }
     }
 
-    /// Returns the item of a whole head.
+    /// Returns the item of a whole head, and sets the client and the length of the frame that
+    /// follows.
     fn begin<'a>(&mut self, head: FrameHead) -> Arrival<'a>
         requires some { SaysSome head }
         requires head { self.old.place ≡ InHead [] }
@@ -229,8 +233,8 @@ impl Streams {
     }
 }
 
-/// Returns the client and the length of the frame at the front of these bytes, if it is whole and contains one whole
-/// record.
+/// Returns the client of the frame at the front of `bytes`, and the frame's length in bytes with
+/// its head. None unless the frame is whole and contains exactly one record.
 fn record_frame(bytes: &[u8]) -> Option<(u32, usize)>
     ensures { IfSome result (λ f. IsRecordFrame bytes.now f.0 f.1) }
 {
@@ -272,7 +276,7 @@ fn last_of<'a>(client: u32, why: Option<End>) -> Arrival<'a>
     }
 }
 
-/// Returns a head after more of its bytes have come.
+/// Returns a head, of which `have` bytes had come, with `part` after these.
 fn filled(mut head: [u8; 8], have: usize, part: &[u8]) -> [u8; 8]
     requires { have + length part.now ≤ 8 }
     ensures head { take (have + length part.now) result ≡ take have head ++ part.now }

@@ -63,5 +63,5 @@ pub record RefusesUpgrade {D : Type 0} (g : Ghosts D) (size : ℕ) (old new : D)
   pub tells : IsTrue (g.is_honest new) → UpgradeDeviceTells size (g.contents old) (g.image old) (g.image new) fault
   -- then at most ten calls were made, and one for every two bytes of the disk
   pub calls : IsRefusedUpgrade fault → IsTrue (g.is_honest new) → g.moment new ≤ g.moment old + (20 + g.size_of old)
-  -- otherwise at most as many, or those of an upgrade
+  -- otherwise at most that number, or those of an upgrade
   pub most : IsTrue (g.is_honest new) → (g.moment new ≤ g.moment old + (20 + g.size_of old)) ⊎ CallsForUpgrade g old new

@@ -24,7 +24,7 @@ use oa_journal::Shape;
 use oa_table::Table;
 use std::alloc::Global;
 
-/// Sets the first byte to 0, and syncs.
+/// Sets the first byte to 0, and syncs: the disk is no store. Err: a call of the device failed.
 fn close<D: Disk>(disk: &mut D) -> Result<(), DeviceFault>
     requires { 0 < D.size_of disk.old }
     ensures any_moment { IsTrue (D.is_honest disk.old)
@@ -36,8 +36,8 @@ fn close<D: Disk>(disk: &mut D) -> Result<(), DeviceFault>
     disk.sync()
 }
 
-/// Writes a bank and the selector, syncs, and then sets the first byte to 1. Until then the byte is not 1 in any
-/// image.
+/// Writes a bank of `size` bytes and the selector, syncs, and then sets the first byte to 1. Until
+/// then the byte is not 1 in any image. Err: a call of the device failed.
 fn fill<D: Disk>(
     disk: &mut D,
     buffer: &mut [u8],
@@ -63,11 +63,11 @@ fn fill<D: Disk>(
     flip(disk, 0, 1)
 }
 
-/// Makes `disk` a store of `library` with no objects and two banks of `size` bytes each (20,971,520 to
-/// 1,073,741,824). The old contents of the disk are lost.
+/// Makes `disk` a store of `library` with no objects and two banks of `size` bytes each (20,971,520
+/// to 1,073,741,824). The old contents of the disk are lost.
 ///
-/// Errors: `TooSmall` and `Memory` before the first call of the disk; `Device`. A crash leaves the old contents
-/// except for the first byte, an unformatted disk, or the new store.
+/// Errors: `TooSmall` and `Memory` before the first call of the disk; `Device`. A crash leaves the
+/// old contents except for the first byte, an unformatted disk, or the new store.
 pub fn format<D: Disk>(
     alloc: Global,
     disk: &mut D,

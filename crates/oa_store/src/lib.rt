@@ -1,8 +1,8 @@
-//! A store on a disk: a library and a table of objects, in two banks that take turns. After a crash at any point, the
-//! store reopens to the table before or after the call.
+//! A store on a disk: a library and a table of objects, in two banks that take turns. After a crash
+//! at any point, the store reopens to the table before or after the call.
 //!
-//! Contract: `Store::open` returns the one table that the contents are a store of (`IsStore`). A crash in `commit`,
-//! `checkpoint` or `upgrade` leaves a store of the table before or after.
+//! Contract: `Store::open` returns the one table that the contents are a store of (`IsStore`). A
+//! crash in `commit`, `checkpoint` or `upgrade` leaves a store of the table before or after.
 //!
 //! Used by oa_keeper, oa_groups and oa_server, and by format, upgrade and dump of the program.
 #![tactic(auto)]

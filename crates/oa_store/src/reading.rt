@@ -28,13 +28,14 @@ pub(crate) struct Found {
     pub buffer: Vec<u8>,
 }
 
+/// Returns whether two slices have the same bytes.
 fn same(one: &[u8], other: &[u8]) -> bool
     ensures { IsTrue result ↔ (one.now ≡ other.now) }
 {
     one == other
 }
 
-/// Returns the bank of that number in that format.
+/// Returns the bank with this number, 0 or 1, of a store of that format.
 pub(crate) fn bank_of(shape: Shape, number: u8) -> Bank
     requires two { number < 2 }
     requires known { IsShape shape }
@@ -43,7 +44,8 @@ pub(crate) fn bank_of(shape: Shape, number: u8) -> Bank
     Bank::at(head_place(number), body_place(shape, number), shape)
 }
 
-/// Reads the store on the disk, which must be one of this library in format 2.
+/// Reads the store on the disk, which must have `library` and format 2. Errors are those of
+/// `OpenFault`, in its order. `library` of the result has capacity for any library.
 pub(crate) fn find_store<D: Disk>(
     alloc: Global,
     disk: &mut D,
@@ -63,7 +65,8 @@ pub(crate) fn find_store<D: Disk>(
     if let Shape::One = found.head.shape {
         return Err(OpenFault::OldFormat);
     }
-    // (a head may give any length for its library, so the library is read only if the length is right)
+    // (a head may give any length for its library, so the library is read only if the length is
+    // right)
     if found.head.library as usize != library.len() {
         return Err(OpenFault::LibraryDiffers);
     }
@@ -89,7 +92,8 @@ pub(crate) fn find_store<D: Disk>(
     })
 }
 
-/// Reads the library and the table of a bank by its head.
+/// Reads library and table of bank `chosen` (0 or 1), through `buffer`, which is returned. Errors:
+/// `Damaged` with the place on the disk of the first invalid part; `Memory`; `Device`.
 pub(crate) fn look<D: Disk>(
     alloc: Global,
     disk: &mut D,
@@ -111,8 +115,9 @@ pub(crate) fn look<D: Disk>(
     Ok((library, table, bank, buffer))
 }
 
-/// Reads the library and the table of the store on the disk, with any library, in either format. It writes nothing,
-/// and begins with a sync. Errors: `NotAStore`, `Damaged`, `Memory`, `Device`.
+/// Returns the library and the table of the store on the disk, with any library, in either format.
+/// It writes nothing, and begins with a sync. Errors: `NotAStore`; `Damaged`, with the place on the
+/// disk of the first invalid part; `Memory`; `Device`.
 pub fn inspect<D: Disk>(alloc: Global, disk: &mut D) -> Result<(Vec<u8>, Table), OpenFault>
     ensures found { IfOk result (λ r. FindsAny D.Disk disk.old disk.new r.0.items r.1) }
     ensures refused { IfErr result (λ e. RefusesAny D.Disk disk.old disk.new e) }

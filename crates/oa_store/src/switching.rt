@@ -16,8 +16,9 @@ use oa_disk::{DeviceFault, Disk, flip};
 use oa_journal::{Bank, Shape};
 use oa_table::Table;
 
-/// Writes the bank that is not in use in format 2, with a body of that size, this library, this table and no groups,
-/// and then the selector that names it. Allocates nothing.
+/// Writes the bank that is not `chosen`, in format 2 with a body of `size` bytes: this library,
+/// this table and no groups. Then it writes the selector that names this bank, and returns the
+/// bank. Allocates nothing. Err: a call of the device failed.
 pub(crate) fn switch_to<D: Disk>(
     disk: &mut D,
     buffer: &mut [u8],
@@ -37,7 +38,8 @@ pub(crate) fn switch_to<D: Disk>(
     ensures bank { IfOk result (IsAt (Two size) (head_place (1 - chosen)) (body_place (Two size) (1 - chosen))
         (first_gate library.now table.now) false) }
     ensures buffer { length buffer.new ≡ length buffer.old }
-    // (at most one call for the head, one for each piece of the body, a sync, the selector and a sync)
+    // (at most one call for the head, one for each piece of the body, a sync, the selector and a
+    // sync)
     ensures after { AfterWrites D.Disk (4 + div_ceil (1 + first_gate library.now table.now) (length buffer.old)) disk.old disk.new result }
 {
     let other = 1 - chosen;

@@ -25,8 +25,8 @@ use oa_model::MAX_LIBRARY_BYTES;
 use oa_table::Table;
 use std::alloc::Global;
 
-/// A store of format 1 that was found on a disk: its library, its table, and the size of the bodies to which it is to
-/// be upgraded.
+/// A store of format 1 that was found on a disk: its library, its table, and the size in bytes of
+/// the bodies to which it is to be upgraded.
 #[derive(Drop)]
 pub struct OldStore {
     size: u32,
@@ -47,8 +47,9 @@ pub struct OldStore {
 impl OldStore {
     ghost use Rattle.oa_store.specs.Bringing.{FindsOld, HoldsOld};
 
-    /// Reads the store of format 1 on the disk, if its library is one that a server accepts and its table fits into a
-    /// body of that size. Errors are those of `upgrade` except `TooSmall`. It writes nothing, and begins with a sync.
+    /// Reads the store of format 1 on the disk. It writes nothing, and begins with a sync. Errors
+    /// are those of `upgrade` except `TooSmall`. `Damaged(0)`: the library is longer than a server
+    /// accepts, or the table does not fit into a body of `size` bytes.
     pub fn find<D: Disk>(alloc: Global, disk: &mut D, size: u32) -> Result<OldStore, UpgradeFault>
         requires { least_bank_bytes ≤ size }
         ensures found { IfOk result (FindsOld D.Disk size disk.old disk.new) }
@@ -72,15 +73,15 @@ impl OldStore {
         })
     }
 
-    /// Upgrades the store on a disk that holds it: the disk on which it was found, or a longer one. Library and table
-    /// are written to the bank that is not in use, and the selector then names that bank. Reads and allocates
-    /// nothing. `Write` if a write or a sync failed; no call follows it.
+    /// Upgrades the store on a disk that holds it: the disk on which it was found, or a longer one.
+    /// Library and table are written to the bank that is not in use, and the selector then names
+    /// that bank. Reads and allocates nothing. Err: a write or a sync failed; no call follows it.
     pub fn bring<D: Disk>(self, disk: &mut D) -> Result<(), DeviceFault>
         requires most { self.size ≤ most_bank_bytes }
         requires room { disk_bytes (Two self.size) ≤ D.size_of disk.old }
         requires held { IsTrue (D.is_honest disk.old) → HoldsOld D.Disk self disk.old }
-        // (a crash at any point in time leaves the same library and table, in the old format or the new one, and at
-        // `Ok` only in the new one)
+        // (a crash at any point in time leaves the same library and table, in the old format or the
+        // new one, and at `Ok` only in the new one)
         ensures leaves { Leaves D.Disk (IsUpgrade self.size) (λ d c. IsStoreIn (Two self.size) c self.library.items self.table)
             disk.old disk.new result }
         ensures after { AfterWrites D.Disk (checkpoint_calls self.library.items self.table) disk.old disk.new result }
@@ -97,8 +98,9 @@ impl OldStore {
     }
 }
 
-/// Reads the store of format 1 on the disk: the number of the bank in use, the library, the table; and allocates a
-/// buffer. It writes nothing, and begins with a sync.
+/// Reads the store of format 1 on the disk: the number of the bank in use, the library and the
+/// table. It also returns a buffer for writing. It writes nothing, and begins with a sync. Errors:
+/// `AlreadyNew`, `NotAStore`, `Damaged`, `Memory`, `Device`.
 fn find_old<D: Disk>(
     alloc: Global,
     disk: &mut D,
@@ -121,19 +123,22 @@ fn find_old<D: Disk>(
     Ok((chosen, library, table, buffer))
 }
 
-/// Upgrades a store of format 1 to format 2 with bodies of that size: library and table are written to the bank that
-/// is not in use, and the selector then names that bank. It begins with a sync.
+/// Upgrades a store of format 1 to format 2 with bodies of `size` bytes. Library and table are
+/// written to the bank that is not in use, and the selector then names that bank. It begins with a
+/// sync.
 ///
-/// Errors: `TooSmall` before the first call of the disk; `NotAStore`, `AlreadyNew`, `Damaged` and `Memory` before the
-/// first write; `Device`.
+/// Errors: `TooSmall` before the first call of the disk; `NotAStore`, `AlreadyNew`, `Damaged` and
+/// `Memory` before the first write; `Device`.
 pub fn upgrade<D: Disk>(alloc: Global, disk: &mut D, size: u32) -> Result<(), UpgradeFault>
     requires least { least_bank_bytes ≤ size }
     requires most { size ≤ most_bank_bytes }
 
-    // (a crash at any point in time leaves the same library and table, in the old format or the new one)
+    // (a crash at any point in time leaves the same library and table, in the old format or the new
+    // one)
     ensures any_moment { IsTrue (D.is_honest disk.new)
         → LeavesStep D.moment D.image_since D.image disk.old disk.new (IsUpgrade size) }
-    // (and at `Ok` only in the new one, with the old contents, none of them larger than a server accepts)
+    // (and at `Ok` only in the new one, with the old contents, none of them larger than a server
+    // accepts)
     ensures done { OnOk result (IsTrue (D.is_honest disk.new) → IsBrought size (D.contents disk.old) (D.image disk.new)) }
     ensures small { RefusesSmall D.Disk UpgradeFault.TooSmall size disk.old disk.new result }
     ensures refused { IfErr result (λ e. RefusesUpgrade D.Disk size disk.old disk.new e) }

@@ -6,7 +6,7 @@ use Rattle.oa_stream.specs.declared.interrupted.Interrupted.{Interrupted}
 use Rattle.oa_stream.specs.Source.{Input, in_memory}
 use Rattle.oa_stream.specs.Sink.{Output}
 
--- the bytes of the vector have left; it promises to accept as many as fit into its capacity
+-- the bytes of the vector have left; it promises to accept those that fit into its capacity
 abbrev pub gathered_output : Gathered → Output
 gathered_output g = record {
   reached = Some g.bytes.items;

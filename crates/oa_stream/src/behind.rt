@@ -9,8 +9,8 @@ use std::alloc::{AllocError, Global};
 
 /// A writer with a buffer of 8,192 bytes for output.
 ///
-/// In contracts its output is that of the writer with the buffered bytes kept back as well, and with less space by as
-/// many.
+/// In contracts the buffered bytes are kept back, too, and the space of the writer is that much
+/// less.
 #[derive(Drop)]
 pub struct Behind<W> {
     writer: W,
@@ -26,7 +26,7 @@ impl<W: Sink + Drop> Behind<W> {
         Ok(Behind { writer, back })
     }
 
-    /// Passes the buffered bytes to the writer.
+    /// Passes the buffered bytes to the writer, and empties the buffer. Err: the writer failed.
     fn pass(&mut self) -> Result<(), Unwritten>
         requires unbroken { (W.out self.old.writer).broken ≡ false }
         ensures empty { IfOk result (λ _. kept_back self.new ≡ []) }
@@ -37,7 +37,7 @@ impl<W: Sink + Drop> Behind<W> {
         Ok(())
     }
 
-    /// Writes bytes that do not fit into what is left of the buffer.
+    /// Writes bytes that do not fit into what is left of the buffer. Err: the writer failed.
     #[inline(never)]
     fn put_past(&mut self, bytes: &[u8]) -> Result<(), Unwritten>
         requires unbroken { (W.out self.old.writer).broken ≡ false }

@@ -4,8 +4,8 @@ ghost use Rattle.oa_stream.specs.Memory.{cutting};
 
 use crate::{Next, Source};
 
-/// Bytes in memory. Each call returns at most as many as the next of the given lengths, and after the last length as
-/// many as fit. A length of 0 counts as 1.
+/// Bytes in memory. Each call returns at most the next of the given lengths, and after the last
+/// length whatever fits. A length of 0 counts as 1.
 #[derive(Drop)]
 pub struct Cutting<'a> {
     bytes: &'a [u8],
@@ -13,14 +13,14 @@ pub struct Cutting<'a> {
 }
 
 impl<'a> Cutting<'a> {
-    /// Makes a reader of these bytes in chunks of these lengths.
+    /// Makes a reader of these bytes in chunks of these lengths, in bytes.
     pub fn new(bytes: &'a [u8], lengths: &'a [usize]) -> Cutting<'a>
         ensures { result.bytes.now ≡ bytes.entry.now }
     {
         Cutting { bytes, lengths }
     }
 
-    /// Returns how many bytes the next call returns at most.
+    /// Returns the greatest number of bytes of the next call.
     fn most(&mut self) -> usize
         ensures some { 0 < result }
         ensures bytes { self.new.bytes ≡ self.old.bytes }

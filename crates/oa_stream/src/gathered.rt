@@ -5,7 +5,8 @@ ghost use Rattle.oa_stream.specs.Memory.{gathered_output};
 
 use crate::{Sink, Unwritten};
 
-/// A vector that accepts bytes while they fit or allocations succeed. It keeps nothing back, and remembers a failure.
+/// A vector that accepts bytes while they fit or allocations succeed. It keeps nothing back, and
+/// remembers a failure.
 #[derive(Drop)]
 pub struct Gathered {
     bytes: Vec<u8>,

@@ -5,7 +5,8 @@ ghost use Rattle.oa_stream.specs.Inlet.{inlet};
 use crate::{Next, Source};
 use std::io::{ErrorKind, Read};
 
-/// A reader of the standard library. It promises nothing, counts its calls, and remembers a failure.
+/// A reader of the standard library. It promises nothing, counts its calls, and remembers a
+/// failure.
 #[derive(Drop)]
 pub struct Inlet<R> {
     reader: R,
@@ -26,8 +27,8 @@ impl<R: Read> Inlet<R> {
     }
 }
 
-// Only `ErrorKind::Interrupted` distinguishes an interrupted call from a failure. It comes from the standard library,
-// and no contract mentions it.
+// Only `ErrorKind::Interrupted` distinguishes an interrupted call from a failure. It comes from the
+// standard library, and no contract mentions it.
 impl<R: Read> Source for Inlet<R> {
     ghost input = { inlet R.remaining };
 

@@ -1,7 +1,7 @@
 //! Readers and writers of bytes, and buffers between them and their callers.
 //!
-//! Contract: `Source::fill` and `Sink::put` state what reads and writes do to bytes. No reader is called before the
-//! writer is flushed (`Ahead::more`).
+//! Contract: `Source::fill` and `Sink::put` state what reads and writes do to bytes. No reader is
+//! called before the writer is flushed (`Ahead::more`).
 //!
 //! Used by oa_frame, and by the program over standard input and output.
 #![tactic(auto)]

@@ -1,4 +1,4 @@
-//! By how much a change makes an image shorter or longer.
+//! The difference that a change makes to the length of an image.
 ghost use Rattle.std.specs.Prelude.{◌≡◌, ◌≤◌, ◌+◌};
 ghost use Rattle.std.specs.List.{sum_by};
 ghost use Rattle.oa_array.specs.Arrays.{kept_by_position};
@@ -14,7 +14,8 @@ use oa_layout::{element_len, elements_len};
 use oa_model::Bound;
 use oa_variant::{Scalar, Variant};
 
-/// The bytes that a change removes from an image, and those that it adds. Both are 0 for a change that is refused.
+/// The bytes that a change removes from an image, and those that it adds. Both are 0 for a change
+/// that is refused.
 #[derive(Clone, Copy)]
 pub(crate) struct Difference {
     pub gone: u64,
@@ -29,7 +30,7 @@ pub(crate) fn no_difference() -> Difference
     Difference { gone: 0, come: 0 }
 }
 
-/// Returns the difference of setting an element of the array in a value.
+/// Returns the difference of setting the element at an index list of the array in a value.
 #[tactic(auto, unfolding(oa_layout::specs::Lengths::value_size))]
 pub(crate) fn element_difference(value: &Variant, index: &[i32], element: &Scalar) -> Difference
     ensures size { size_due value_size (with_element_put index.now element.now value.now) value.now + result.gone
@@ -42,6 +43,7 @@ pub(crate) fn element_difference(value: &Variant, index: &[i32], element: &Scala
     }
 }
 
+/// Returns the difference of setting an element of an array; none if the array refuses it.
 #[tactic(auto, unfolding(oa_layout::specs::Lengths::value_size))]
 fn element_set(array: &SafeArray<Scalar>, index: &[i32], element: &Scalar) -> Difference
     ensures size { let value = variants.Array array.now in
@@ -76,6 +78,7 @@ pub(crate) fn redim_difference(value: &Variant, bound: Bound) -> Difference
     }
 }
 
+/// Returns the difference of replacing the first bound of an array; none if the array refuses it.
 #[tactic(auto, unfolding(oa_layout::specs::Lengths::value_size))]
 fn array_resized(array: &SafeArray<Scalar>, bound: Bound) -> Difference
     ensures size { let value = variants.Array array.now in
@@ -93,8 +96,8 @@ fn array_resized(array: &SafeArray<Scalar>, bound: Bound) -> Difference
     }
 }
 
-/// Returns the difference of keeping the first `count` elements, or of adding zeros up to `count`. Reads the elements
-/// that are removed.
+/// Returns the difference of keeping the first `count` elements, or of adding zeros up to `count`.
+/// Reads the elements that are removed.
 fn elements_kept(array: &SafeArray<Scalar>, count: usize) -> Difference
     requires { count ≤ max_cells }
     ensures size { sum_by (element_size array.now.elem) (kept_by_position (zero_of array.now.elem) count array.now.cells) + result.gone

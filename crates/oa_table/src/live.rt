@@ -62,7 +62,8 @@ impl LiveObject {
         self.class
     }
 
-    /// Returns the last value that was put at a place; None if there was none.
+    /// Returns the last value that was put into the cell at a place of the object; None if none
+    /// was.
     pub fn get(&self, place: &Place) -> Option<&Variant>
         ensures { option_map (λ x. x.now) result ≡ cell_at place.now self.now.cells }
     {
@@ -140,8 +141,8 @@ impl LiveObject {
         }
     }
 
-    /// Returns the difference in size of replacing the first bound of the array in a cell. Reads the elements that
-    /// are removed.
+    /// Returns the difference in size of replacing the first bound of the array in a cell. Reads
+    /// the elements that are removed.
     pub(crate) fn redim_difference(&self, place: &Place, bound: Bound) -> Difference
         ensures size { size_due object_size (with_change place.now (redimensioned_value bound) self.now) self.now + result.gone
             ≡ object_size self.now + result.come }
@@ -165,7 +166,8 @@ impl LiveObject {
         false
     }
 
-    /// Sets a cell, unless its array is locked. Returns the difference in size.
+    /// Sets a cell, and returns the difference in size. Err: the array in the cell is locked, or an
+    /// allocation failed; place and value are returned, and nothing changed.
     pub(crate) fn put(
         &mut self,
         place: Place,
@@ -183,8 +185,9 @@ impl LiveObject {
         replace(old, value).map_err(|(value, fault)| ((place, value), fault))
     }
 
-    /// Overwrites a cell that was put before, if the new value is within the given sizes and the array is not locked,
-    /// and returns the difference in size. Otherwise it returns the value, and nothing changes.
+    /// Overwrites a cell that was put before, and returns the difference in size. Err: there is no
+    /// such cell, it is above the limits of `room`, or it is locked; the value is returned, and
+    /// nothing changes. Allocates nothing.
     pub(crate) fn put_again(
         &mut self,
         place: &Place,
@@ -208,7 +211,8 @@ impl LiveObject {
         replace_within(old, value, room)
     }
 
-    /// Sets a cell that was never put.
+    /// Sets a cell that was never put, and returns the difference in size. Err: an allocation
+    /// failed; place and value are returned.
     fn put_new(
         &mut self,
         place: Place,
@@ -227,7 +231,8 @@ impl LiveObject {
         }
     }
 
-    /// Sets an element of the array in a cell.
+    /// Sets the element at an index list of the array in a cell. Err: the cell has no array
+    /// (`NotArray`), or the array refuses the element, which is returned.
     pub(crate) fn put_element(
         &mut self,
         place: &Place,
@@ -243,7 +248,8 @@ impl LiveObject {
         put_element(value, index, element)
     }
 
-    /// Replaces the first bound of the array in a cell.
+    /// Replaces the first bound of the array in a cell. Err: the cell has no array (`NotArray`),
+    /// the array refuses the bound, or an allocation failed; the bound is returned.
     pub(crate) fn redim(
         &mut self,
         alloc: Global,
@@ -258,7 +264,8 @@ impl LiveObject {
         redim(alloc, value, bound)
     }
 
-    /// Adds a lock to the array in a cell, and returns the new count.
+    /// Adds a lock to the array in a cell, and returns the new number of locks. Err: the cell has
+    /// no array (`NotArray`), or the array refuses the lock.
     pub(crate) fn lock(&mut self, place: &Place) -> Result<u16, TableFault>
         ensures { CountsLocks (with_change place.now locked_value self.old) (locks_of_cell place.now) self.old self.new result }
     {
@@ -268,7 +275,8 @@ impl LiveObject {
         lock(value)
     }
 
-    /// Removes a lock from the array in a cell, and returns the new count.
+    /// Removes a lock from the array in a cell, and returns the new number of locks. Err: the cell
+    /// has no array (`NotArray`), or the array has no lock.
     pub(crate) fn unlock(&mut self, place: &Place) -> Result<u16, TableFault>
         ensures { CountsLocks (with_change place.now released_value self.old) (locks_of_cell place.now) self.old self.new result }
     {

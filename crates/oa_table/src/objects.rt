@@ -40,7 +40,8 @@ impl Model for Objects {
     ghost view = { λ t. record { next = t.next; objects = t.objects } };
 }
 
-/// The place of an object among all, if none before it was released.
+/// Returns the place of the object with this number among all, counted from 0, if none before it
+/// was released.
 fn near(number: u32) -> usize {
     number.saturating_sub(1) as usize
 }
@@ -57,7 +58,8 @@ impl Objects {
         }
     }
 
-    /// Appends an object. Err: an allocation failed, and nothing changed.
+    /// Appends an object with this number, which is above all others. Err: an allocation failed,
+    /// and nothing changed.
     pub(crate) fn push(&mut self, number: u32, object: LiveObject) -> Result<(), AllocError>
         requires { All (λ other. other < number) (keys_of self.old.objects) }
         ensures pushed { OnOk result (self.new ≡ with_last number object self.old) }
@@ -67,14 +69,15 @@ impl Objects {
         Ok(())
     }
 
-    /// Returns the number of the next object; it is above the greatest number if the numbers are used up.
+    /// Returns the number of the next object; it is above the greatest number if the numbers are
+    /// used up.
     pub(crate) fn next(&self) -> u32
         ensures { result ≡ self.now.next }
     {
         self.next
     }
 
-    /// Returns how many objects are live.
+    /// Returns the number of live objects.
     pub(crate) fn len(&self) -> usize
         ensures { result ≡ length self.now.objects }
     {
@@ -96,14 +99,15 @@ impl Objects {
         let _count = self.objects.len();
     }
 
-    /// Returns an object, if it is live.
+    /// Returns the object with this number; None if it is not live.
     pub(crate) fn get(&self, number: u32) -> Option<&LiveObject>
         ensures { option_map (λ o. o.now) result ≡ object_at number self.now }
     {
         self.objects.get_near(&number, near(number))
     }
 
-    /// Returns whether an array of an object is locked. Reads the cells of that object.
+    /// Returns whether an array of the object with this number is locked. Reads the cells of that
+    /// object.
     pub(crate) fn locked(&self, number: u32) -> bool
         ensures { result ≡ locked_in (object_at number self.now) }
     {
@@ -113,8 +117,8 @@ impl Objects {
         }
     }
 
-    /// Applies an event. If it does not apply, or an allocation fails, the event is returned with the reason, and
-    /// nothing changes. A value that is put has no locks.
+    /// Applies an event. A value that is put has no locks. Err: the event does not apply, or an
+    /// allocation failed; it is returned with the reason, and nothing changed.
     pub(crate) fn apply(&mut self, event: Event) -> Result<(), (Event, TableFault)>
         requires { BringsNoLocks event }
         ensures does { Does event (applied event self.old) self.old self.new result }
@@ -132,8 +136,9 @@ impl Objects {
         }
     }
 
-    /// Adds a lock to the array in a cell, and returns the new count. Errors: NoObject; NotArray if the cell was
-    /// never put or has no array; otherwise what the array refuses. Allocates nothing.
+    /// Adds a lock to the array in a cell, and returns the new number of locks. Errors: `NoObject`;
+    /// `NotArray` if the cell was never put or has no array; otherwise what the array refuses.
+    /// Allocates nothing.
     pub(crate) fn lock(&mut self, name: &CellName) -> Result<u16, TableFault>
         ensures { CountsLocks (with_lock name.now self.old) (locks_at name.now) self.old self.new result }
     {
@@ -143,7 +148,9 @@ impl Objects {
         found.lock(&name.place)
     }
 
-    /// Removes a lock from the array in a cell, and returns the new count. Errors as of `lock`. Allocates nothing.
+    /// Removes a lock from the array in a cell, and returns the new number of locks. Errors:
+    /// `NoObject`; `NotArray` if the cell was never put or has no array; otherwise what the array
+    /// refuses. Allocates nothing.
     pub(crate) fn unlock(&mut self, name: &CellName) -> Result<u16, TableFault>
         ensures { CountsLocks (without_lock name.now self.old) (locks_at name.now) self.old self.new result }
     {
@@ -153,6 +160,8 @@ impl Objects {
         found.unlock(&name.place)
     }
 
+    /// Adds an object with the next number. Err: `WrongNumber` if `number` is not that or is too
+    /// large; `Memory`.
     fn create(&mut self, number: u32, class: Uuid) -> Result<(), (Event, TableFault)>
         ensures { let event = Event.Create number class in Does event (applied event self.old) self.old self.new result }
     {
@@ -171,6 +180,7 @@ impl Objects {
         }
     }
 
+    /// Removes an object. Err: an array of it is locked, or there is none (`NoObject`).
     fn release(&mut self, number: u32) -> Result<(), (Event, TableFault)>
         ensures does { let event = Event.Release number in Does event (applied event self.old) self.old self.new result }
         ensures starved { IfErr result (λ e. e.1 ≡ TableFault.Memory → MayWantMemory (Event.Release number) self.old) }
@@ -187,7 +197,8 @@ impl Objects {
         }
     }
 
-    /// Sets a cell. Returns the difference in size.
+    /// Sets a cell, and returns the difference in size. Err: `NoObject`, the array in the cell is
+    /// locked, or an allocation failed; the event is returned, and nothing changed.
     #[inline(always)]
     pub(crate) fn put(
         &mut self,
@@ -214,8 +225,9 @@ impl Objects {
         Ok(change)
     }
 
-    /// Overwrites a cell that was put before, if the new value is within the given sizes and the array is not locked,
-    /// and returns the difference in size. Otherwise it returns the value, and nothing changes.
+    /// Overwrites a cell that was put before, and returns the difference in size. Err: there is no
+    /// such cell, it is above the limits of `room`, or it is locked; the value is returned, and
+    /// nothing changes. Allocates nothing.
     #[inline(always)]
     pub(crate) fn put_again(
         &mut self,
@@ -240,6 +252,8 @@ impl Objects {
         found.put_again(&name.place, value, room)
     }
 
+    /// Sets an element of the array in a cell. Err: `NoObject`, `NotArray`, or what the array
+    /// refuses.
     fn put_element(
         &mut self,
         name: CellName,
@@ -261,6 +275,8 @@ impl Objects {
         Err((Event::PutElement { name, index, value }, fault))
     }
 
+    /// Replaces the first bound of the array in a cell. Err: `NoObject`, `NotArray`, `Memory`, or
+    /// what the array refuses.
     fn redim(&mut self, name: CellName, bound: Bound) -> Result<(), (Event, TableFault)>
         ensures { let event = Event.Redim name bound in Does event (applied event self.old) self.old self.new result }
     {

@@ -14,8 +14,8 @@ use std::marker::Model;
 use std::slice::from_ref;
 use uuid::Uuid;
 
-/// The place of a cell in its object: the member of an interface to which it belongs, and the arguments of the call.
-/// A key has at most 65,535 arguments.
+/// The place of a cell in its object: the member of an interface to which it belongs, and the
+/// arguments of the call. A key has at most 65,535 arguments.
 ///
 /// A place has 48 bytes with space for one argument; more are in a block of their own.
 #[derive(Drop)]
@@ -62,6 +62,7 @@ impl MemberKey {
         }
     }
 
+    /// Returns the DISPID of the member.
     fn dispid(&self) -> i32
         ensures { result ≡ dispid_in self.now }
     {
@@ -72,6 +73,7 @@ impl MemberKey {
         }
     }
 
+    /// Returns the arguments, in the order of the parameters.
     fn key(&self) -> &[Scalar]
         ensures { result.now ≡ key_in self.now }
     {

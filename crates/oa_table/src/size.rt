@@ -17,8 +17,8 @@ pub(crate) fn value_size(value: &Variant) -> u64
     value_image_len(value) as u64
 }
 
-/// Returns the length in bytes of a place's image: its interface, its DISPID, the number of scalars in its key, and
-/// the scalars.
+/// Returns the length in bytes of a place's image: its interface, its DISPID, the number of scalars
+/// in its key, and the scalars.
 #[tactic(auto, unfolding(crate::specs::Sizes::place_size, oa_layout::specs::Lengths::element_size))]
 pub fn place_size(place: &Place) -> u64
     ensures value { result ≡ sizes.place_size place.now }

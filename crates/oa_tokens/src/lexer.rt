@@ -102,8 +102,8 @@ fn front(bytes: &[u8]) -> Piece
     Piece::Broken
 }
 
-/// Returns the tokens of a text, in order. Bytes that form no token are one last token, up to the end of the text. Err: an allocation
-/// fails.
+/// Returns the tokens of a text, in order. Bytes that form no token are one last token, up to the
+/// end of the text. Err: an allocation fails.
 pub fn tokens(alloc: Global, text: &str) -> Result<Vec<Token>, AllocError>
     ensures { IfOk result (λ found. AreTokens 0 text.now found.items) }
 {

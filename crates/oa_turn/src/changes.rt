@@ -19,8 +19,8 @@ use oa_table::{CellName, Event, LARGEST_IMAGE, Table, TableFault};
 use oa_variant::Variant;
 use std::alloc::AllocError;
 
-/// Applies an event that is allowed. Err: an allocation failed, and nothing changed. Most are puts over an existing
-/// value, which have no event to return.
+/// Applies an event that is allowed. Most are puts over an existing value, which have no event to
+/// return. Err: an allocation failed, and nothing changed.
 pub(crate) fn apply(table: &mut Table, event: Event) -> Result<(), AllocError>
     requires unlocked { BringsNoLocks event }
     ensures change { MakesTable event table.old table.new result }
@@ -36,7 +36,7 @@ pub(crate) fn apply(table: &mut Table, event: Event) -> Result<(), AllocError>
     }
 }
 
-/// Applies any event that is allowed.
+/// Applies any event that is allowed. Err: an allocation failed, and nothing changed.
 #[inline(never)]
 fn apply_any(table: &mut Table, event: Event) -> Result<(), AllocError>
     requires unlocked { BringsNoLocks event }
@@ -50,7 +50,8 @@ fn apply_any(table: &mut Table, event: Event) -> Result<(), AllocError>
     Ok(())
 }
 
-/// Applies an event if it is allowed. Err: why it is not, or E_OUTOFMEMORY; then nothing changed.
+/// Applies an event if it is allowed over banks of `bank` bytes. Err: the code of the refusal, or
+/// E_OUTOFMEMORY; then nothing changed.
 pub(crate) fn change(bank: u32, table: &mut Table, event: SizedEvent) -> Result<(), HResult>
     requires unlocked { BringsNoLocks event }
     requires sound { IsSoundTable bank table.old }
@@ -58,7 +59,8 @@ pub(crate) fn change(bank: u32, table: &mut Table, event: SizedEvent) -> Result<
     ensures released { (number : ℕ) → event ≡ ARelease number → IfErr result (λ code. code ≡ e_outofmemory → ⊥) }
     ensures sound { IsSoundTable bank table.new }
 {
-    // Far from the limits, as usual, the table itself reports whether the event applies, when it applies it.
+    // Far from the limits, as usual, the table itself reports whether the event applies, when it
+    // applies it.
     if is_surely_within(bank, table, &event) {
         return change_within(table, event.into_event());
     }
@@ -68,11 +70,12 @@ pub(crate) fn change(bank: u32, table: &mut Table, event: SizedEvent) -> Result<
     apply(table, event.into_event()).map_err(|_| HResult::E_OUTOFMEMORY)
 }
 
-/// The most bytes of a value's image with which a put into a cell without a key is within the limit of an event.
+/// The greatest number of bytes of a value's image that a put may have without a key, within the
+/// limit of an event.
 const LONGEST_VALUE: u64 = MAX_EVENT_BYTES as u64 - 27;
 
-/// Overwrites a cell without a key that was put before, if that is within the limits. Otherwise it returns the value,
-/// and nothing changes.
+/// Overwrites a cell without a key that was put before, within the limits for banks of `bank`
+/// bytes. Err: the limits or the table do not allow it; the value is returned, and nothing changes.
 pub(crate) fn put_again(
     bank: u32,
     table: &mut Table,
@@ -89,8 +92,8 @@ pub(crate) fn put_again(
     table.put_again(name, value, LONGEST_VALUE, most_of(bank))
 }
 
-/// Applies an event that is within the limits, if the table accepts it. Err: why it does not, or E_OUTOFMEMORY; then
-/// nothing changed.
+/// Applies an event that is within the limits, if the table accepts it. Err: the code of the
+/// refusal, or E_OUTOFMEMORY; then nothing changed.
 fn change_within(table: &mut Table, event: Event) -> Result<(), HResult>
     requires unlocked { BringsNoLocks event }
     ensures change { (bank : ℕ) → StaysWithin bank event table.old → ChangesTable bank event table.old table.new result }
@@ -103,7 +106,8 @@ fn change_within(table: &mut Table, event: Event) -> Result<(), HResult>
     Ok(())
 }
 
-/// Changes the locks of an array. Allocates nothing.
+/// Adds or removes a lock of an array. Allocates nothing. Err: the table refuses it, and nothing
+/// changed.
 pub(crate) fn change_locks(table: &mut Table, change: LockChange) -> Result<(), TableFault>
     ensures change { RelocksTable change table.old table.new result }
     ensures same { unlocked_table table.new ≡ unlocked_table table.old }
@@ -115,6 +119,7 @@ pub(crate) fn change_locks(table: &mut Table, change: LockChange) -> Result<(), 
     }
 }
 
+/// Adds a lock to the array in a cell. Err: the table refuses it.
 fn lock(table: &mut Table, name: CellName) -> Result<(), TableFault>
     ensures change { RelocksTable (ALock name) table.old table.new result }
     ensures same { unlocked_table table.new ≡ unlocked_table table.old }
@@ -124,6 +129,7 @@ fn lock(table: &mut Table, name: CellName) -> Result<(), TableFault>
     Ok(())
 }
 
+/// Removes a lock from the array in a cell. Err: the table refuses it.
 fn unlock(table: &mut Table, name: CellName) -> Result<(), TableFault>
     ensures change { RelocksTable (AnUnlock name) table.old table.new result }
     ensures same { unlocked_table table.new ≡ unlocked_table table.old }

@@ -36,7 +36,8 @@ use std::marker::Model;
 pub(crate) mod locking;
 pub(crate) mod replacement;
 
-/// The state on which replies depend: a library, a table of its objects, and how large the table may grow.
+/// The state on which replies depend: a library, a table of its objects, and how large the table
+/// may grow.
 pub struct Host {
     alloc: Global,
     /// The size in bytes of a bank's body, into which the table must fit.
@@ -69,7 +70,8 @@ impl Model for Host {
 }
 
 impl Host {
-    /// Makes a host with a library and the first table, with the limits of a new store with banks of this size.
+    /// Makes a host of `library` with the first table, with the limits of a new store with banks of
+    /// `bank` bytes.
     pub fn new(alloc: Global, bank: u32, library: Library) -> Host
         requires { least_bank ≤ bank }
         ensures { result ≡ record { bank = bank; library = library; table = first_table } }
@@ -82,7 +84,7 @@ impl Host {
         }
     }
 
-    /// Makes a host with a library and an existing table, with the limits of banks of this size.
+    /// Makes a host of `library` with an existing table, with the limits of banks of `bank` bytes.
     pub fn over(alloc: Global, bank: u32, library: Library, table: Table) -> Host
         requires { IsSoundTable bank table }
         ensures { result ≡ record { bank = bank; library = library; table = table } }
@@ -95,8 +97,8 @@ impl Host {
         }
     }
 
-    /// Answers one request. If an allocation fails, the reply is E_OUTOFMEMORY, and nothing changes; a RELEASE never
-    /// fails so.
+    /// Returns the reply to the request in `body`. If an allocation fails, the reply is
+    /// E_OUTOFMEMORY, and nothing changes; a RELEASE never fails so.
     pub fn turn(&mut self, body: &[u8]) -> Reply
         ensures turn { Turn self.old body.now result self.new }
         ensures bank { self.new.bank ≡ self.old.bank }
@@ -109,11 +111,12 @@ impl Host {
         self.ordinary_turn(body)
     }
 
-    /// Answers one request with another opcode than 12. It tries the fast path for calls with no more than a new
-    /// value first, since most requests are such calls.
+    /// Returns the reply to a request with another opcode than 12. It tries the fast path for calls
+    /// with no more than a new value first, since most requests are such calls. If an allocation
+    /// fails, the reply is E_OUTOFMEMORY, and nothing changes.
     ///
-    /// The fast path (`value_plan`, `put_value`) and the general one (`other_turn`) part here; both meet this
-    /// contract.
+    /// The fast path (`value_plan`, `put_value`) and the general one (`other_turn`) part here; both
+    /// meet this contract.
     pub fn ordinary_turn(&mut self, body: &[u8]) -> Reply
         requires plain { is_replacement body.now ≡ false }
         ensures turn { Turn self.old body.now result self.new }
@@ -128,7 +131,8 @@ impl Host {
         }
     }
 
-    /// Plans a call with no more than a new value. None, without a further meaning, for any other body.
+    /// Plans a call with no more than a new value. None, without a further meaning, for any other
+    /// body, and if an allocation fails.
     fn value_plan(&self, body: &[u8]) -> Option<ValuePlan>
         ensures { IfSome result (PlansCall self.now body.now) }
     {
@@ -136,8 +140,8 @@ impl Host {
         self.decider().plan_value(tag_of(body), &head, value)
     }
 
-    /// Sets a cell, and returns the reply. Most puts overwrite an existing value, far from the limits: no event is
-    /// made for these.
+    /// Sets a cell, and returns the reply. Most puts overwrite an existing value, far from the
+    /// limits: no event is made for these.
     fn put_value(&mut self, tag: u32, put: ValuePut) -> Reply
         requires { BringsNoLocks (put_event put) }
         ensures { (body : List ℕ) → IsDrafted self.old body (put_planned tag put) → Ordinary self.old body result self.new }
@@ -156,8 +160,8 @@ impl Host {
         }
     }
 
-    /// Sets a cell by an event. A function of its own, so that a put over an existing value reserves no space for an
-    /// event.
+    /// Sets a cell by an event. A function of its own, so that a put over an existing value
+    /// reserves no space for an event.
     #[inline(never)]
     fn put_any(&mut self, tag: u32, name: CellName, value: Variant) -> Reply
         requires { BringsNoLocks (Put name value) }
@@ -169,7 +173,7 @@ impl Host {
         self.make(Planned { tag, event, fields })
     }
 
-    /// Answers one request with another opcode than 12, by the general path.
+    /// Returns the reply to a request with another opcode than 12, by the general path.
     #[inline(never)]
     fn other_turn(&mut self, body: &[u8]) -> Reply
         ensures turn { Ordinary self.old body.now result self.new }
@@ -182,7 +186,9 @@ impl Host {
         }
     }
 
-    /// Answers one request with another opcode than 12, except for the change of the table: that is planned.
+    /// Answers one request with another opcode than 12, except for the change of the table. If it
+    /// asks for one, returns the change, which is allowed and has not been made; otherwise the
+    /// reply.
     pub fn plan(&mut self, body: &[u8]) -> Plan
         ensures plans { Plans self.old body.now self.new result }
         ensures quiet { HasNoEvent self.old body.now result }
@@ -268,8 +274,8 @@ impl Host {
         Reply::new(tag, HResult::S_OK, None, fields.into_vec())
     }
 
-    /// Applies an event that was planned, or another that is allowed. Err: an allocation failed, which never happens
-    /// for a `Release`, and nothing changed.
+    /// Applies an event that was planned, or another that is allowed. Err: an allocation failed,
+    /// which never happens for a `Release`, and nothing changed.
     pub fn apply(&mut self, event: Event) -> Result<(), AllocError>
         requires unlocked { BringsNoLocks event }
         requires allowed { IsOk (allowed self.old.bank event self.old.table) }
@@ -279,7 +285,8 @@ impl Host {
         apply(&mut self.table, event)
     }
 
-    /// Answers requests one after another. Err: an allocation failed before anything was done.
+    /// Returns the replies to `bodies`, each a request, in order. Err: an allocation failed before
+    /// anything was done.
     pub fn run(&mut self, bodies: &[Vec<u8>]) -> Result<Vec<Reply>, AllocError>
         ensures run { IfOk result (λ replies. Run self.old (map (λ b. b.items) bodies.now) replies.items self.new) }
         ensures bank { self.new.bank ≡ self.old.bank }
@@ -308,7 +315,7 @@ impl Host {
         self.library = library;
     }
 
-    /// Decides a request. It only reads.
+    /// Decides a request. It only reads. Errors are those of `Decider`.
     fn decide(&self, request: Request) -> Result<Decision, Undecided>
         ensures decided { Decides (decided self.now request) (DecidingTakesMemory self.now request) result }
         ensures unlocked { IfOk result ChangesNoLocks }
@@ -323,8 +330,8 @@ impl Host {
         Decider::new(self.alloc, self.bank, &self.library, &self.table)
     }
 
-    /// Changes the locks of an array, and replies with these fields, or with why the table refuses it. Allocates
-    /// nothing.
+    /// Changes the locks of an array, and replies with these fields, or with why the table refuses
+    /// it. Allocates nothing.
     fn relock(&mut self, tag: u32, change: LockChange, fields: Fields) -> Reply
         ensures reply { result ≡ reply_with tag (relocking change fields (relocked change self.old.table)) }
         ensures state { self.new ≡ after_outcome self.old (relocking change fields (relocked change self.old.table)) }

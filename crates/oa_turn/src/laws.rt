@@ -20,9 +20,9 @@ use oa_fits::laws::changes_that_fit;
 use oa_idl::laws::one_tree;
 use oa_record::laws::one_request;
 
-/// A request that is answered with another code than S_OK leaves no trace: it makes no event and changes no lock, so
-/// its turn does not change the state. The other turns of a run alone are a run with the same replies, also together
-/// with any of the turns that leave no trace.
+/// A request that is answered with another code than S_OK leaves no trace. It makes no event and
+/// changes no lock, so its turn does not change the state. The other turns of a run alone are a run
+/// with the same replies. The same is true if some of the turns that leave no trace stay in it.
 pub fn no_trace()
     ensures outcome { (state : State) (tag : ℕ) (request : ARequest) → ((reply_to state tag request).code.0 ≡ 0 → ⊥)
         → IsQuiet (outcome state request) }
@@ -33,8 +33,8 @@ pub fn no_trace()
         → Run old bodies replies new → Run old (kept_bodies choices bodies replies) (kept_replies choices replies) new }
 {}
 
-/// A table that fits a library fits each library that is compatible with it. Locks do not matter for that. A library
-/// may replace another exactly if it is compatible with it.
+/// A table that fits a library fits each library that is compatible with it. Locks do not matter
+/// for that. A library may replace another exactly if it is compatible with it.
 pub fn kept_fits()
     ensures fits { (new old : TreeValue) → IsChecked new → KeepsLibrary new old → (table : TableValue) → fits old table ≡ true
         → fits new table ≡ true }
@@ -43,7 +43,8 @@ pub fn kept_fits()
     oa_fits::laws::kept_fits();
 }
 
-/// If a table fits its library, it still does after a turn and after a run, for the library of then.
+/// If a table fits its library, it still does after a turn and after a run, for the library of
+/// then.
 pub fn fits_stays()
     ensures turn { (old new : State) (body : List ℕ) (reply : ReplyValue) → IsChecked old.library
         → fits old.library old.table ≡ true → Turn old body reply new → IsChecked new.library × (fits new.library new.table ≡ true) }

@@ -15,8 +15,8 @@ use oa_table::CellName;
 use std::alloc::AllocError;
 
 impl Host {
-    /// Returns the change that a LOCK or an UNLOCK of an existing array asks for; None for any other request. It only
-    /// reads. Err: an allocation failed.
+    /// Returns the change that a LOCK or an UNLOCK of an existing array asks for; None for any
+    /// other body. It only reads. Err: an allocation failed.
     pub fn lock_asked(&self, body: &[u8]) -> Result<Option<LockChange>, AllocError>
         ensures finds { FindsLock self.now body.now result }
         ensures plain { is_replacement body.now ≡ true → result ≡ Ok None }
@@ -28,7 +28,8 @@ impl Host {
         self.lock_in(body)
     }
 
-    /// Returns the change of a lock that any body asks for.
+    /// Returns the change of a lock that any body asks for; None if it asks for none. Err: an
+    /// allocation failed.
     fn lock_in(&self, body: &[u8]) -> Result<Option<LockChange>, AllocError>
         ensures { FindsLock self.now body.now result }
     {
@@ -42,7 +43,8 @@ impl Host {
         }
     }
 
-    /// Returns the change of a lock that a request asks for.
+    /// Returns the change of a lock that a request asks for; None if it asks for none. Err: an
+    /// allocation failed.
     fn lock_by(&self, request: Request) -> Result<Option<LockChange>, AllocError>
         ensures { FindsLockBy self.now request result }
     {
@@ -67,7 +69,7 @@ impl Host {
     }
 }
 
-/// Whether it is a LOCK or an UNLOCK.
+/// Returns whether a request is a LOCK or an UNLOCK.
 fn changes_lock(request: &Request) -> bool
     ensures { result ≡ changes_lock request.now }
 {
@@ -77,7 +79,7 @@ fn changes_lock(request: &Request) -> bool
     }
 }
 
-/// Whether the opcode in a body is that of a LOCK or of an UNLOCK.
+/// Returns whether the opcode in a body is that of a LOCK or of an UNLOCK.
 fn asks_lock(body: &[u8]) -> bool
     ensures { result ≡ asks_lock body.now }
 {
@@ -87,7 +89,7 @@ fn asks_lock(body: &[u8]) -> bool
     }
 }
 
-/// Whether it is the opcode of a LOCK or of an UNLOCK.
+/// Returns whether an opcode is that of a LOCK or of an UNLOCK.
 fn is_lock(opcode: Opcode) -> bool
     ensures { result ≡ is_lock opcode }
 {

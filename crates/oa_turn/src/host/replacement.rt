@@ -20,7 +20,8 @@ pub enum ReplacementPlan {
     Replaced(Library),
 }
 
-/// Returns the library whose text is in the body, or the code of a refusal.
+/// Returns the library whose text is in the body. Err: the code of the refusal, BAD_STUB_DATA or
+/// E_OUTOFMEMORY.
 fn library_of(alloc: Global, body: &[u8]) -> Result<Library, HResult>
     ensures { IsLibraryOf body.now result }
 {
@@ -40,7 +41,8 @@ fn text_code(fault: TextError) -> HResult
     }
 }
 
-/// Returns the reply with the first incompatibility.
+/// Returns the reply E_INVALIDARG with the first incompatibility; E_OUTOFMEMORY if an allocation
+/// fails.
 fn refuse_loss(alloc: Global, tag: u32, lost: Lost) -> Reply
     ensures { RefusesLoss tag lost result }
 {
@@ -51,7 +53,8 @@ fn refuse_loss(alloc: Global, tag: u32, lost: Lost) -> Reply
 }
 
 impl Host {
-    /// Plans a request to replace the library. It only reads.
+    /// Plans a request to replace the library: its text has to be a library that is compatible with
+    /// the present one. It only reads. If an allocation fails, the reply is E_OUTOFMEMORY.
     pub fn plan_replacement(&self, body: &[u8]) -> ReplacementPlan
         ensures { PlansReplacement self.now body.now result }
     {
@@ -66,8 +69,9 @@ impl Host {
         }
     }
 
-    /// Answers one request with opcode 12. If an allocation fails, the reply is E_OUTOFMEMORY; after any refusal
-    /// nothing has changed.
+    /// Returns the reply to a request with opcode 12, and replaces the library if it is not
+    /// refused. If an allocation fails, the reply is E_OUTOFMEMORY. After any refusal nothing has
+    /// changed.
     pub fn replace(&mut self, body: &[u8]) -> Reply
         requires kind { is_replacement body.now ≡ true }
         ensures turn { Turn self.old body.now result self.new }

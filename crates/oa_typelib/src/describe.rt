@@ -54,7 +54,7 @@ fn parameter<'a>(parameter: &'a Parameter, default: &'a Option<Scalar>) -> Descr
     }
 }
 
-/// Describes parameters.
+/// Describes parameters with the values of their defaults. Err: an allocation fails.
 fn parameters<'a>(
     alloc: Global,
     parameters: &'a [Parameter],
@@ -70,7 +70,7 @@ fn parameters<'a>(
     Ok(all)
 }
 
-/// Describes a declaration.
+/// Describes a declaration. Err: an allocation fails.
 fn member<'a>(alloc: Global, form: &Form<'a>) -> Result<DescribedMember<'a>, AllocError>
     ensures { IfOk result (λ m. m ≡ member_description form.now) }
 {
@@ -91,7 +91,8 @@ fn is_put_or_not(kind: DeclarationKind, puts: bool) -> bool
     if puts { kind.is_put() } else { !kind.is_put() }
 }
 
-/// Returns the declaration at `place` if it is a put and `puts` is true, or if it is no put and `puts` is false; otherwise None.
+/// Returns the declaration at `place`, counted from 0, if it has the form: a put if `puts` is true,
+/// no put otherwise. None if it does not, or there is none.
 pub fn form_at<'a>(interface: &Dispinterface<'a>, place: usize, puts: bool) -> Option<Form<'a>>
     ensures { result ≡ option_and_then (λ d. if is_put_or_not puts d.kind then Some d else None)
         (slice_get (declarations interface.now) place) }
@@ -105,6 +106,7 @@ pub fn form_at<'a>(interface: &Dispinterface<'a>, place: usize, puts: bool) -> O
 }
 
 /// Appends the declarations at some places that are puts, if `puts` is true, or that are no puts.
+/// Err: an allocation fails.
 fn add_forms<'a>(
     alloc: Global,
     members: &mut Vec<DescribedMember<'a>>,
@@ -123,7 +125,7 @@ fn add_forms<'a>(
     Ok(())
 }
 
-/// Appends the declarations of a member, a get before its put.
+/// Appends the declarations of a member, a get before its put. Err: an allocation fails.
 fn add_member<'a>(
     alloc: Global,
     members: &mut Vec<DescribedMember<'a>>,
@@ -137,7 +139,8 @@ fn add_member<'a>(
     add_forms(alloc, members, interface, places, true)
 }
 
-/// Describes the members of an interface, in the order in which their names first appear.
+/// Describes the members of an interface, in the order in which their names first appear. Err: an
+/// allocation fails.
 fn members<'a>(
     alloc: Global,
     interface: &Dispinterface<'a>,
@@ -152,7 +155,7 @@ fn members<'a>(
     Ok(members)
 }
 
-/// Describes an interface. Err: an allocation fails.
+/// Returns the description of an interface. Err: an allocation fails.
 pub(crate) fn interface_description<'a>(
     alloc: Global,
     interface: &Dispinterface<'a>,
@@ -178,7 +181,7 @@ fn entry_at(is_default: bool, interface: usize) -> Option<DescribedEntry>
     })
 }
 
-/// Describes an entry; None if it names no interface of the library.
+/// Describes an entry; None if it names no interface of the library. Err: an allocation fails.
 fn entry(alloc: Global, index: &Index, entry: &Entry) -> Result<Option<DescribedEntry>, AllocError>
     ensures { IfOk result (λ e. e ≡ entry_in index.now.interfaces entry.now) }
 {
@@ -189,7 +192,8 @@ fn entry(alloc: Global, index: &Index, entry: &Entry) -> Result<Option<Described
     Ok(entry_at(entry.is_default, interface))
 }
 
-/// Describes the entries of a coclass, without those that name no interface.
+/// Describes the entries of a coclass, without those that name no interface. Err: an allocation
+/// fails.
 fn entries(
     alloc: Global,
     index: &Index,
@@ -206,7 +210,7 @@ fn entries(
     Ok(all)
 }
 
-/// Describes a coclass. Err: an allocation fails.
+/// Returns the description of a coclass. Err: an allocation fails.
 pub(crate) fn class_description<'a>(
     alloc: Global,
     index: &Index,
@@ -221,7 +225,8 @@ pub(crate) fn class_description<'a>(
     })
 }
 
-/// Returns the place among the items of the interface with this index among the interfaces.
+/// Returns the place among the items of interface number `index`, counted from 0; None if there are
+/// fewer.
 pub(crate) fn nth_interface(items: &[Item], index: usize) -> Option<usize>
     ensures { option_and_then (λ place. option_and_then as_interface (slice_get items.now place)) result
         ≡ slice_get (interfaces_of items.now) index }
@@ -252,7 +257,7 @@ pub(crate) fn count_interfaces(items: &[Item]) -> usize
     count
 }
 
-/// Returns the coclass with this index among the coclasses.
+/// Returns coclass number `index`, counted from 0; None if there are fewer.
 pub(crate) fn nth_class(items: &[Item], index: usize) -> Option<&Coclass>
     ensures { option_copied result ≡ slice_get (classes_of items.now) index }
 {

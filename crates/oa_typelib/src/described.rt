@@ -21,7 +21,8 @@ pub struct DescribedParameter<'a> {
     pub is_optional: bool,
     /// The name, spelled as in the text.
     pub name: &'a Name,
-    /// The value of the default (PARAMFLAG_FHASDEFAULT), converted to the declared type; for VARIANT an I4, a BSTR or a BOOL.
+    /// The value of the default (PARAMFLAG_FHASDEFAULT), converted to the declared type; for
+    /// VARIANT an I4, a BSTR or a BOOL.
     pub default: Option<&'a Scalar>,
 }
 
@@ -40,7 +41,8 @@ impl<'a> Model for DescribedParameter<'a> {
     } };
 }
 
-/// The description of a declaration: a property of `properties:`, or a method, a get or a put of `methods:`.
+/// The description of a declaration: a property of `properties:`, or a method, a get or a put of
+/// `methods:`.
 #[derive(Drop)]
 pub struct DescribedMember<'a> {
     /// The DISPID.
@@ -89,7 +91,8 @@ impl Model for DescribedEntry {
 /// The content of a description.
 #[derive(Drop)]
 pub enum Content<'a> {
-    /// The members of an interface, in the order in which their names first appear, a get before its put.
+    /// The members of an interface, in the order in which their names first appear, a get before
+    /// its put.
     Interface(Vec<DescribedMember<'a>>),
     /// The entries of a coclass in the text's order.
     Coclass(Vec<DescribedEntry>),

@@ -13,7 +13,8 @@ use oa_variant::Scalar;
 use std::alloc::{AllocError, Global};
 use std::marker::Model;
 
-/// Converts the defaults of parameters to values.
+/// Returns the values of the defaults of parameters; None for a parameter without one. Err: an
+/// allocation fails.
 fn values_of(alloc: Global, parameters: &[Parameter]) -> Result<Vec<Option<Scalar>>, AllocError>
     ensures { IfOk result (λ v. v.items ≡ map default_value parameters.now) }
 {
@@ -24,7 +25,8 @@ fn values_of(alloc: Global, parameters: &[Parameter]) -> Result<Vec<Option<Scala
     Ok(values)
 }
 
-/// Converts the defaults of the parameters of each declaration.
+/// Returns the values of the defaults of the parameters of each declaration. Err: an allocation
+/// fails.
 fn all_values(
     alloc: Global,
     declarations: &[Declaration],
@@ -56,7 +58,7 @@ impl Model for Members {
     ghost view = { λ m. record { by_name = m.by_name; by_id = m.by_id; defaults = map (λ xs. xs.items) m.defaults.items } };
 }
 
-/// Returns the names of declarations.
+/// Returns the names of declarations. Err: an allocation fails.
 fn names_of<'a>(
     alloc: Global,
     declarations: &[Declaration<'a>],
@@ -70,7 +72,7 @@ fn names_of<'a>(
     Ok(names)
 }
 
-/// Groups the places of declarations by the folded name.
+/// Groups the places of declarations by the folded name. Err: an allocation fails.
 fn by_name(alloc: Global, declarations: &[Declaration]) -> Result<Groups<FoldedName>, AllocError>
     ensures { IfOk result (λ g. g ≡ keys_with_places same (map (λ d. folded_name d.name) declarations.now)) }
 {
@@ -79,7 +81,7 @@ fn by_name(alloc: Global, declarations: &[Declaration]) -> Result<Groups<FoldedN
 }
 
 impl Members {
-    /// Makes the members of these declarations.
+    /// Makes the members of these declarations. Err: an allocation fails.
     fn grouped(alloc: Global, declarations: &[Declaration]) -> Result<Members, AllocError>
         ensures { IfOk result (λ m. m ≡ grouped declarations.now) }
     {
@@ -90,7 +92,7 @@ impl Members {
         })
     }
 
-    /// Makes the members of an item; a coclass has none.
+    /// Makes the members of an item; a coclass has none. Err: an allocation fails.
     pub(crate) fn of(alloc: Global, item: &Item) -> Result<Members, AllocError>
         ensures { IfOk result (λ m. m ≡ members_in item.now) }
     {

@@ -1,7 +1,9 @@
-//! What the contracts do not promise: that each value is dropped once, and that allocations succeed.
+//! What the contracts do not promise: that each value is dropped once, and that allocations
+//! succeed.
 //!
-//! If an allocation fails, the state after the failure is checked and the call is repeated once. So the tests also
-//! pass if any one call of the allocator fails: `tests/program/test_raw_memory.py` fails each in turn.
+//! If an allocation fails, the state after the failure is checked and the call is repeated once. So
+//! the tests also pass if any one call of the allocator fails: `tests/program/test_raw_memory.py`
+//! fails each in turn.
 use crate::asserts::{assert_none, expect};
 use oa_cells::{Cells, Row};
 use std::alloc::{AllocError, Global};
@@ -22,7 +24,7 @@ impl Drop for Counted<'_> {
     }
 }
 
-/// Why no cells were made.
+/// Why no cells were made: an allocation failed, or `fill` failed at this index.
 #[derive(Clone, Copy, PartialEq, Eq)]
 pub enum Refusal {
     Memory,
@@ -35,6 +37,7 @@ impl From<AllocError> for Refusal {
     }
 }
 
+/// Makes the value of index `number`, and fails at the index `refuse`.
 fn make_counted<'a>(
     number: usize,
     refuse: usize,
@@ -49,6 +52,7 @@ fn make_counted<'a>(
     })
 }
 
+/// Makes cells numbered by their indices, and fails at the index `refuse`.
 fn fill_once<'a>(
     alloc: Global,
     len: usize,
@@ -58,7 +62,8 @@ fn fill_once<'a>(
     Cells::filled_by(alloc, len, |i| make_counted(i, refuse, drops))
 }
 
-/// Makes cells numbered by their indices, and fails at the index `refuse`. If the allocation fails, no cell was made.
+/// Makes cells numbered by their indices, and fails at the index `refuse`. If the allocation fails,
+/// no cell was made.
 fn filled<'a>(
     alloc: Global,
     len: usize,
@@ -89,6 +94,7 @@ fn is_told(alloc: Global, refuse: usize, drops: &Cell<usize>) -> bool {
     }
 }
 
+/// Returns the first index of failure for which a fill has another result; None if there is none.
 fn first_other_fill(alloc: Global) -> Option<usize> {
     for refuse in 0..5 {
         let drops = Cell::new(0);
@@ -99,8 +105,8 @@ fn first_other_fill(alloc: Global) -> Option<usize> {
     None
 }
 
-/// A resize of `from` cells to `len` that fails at the index `refuse`: the length after it, the drops by then, and
-/// all drops at the end.
+/// A resize of `from` cells to `len` that fails at the index `refuse`: the length after it, the
+/// drops by then, and all drops at the end.
 struct Resize {
     from: usize,
     len: usize,
@@ -111,6 +117,7 @@ struct Resize {
     all: usize,
 }
 
+/// Resizes, and their results.
 const RESIZES: [Resize; 7] = [
     Resize {
         from: 3,
@@ -177,6 +184,7 @@ const RESIZES: [Resize; 7] = [
     },
 ];
 
+/// Resizes the cells as the row says.
 fn resize_once<'a>(
     cells: &mut Cells<Counted<'a>>,
     row: &Resize,
@@ -220,7 +228,8 @@ fn first_other_resize(alloc: Global) -> Option<(usize, usize)> {
     None
 }
 
-/// Replaces the second of three cells. Returns the number of the old cell, and the numbers of the three cells.
+/// Replaces the second of three cells. Returns the number of the old cell, and the numbers of the
+/// three cells.
 fn replaced<'a>(
     cells: &mut Cells<Counted<'a>>,
     drops: &'a Cell<usize>,
@@ -258,7 +267,7 @@ fn each_cell_is_dropped_once(rt: HostRuntime) {
     );
 }
 
-/// Makes cells of one value, and fails at the index `refuse`.
+/// Makes cells of one value. Err: an allocation fails, or the index is `refuse`.
 pub fn made<T: Copy>(
     alloc: Global,
     len: usize,
@@ -273,8 +282,8 @@ pub fn made<T: Copy>(
     })
 }
 
-/// Returns whether a fill of the largest number of cells of size 0 fails at the given index. If an allocation fails,
-/// the fill is repeated once.
+/// Returns whether a fill of the largest number of cells of size 0 fails at the given index. If an
+/// allocation fails, the fill is repeated once.
 fn are_many(alloc: Global) -> bool {
     match made(alloc, 1 << 62, 2, ()) {
         Err(Refusal::Memory) => made(alloc, 1 << 62, 2, ()).err() == Some(Refusal::At(2)),
@@ -282,7 +291,8 @@ fn are_many(alloc: Global) -> bool {
     }
 }
 
-/// 2 ^ 62 values of size 0 need no bytes and fit in a block; 2 ^ 59 values of sixteen bytes would need 2 ^ 63 bytes.
+/// 2 ^ 62 values of size 0 need no bytes and fit in a block; 2 ^ 59 values of sixteen bytes would
+/// need 2 ^ 63 bytes.
 fn are_bounded(alloc: Global) -> bool {
     are_many(alloc) && made(alloc, 1 << 59, 2, 7u128).err() == Some(Refusal::Memory)
 }

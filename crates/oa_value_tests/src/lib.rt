@@ -1,4 +1,5 @@
-//! Tests of values, their encodings, and the strings and tables that contain them, for what no request reaches.
+//! Tests of values, their encodings, and the strings and tables that contain them, for what no
+//! request reaches.
 //!
 //! Contract: safety, as of every function; the tests contain the expected values.
 //!

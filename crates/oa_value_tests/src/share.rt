@@ -1,12 +1,13 @@
-//! Decoding the frames of three clients: the bodies and stream ends of each client, and their order.
+//! Decoding the frames of three clients: the bodies and stream ends of each client, and their
+//! order.
 use crate::asserts::expect;
 use oa_frame::End;
 use oa_share::{Clients, FrameHead, What};
 use std::alloc::Global;
 use std::rt::HostRuntime;
 
-/// One item of a stream: the client, a letter and a length. `B` is a body of that many bytes; `C`, `E`, `L` and `Z`
-/// are ends of a client's stream; `N` is *now*.
+/// One item of a stream: the client, a letter and a length. `B` is a body of that many bytes; `C`,
+/// `E`, `L` and `Z` are ends of a client's stream; `N` is *now*.
 type Brought = (u32, char, usize);
 
 /// Adds the items that the bytes of one frame complete.
@@ -69,12 +70,14 @@ fn of_frames(alloc: Global, mut input: &[u8]) -> Option<Vec<Brought>> {
     Some(all)
 }
 
+/// A test of frames: its name, the frames, and their items.
 struct Row {
     name: &'static str,
     frames: &'static [u8],
     brought: &'static [Brought],
 }
 
+/// The tests.
 const ROWS: [Row; 6] = [
     Row {
         name: "two records in one frame, and the end",

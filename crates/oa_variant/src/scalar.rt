@@ -15,8 +15,8 @@ use oa_model::VarType;
 use std::alloc::{AllocError, Global};
 use std::cmp::Ordering;
 
-/// A value that is not an array, with its type (MS-OAUT section 2.2.7). Values of different types are different, even if their numbers are
-/// equal.
+/// A value that is not an array, with its type (MS-OAUT section 2.2.7). Values of different types
+/// are different, even if their numbers are equal.
 #[derive(Debug, Drop)]
 pub enum Scalar {
     /// No value.
@@ -139,7 +139,8 @@ impl Cell for Scalar {
 
     ghost zero_fits = { λ elem _. zero_fits elem };
 
-    /// Returns whether the scalar can be an element of an array of this type: it is of that type, or the type is VARIANT.
+    /// Returns whether the scalar can be an element of an array of this type: it is of that type,
+    /// or the type is VARIANT.
     fn fits(&self, elem: VarType) -> bool
         ensures fits { IsTrue result ↔ FitsType self.now elem }
         ensures test { result ≡ fits_type self.now elem }
@@ -147,8 +148,9 @@ impl Cell for Scalar {
         elem == VarType::Variant || self.var_type() == elem
     }
 
-    /// Returns the zero value of a type, which a cell has before its first put: 0, false, a positive DECIMAL 0 of scale 0, the null BSTR,
-    /// EMPTY for EMPTY and VARIANT, NULL for NULL (this project's choice). Allocates nothing.
+    /// Returns the zero value of a type, which a cell has before its first put: 0, false, a
+    /// positive DECIMAL 0 of scale 0, the null BSTR, EMPTY for EMPTY and VARIANT, NULL for NULL
+    /// (this project's choice). Allocates nothing.
     fn zero(elem: VarType) -> Scalar {
         match elem {
             VarType::Empty | VarType::Variant => Scalar::Empty,
@@ -171,8 +173,8 @@ impl Cell for Scalar {
         }
     }
 
-    /// Returns an equal scalar, with a block of its own for a text. Err: the allocation of that block fails; the copy of a scalar without
-    /// text never fails.
+    /// Returns an equal scalar, with a block of its own for a text. Err: the allocation of that
+    /// block fails; the copy of a scalar without text never fails.
     fn copy(&self, alloc: Global) -> Result<Scalar, AllocError>
         ensures value { IfOk result (λ s. s ≡ self.now) }
         ensures no_text { text_of self.now ≡ None → IsOk result }

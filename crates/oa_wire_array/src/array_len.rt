@@ -16,7 +16,7 @@ use oa_array::SafeArray;
 use oa_model::VarType;
 use oa_variant::Scalar;
 
-/// Returns the next multiple of n.
+/// Returns the next multiple of `n` from `place` on.
 fn aligned(n: usize, place: usize) -> usize
     requires above { 0 < n }
     requires small { n ≤ 16 }
@@ -28,7 +28,8 @@ fn aligned(n: usize, place: usize) -> usize
     if over == 0 { place } else { place + n - over }
 }
 
-/// Returns the end of the text of an element; a null text needs no bytes.
+/// Returns the offset after the text of an element, from offset `place` on; a null text needs no
+/// bytes.
 fn text_end(cell: &Scalar, place: usize) -> usize
     requires { place < 2 ^ 59 }
     ensures value { (out : List ℕ) → length out ≡ place → length (put_text (text_of cell.now) out) ≡ result }
@@ -46,7 +47,7 @@ fn text_end(cell: &Scalar, place: usize) -> usize
     }
 }
 
-/// Returns the end of the pointee of an element.
+/// Returns the offset after the pointee of an element, from offset `place` on.
 fn pointee_end(elem: VarType, cell: &Scalar, place: usize) -> usize
     requires { place < 2 ^ 59 }
     ensures value { (out : List ℕ) → length out ≡ place → length (put_pointee elem cell.now out) ≡ result }
@@ -58,7 +59,7 @@ fn pointee_end(elem: VarType, cell: &Scalar, place: usize) -> usize
     }
 }
 
-/// Returns the end of the pointees of elements.
+/// Returns the offset after the pointees of elements, from offset `place` on.
 fn pointees_end(elem: VarType, cells: &[Scalar], place: usize) -> usize
     requires few { length cells.now ≤ max_cells }
     requires room { place < 2 ^ 58 }
@@ -91,7 +92,7 @@ fn plain_len(elem: VarType) -> usize
     elem.element_size().unwrap_or(0) as usize
 }
 
-/// Returns the end of elements without pointees.
+/// Returns the offset after elements without pointees, from offset `place` on.
 fn plain_end(elem: VarType, cells: &[Scalar], place: usize) -> usize
     requires plain { is_pointed elem ≡ false }
     requires typed { IsSome (sf_type_of elem) }
@@ -109,7 +110,7 @@ fn plain_end(elem: VarType, cells: &[Scalar], place: usize) -> usize
     aligned(width, place) + width * count
 }
 
-/// Returns the end of the elements of an array.
+/// Returns the offset after the elements of an array, from offset `place` on.
 fn elements_end(elem: VarType, cells: &[Scalar], place: usize) -> usize
     requires typed { IsSome (sf_type_of elem) }
     requires fits { All (λ cell. FitsType cell elem) cells.now }
@@ -125,8 +126,9 @@ fn elements_end(elem: VarType, cells: &[Scalar], place: usize) -> usize
     plain_end(elem, cells, place)
 }
 
-/// Returns the end of an array that `write_array` writes from the offset `place` on. Both are offsets in bytes from the first byte of the
-/// field. `place` is a multiple of 4, as that of a referent is, and at most 64.
+/// Returns the end of an array that `write_array` writes from the offset `place` on. Both are
+/// offsets in bytes from the first byte of the field. `place` is a multiple of 4, as that of a
+/// referent is, and at most 64.
 pub fn array_end(array: &SafeArray<Scalar>, place: usize) -> usize
     requires place { place % 4 ≡ 0 }
     requires small { place ≤ 64 }

@@ -26,7 +26,7 @@ use oa_variant::Scalar;
 use oa_wire_text::add_blob;
 use std::alloc::AllocError;
 
-/// Writes a bound.
+/// Writes a bound in 8 bytes. Err: an allocation fails.
 fn write_bound(out: &mut NdrOut, bound: Bound) -> Result<(), AllocError>
     ensures ok { OnOk result (out.new ≡ in_field (put_bound bound) out.old) }
     ensures kept { TakesNothingBack out.old out.new }
@@ -171,7 +171,8 @@ fn write_size(out: &mut NdrOut, elem: VarType, count: u32) -> Result<(), AllocEr
     out.referent(true)
 }
 
-/// As `write_array`, but if an allocation fails, a part of the array may have been written.
+/// Writes an array as `write_array` does. Err: an allocation fails, and a part of the array may
+/// have been written.
 #[tactic(auto, unfolding(crate::specs::ArrayCanon::put_array))]
 fn add_array(out: &mut NdrOut, array: &SafeArray<Scalar>) -> Result<(), AllocError>
     ensures ok { OnOk result (out.new ≡ in_field (put_array array.now) out.old) }
@@ -187,9 +188,10 @@ fn add_array(out: &mut NdrOut, array: &SafeArray<Scalar>) -> Result<(), AllocErr
     write_elements(out, elem, cells)
 }
 
-/// Writes an array from the second of its two referents on, with all its pointees (see `read_array`): fFeatures is 0x80, with 0x100 added
-/// for BSTR and 0x800 for VARIANT; cbElements is that of a 32-bit process; the high half of cLocks is the vt of the elements; a null text
-/// is a null referent. Locks are not written. Err: an allocation fails; the output is unchanged.
+/// Writes an array from the second of its two referents on, with all its pointees (see
+/// `read_array`). fFeatures is 0x80, with 0x100 added for BSTR and 0x800 for VARIANT. cbElements is
+/// that of a 32-bit process. The high half of cLocks is the vt of the elements. A null text is a
+/// null referent. Locks are not written. Err: an allocation fails; the output is unchanged.
 pub fn write_array(out: &mut NdrOut, array: &SafeArray<Scalar>) -> Result<(), AllocError>
     ensures ok { OnOk result (out.new ≡ in_field (put_array array.now) out.old) }
     ensures err { OnErr result (out.new ≡ out.old) }

@@ -11,8 +11,8 @@ pub fn one_value()
     ensures { (bytes : List ℕ) (v w : Variant) → Spells bytes v → Spells bytes w → v ≡ w }
 {}
 
-/// The canonical encoding of a value encodes the value without the locks of an array. Each `Variant` of the code satisfies the condition
-/// (`oa_variant::laws::is_variant`).
+/// The canonical encoding of a value encodes the value without the locks of an array. Each
+/// `Variant` of the code satisfies the condition (`oa_variant::laws::is_variant`).
 pub fn canon_spells()
     ensures { (v : Variant) → IsVariant v → Spells (canon v) (unlocked v) }
 {}

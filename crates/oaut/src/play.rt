@@ -8,7 +8,9 @@ use oa_disk::{Disk, NoDisk};
 use oa_server::Server;
 use oa_stream::{Sink, Source};
 
-/// Serves a session over a library, with objects in memory.
+/// Serves a session over the library in the file `path`, with objects in memory: lines of
+/// hexadecimal digits if `hex`, otherwise records. Err: `TwoInputs` if `path` is standard input;
+/// the library was not read; the session ended by a fault.
 pub(crate) fn play(rt: &HostRuntime, path: &str, hex: bool) -> Result<(), Fault>
     ensures { HasPlayed ⟦<NoDisk as Disk>⟧ (ahead ⟦<StandardInput as Source>⟧.input)
         ⟦<StandardOutput<'static> as Sink>⟧.out hex result }
@@ -21,7 +23,8 @@ pub(crate) fn play(rt: &HostRuntime, path: &str, hex: bool) -> Result<(), Fault>
     hold(rt, &mut server, 1, hex)
 }
 
-/// Serves a session of many clients over a library, with objects in memory.
+/// Serves a session of many clients over the library in the file `path`, with objects in memory.
+/// Errors are those of `play`.
 pub(crate) fn play_shared(rt: &HostRuntime, path: &str) -> Result<(), Fault>
     ensures { HasPlayedShared ⟦<NoDisk as Disk>⟧ (ahead ⟦<StandardInput as Source>⟧.input)
         ⟦<StandardOutput<'static> as Sink>⟧.out result }

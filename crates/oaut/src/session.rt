@@ -18,8 +18,10 @@ pub(crate) type StandardInput = Inlet<StdinLock<'static>>;
 /// The writer of standard output.
 pub(crate) type StandardOutput<'a> = Behind<Outlet<Printer<'a, HostRuntime>>>;
 
-/// Answers the requests of standard input on standard output until the input ends or is invalid: lines of hexadecimal
-/// digits if `hex`, else records. The changes of up to `group` requests are committed together.
+/// Answers the requests of standard input on standard output until the input ends or is invalid:
+/// lines of hexadecimal digits if `hex`, otherwise records. The changes of up to `group` requests
+/// are committed together (1 to 1,024). Err: the session ended by a fault, or an allocation failed
+/// before it.
 pub(crate) fn hold<D: Disk + Drop>(
     rt: &HostRuntime,
     server: &mut Server<D>,
@@ -41,8 +43,9 @@ pub(crate) fn hold<D: Disk + Drop>(
     client_ended(server.serve(&mut reader, &mut writer, group)?.why)
 }
 
-/// Answers the frames of many clients of standard input on standard output until the input ends or a frame's head is
-/// invalid. The changes of up to `group` requests of any clients are committed together.
+/// Answers the frames of many clients of standard input on standard output until the input ends or
+/// a frame's head is invalid. The changes of up to `group` requests of any clients are committed
+/// together (1 to 1,024). Err: the session ended by a fault, or an allocation failed before it.
 pub(crate) fn hold_shared<D: Disk + Drop>(
     rt: &HostRuntime,
     server: &mut Server<D>,
@@ -60,9 +63,9 @@ pub(crate) fn hold_shared<D: Disk + Drop>(
     clients_ended(server.serve_shared(&mut reader, &mut writer, group)?)
 }
 
-/// Allocates a block as long as the longest line and frees it, untouched. From then on the C library keeps the freed
-/// blocks of long texts. Otherwise it would get each of them anew from the system, page by page (mallopt(3),
-/// M_MMAP_THRESHOLD).
+/// Allocates a block as long as the longest line and frees it, untouched. From then on the C
+/// library keeps the freed blocks of long texts. Otherwise it would get each of them anew from the
+/// system, page by page (mallopt(3), M_MMAP_THRESHOLD). Err: the allocation failed.
 fn keep_long_blocks(alloc: Global) -> Result<(), AllocError> {
     let block: Vec<u8> = Vec::with_capacity(alloc, MAX_LINE_CHARACTERS as usize)?;
     drop(block);

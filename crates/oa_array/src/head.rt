@@ -53,7 +53,10 @@ impl BoundList {
 /// The type of the elements, the number of locks and the bounds.
 #[derive(Drop)]
 pub(crate) struct Head {
+    /// The type of the elements.
     pub(crate) elem: VarType,
+    /// The number of locks.
     pub(crate) locks: u16,
+    /// The bounds, in the listed order.
     pub(crate) bounds: BoundList,
 }

@@ -10,7 +10,9 @@ use std::hash::Hash;
 /// The keys of a list by their places, or the first place whose key equals one at an earlier place.
 #[derive(Drop)]
 pub(crate) enum Distinct<K: Eq + Hash + Drop> {
+    /// All keys differ.
     All(IndexSet<K>),
+    /// The key at this place, counted from 0, equals an earlier one.
     Repeat(usize),
 }
 

@@ -11,7 +11,9 @@ use oa_variant::Scalar;
 /// The number count / 10^scale.
 #[derive(Clone, Copy)]
 pub(crate) struct Number {
+    /// The count of units, with its sign.
     pub(crate) count: i128,
+    /// The number of decimal places of the unit, from 0 to 28.
     pub(crate) scale: u8,
 }
 

@@ -38,7 +38,7 @@ pub enum Fault {
     /// The text of a library violates the grammar or a limit.
     #[error("{0}")]
     Parse(ParseError),
-    /// The same, with the place in the text.
+    /// The text of a library violates the grammar, at this place of the text.
     #[error("{0}\n{1}")]
     At(ParseError, Place),
     /// A library violates a rule.

@@ -11,6 +11,7 @@ use std::alloc::{AllocError, Global};
 /// A sparse image: zeros, with writes over them, later ones on top.
 #[derive(Drop)]
 pub struct Layers {
+    /// The size of the image in bytes.
     pub size: usize,
     /// The writes.
     pub calls: Vec<DeviceCall>,

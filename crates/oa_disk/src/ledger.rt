@@ -8,11 +8,15 @@ use std::alloc::{AllocError, Global};
 /// together. A further call fails, and is only counted.
 #[derive(Drop)]
 pub struct Ledger {
+    /// The calls, in order.
     pub calls: Vec<DeviceCall>,
     /// The bytes of all writes, one after the other.
     pub written: Vec<u8>,
+    /// The greatest number of calls.
     pub most_calls: usize,
+    /// The greatest number of written bytes.
     pub most_bytes: usize,
+    /// The number of calls that have failed, up to the greatest u64.
     pub failures: u64,
     pub ghost room_for_calls: { most_calls ≤ vec_capacity calls },
     pub ghost room_for_bytes: { most_bytes ≤ vec_capacity written },

@@ -10,7 +10,7 @@ use std::marker::Model;
 /// The log of a file's calls and their results. It exists for contracts only, and has no bytes.
 #[derive(Drop)]
 pub struct Record {
-    /// What the file held at first.
+    /// The contents of the file at first.
     pub ghost first: { List ℕ },
     pub ghost calls: { List Called },
     /// The bytes of all writes, one after the other.

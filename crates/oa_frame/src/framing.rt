@@ -31,9 +31,10 @@ pub enum Read {
     Unwritten,
 }
 
-/// Reads body number `number`, counted from 1, and consumes nothing after it. It is the first
-/// `count` bytes of `body`, or, if `is_ahead`, the last `count` bytes that were consumed of the
-/// read-ahead buffer: `count` and `is_ahead` are those of the returned `Read::Body`.
+/// Reads body number `number`, counted from 1, and consumes nothing after it. Returns `Body(count,
+/// is_ahead)`: the body is the first `count` bytes of `body`, or, if `is_ahead`, the last `count`
+/// bytes that were consumed of the read-ahead buffer. Otherwise returns what ends the session, or
+/// that the writer failed.
 ///
 /// If all of it was read ahead, neither reader nor writer is called. Otherwise the writer is
 /// flushed before the first byte is consumed, and the reader is called at most `MAX_READ_CALLS`

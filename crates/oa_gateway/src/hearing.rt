@@ -16,7 +16,7 @@ pub enum Heard {
     Answered,
     /// Its replies, `count` bytes after its head, go to this client.
     Given { client: u32, count: usize },
-    /// It is the end of this client, which gets nothing more.
+    /// It is the end of this client, which receives nothing more.
     Ended(u32),
     /// It has `count` bytes after its head, and is for a client that had this number before and has
     /// gone.

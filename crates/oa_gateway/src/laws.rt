@@ -111,8 +111,8 @@ pub fn stalled_clients_go()
 {}
 
 /// A client that waits has its turn after those that are before it, one turn each. If a batch ends
-/// before that, fewer are before it when the next batch begins: only those that had a turn and got
-/// nothing. The same is true if it had a turn itself, and got nothing.
+/// before that, only those of them that had a turn and got nothing are before it when the next
+/// batch begins. The same is true if it had a turn itself, and got nothing.
 pub fn no_client_is_overtaken()
     ensures turns { (client before : ℕ) (clients : List ℕ) (turns : List NextTurn) → IsBehind client before clients → length turns ≤ before
         → Waits client before clients turns }

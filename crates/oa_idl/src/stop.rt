@@ -103,8 +103,11 @@ impl TreeLimit {
 /// Why parsing stopped. The word at which it stopped is the next one.
 #[derive(Clone, Copy)]
 pub(crate) enum Stop {
+    /// The next word is not allowed.
     Syntax,
+    /// The next word, a name, exceeds this limit.
     Limit(TreeLimit),
+    /// An allocation failed.
     Memory,
 }
 

@@ -52,7 +52,7 @@ pub fn sessions_run_until_a_crash<D: Disk>()
 {}
 
 /// The frames with a client's number are those of the replies to its own requests, in their order.
-/// The requests of all clients have one legal order for that.
+/// These are the replies by one legal order of the requests of all clients.
 pub fn each_client_is_served<D: Disk>()
     ensures memory { EachIsServedInMemory D.Disk }
     ensures store { EachIsServedOverStore D.Disk }

@@ -16,7 +16,9 @@ use std::mem::replace;
 /// there until all are removed.
 #[derive(Drop)]
 pub(crate) enum Root<K, V> {
+    /// At most 64 entries, unless an allocation has failed.
     One(Row<K, V>),
+    /// Any number of entries.
     Many(Vec<Branch<K, V>>),
 }
 

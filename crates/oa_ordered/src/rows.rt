@@ -21,7 +21,9 @@ const MANY: usize = 8;
 /// A place in rows: the row, and the place in it.
 #[derive(Clone, Copy)]
 pub(crate) struct Place {
+    /// The number of the row, counted from 0.
     pub(crate) row: usize,
+    /// The place in the row, counted from 0.
     pub(crate) at: usize,
 }
 
@@ -62,7 +64,9 @@ fn row_to_insert<K: Ord, V>(rows: &[Row<K, V>], key: &K) -> usize
 /// belong.
 #[derive(Clone, Copy)]
 pub(crate) enum Search {
+    /// By bisection.
     Halves,
+    /// After the last entry, and then by bisection.
     Behind,
 }
 

@@ -18,7 +18,9 @@ pub(crate) struct RawCall<'a> {
 /// value's field.
 #[derive(Drop)]
 pub(crate) struct ValueParts<'a> {
+    /// The object, the member and how it is called.
     pub head: CallHead,
+    /// The bytes of the new value; None if there is none.
     pub field: Option<&'a [u8]>,
 }
 

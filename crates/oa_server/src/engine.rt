@@ -16,7 +16,9 @@ use std::alloc::{AllocError, Global};
 #[derive(Drop)]
 pub(crate) struct Engine<D: Disk> {
     pub alloc: Global,
+    /// The library and the table.
     pub host: Host,
+    /// The storage of the table, besides its memory.
     pub storage: Storage<D>,
     /// The open group of a session over a store, and the owners of locks in one of many clients.
     pub desk: Desk,

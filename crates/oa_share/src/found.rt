@@ -32,8 +32,8 @@ pub(crate) fn find(front: &[u8], bytes: &[u8]) -> Found
     }
 }
 
-/// Finds the end of a record whose body has `n` bytes. Lengths count only once, when their fourth
-/// byte comes.
+/// Finds the end of a record whose body has `n` bytes. An invalid length ends the stream when its
+/// fourth byte comes.
 fn find_of(n: usize, front: &[u8], bytes: &[u8]) -> Found
     requires part { IsPartRecord front.now }
     requires some { 0 < length bytes.now }

@@ -131,7 +131,9 @@ pub(crate) fn find_head<D: Disk>(disk: &mut D) -> Result<(u8, Head), FindFault>
 /// The number of the bank in use, its head, and the memory that a store needs.
 #[derive(Drop)]
 pub(crate) struct Room {
+    /// The number of the bank in use, 0 or 1.
     pub chosen: u8,
+    /// The head of that bank.
     pub head: Head,
     /// The buffer through which banks are written and read.
     pub buffer: Vec<u8>,

@@ -21,10 +21,15 @@ use std::alloc::Global;
 /// A store that was found on a disk.
 #[derive(Drop)]
 pub(crate) struct Found {
+    /// The text of the library, with capacity for any library.
     pub library: Vec<u8>,
+    /// The table, without locks.
     pub table: Table,
+    /// The number of the bank in use, 0 or 1.
     pub chosen: u8,
+    /// The bank in use.
     pub bank: Bank,
+    /// The buffer through which banks are written and read.
     pub buffer: Vec<u8>,
 }
 

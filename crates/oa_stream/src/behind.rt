@@ -9,8 +9,8 @@ use std::alloc::{AllocError, Global};
 
 /// A writer with a buffer of 8,192 bytes for output.
 ///
-/// In contracts the buffered bytes are kept back, too, and the space of the writer is that much
-/// less.
+/// In contracts its output is that of the writer, with the buffered bytes kept back, too, and with
+/// that much less space.
 #[derive(Drop)]
 pub struct Behind<W> {
     writer: W,

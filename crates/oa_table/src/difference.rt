@@ -18,7 +18,9 @@ use oa_variant::{Scalar, Variant};
 /// that is refused.
 #[derive(Clone, Copy)]
 pub(crate) struct Difference {
+    /// The bytes that the change removes.
     pub gone: u64,
+    /// The bytes that the change adds.
     pub come: u64,
 }
 

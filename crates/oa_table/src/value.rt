@@ -50,8 +50,11 @@ pub(crate) fn replace(
 /// present length of the table's image, and its greatest length afterwards.
 #[derive(Clone, Copy)]
 pub(crate) struct Room {
+    /// The greatest length of the new value's image, in bytes.
     pub longest: u64,
+    /// The present length of the table's image, in bytes.
     pub size: u64,
+    /// The greatest length of the table's image afterwards, in bytes.
     pub most: u64,
 }
 

@@ -132,7 +132,7 @@ impl Host {
     }
 
     /// Plans a call with no more than a new value. None, without a further meaning, for any other
-    /// body, and if an allocation fails.
+    /// body.
     fn value_plan(&self, body: &[u8]) -> Option<ValuePlan>
         ensures { IfSome result (PlansCall self.now body.now) }
     {

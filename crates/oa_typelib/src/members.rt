@@ -43,7 +43,9 @@ fn all_values(
 /// The places of an interface's declarations by their folded names and by their DISPIDs.
 #[derive(Drop)]
 pub(crate) struct Members {
+    /// The places of the declarations by their folded names.
     pub(crate) by_name: Groups<FoldedName>,
+    /// The places of the declarations by their DISPIDs.
     pub(crate) by_id: Groups<i32>,
     /// For each declaration the values of its parameters' defaults.
     pub(crate) defaults: Vec<Vec<Option<Scalar>>>,

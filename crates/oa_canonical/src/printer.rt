@@ -69,7 +69,7 @@ fn type_word(value_type: VarType) -> &'static [u8]
     }
 }
 
-/// Appends a type.
+/// Appends a type. Err: an allocation fails.
 #[tactic(auto, unfolding(crate::specs::Canonical::value_type_text))]
 fn put_type(out: &mut Vec<u8>, value_type: ValueType) -> Result<(), AllocError>
     ensures { IfOk result (λ _. out.new.items ≡ out.old.items ++ value_type_text value_type) }
@@ -84,7 +84,7 @@ fn put_type(out: &mut Vec<u8>, value_type: ValueType) -> Result<(), AllocError>
     }
 }
 
-/// Appends the type of a result, or `void`.
+/// Appends the type of a result, or `void`. Err: an allocation fails.
 #[tactic(auto, unfolding(crate::specs::Canonical::result_text))]
 fn put_result(out: &mut Vec<u8>, value_type: Option<ValueType>) -> Result<(), AllocError>
     ensures { IfOk result (λ _. out.new.items ≡ out.old.items ++ result_text value_type) }
@@ -95,7 +95,7 @@ fn put_result(out: &mut Vec<u8>, value_type: Option<ValueType>) -> Result<(), Al
     }
 }
 
-/// Appends a part of a version.
+/// Appends a part of a version. Err: an allocation fails.
 fn put_unsigned(alloc: Global, out: &mut Vec<u8>, number: u16) -> Result<(), AllocError>
     ensures { IfOk result (λ _. out.new.items ≡ out.old.items ++ decimal number) }
 {
@@ -103,7 +103,7 @@ fn put_unsigned(alloc: Global, out: &mut Vec<u8>, number: u16) -> Result<(), All
     put(out, text.as_bytes())
 }
 
-/// Appends the number of an `id`.
+/// Appends the number of an `id`. Err: an allocation fails.
 fn put_id_number(alloc: Global, out: &mut Vec<u8>, number: i32) -> Result<(), AllocError>
     ensures { IfOk result (λ _. out.new.items ≡ out.old.items ++ signed_decimal number) }
 {
@@ -111,7 +111,7 @@ fn put_id_number(alloc: Global, out: &mut Vec<u8>, number: i32) -> Result<(), Al
     put(out, text.as_bytes())
 }
 
-/// Appends the number of a default.
+/// Appends the number of a default. Err: an allocation fails.
 fn put_amount(alloc: Global, out: &mut Vec<u8>, number: i128) -> Result<(), AllocError>
     ensures { IfOk result (λ _. out.new.items ≡ out.old.items ++ signed_decimal number) }
 {
@@ -133,7 +133,7 @@ impl Listed for u8 {
     }
 }
 
-/// Appends a default.
+/// Appends a default. Err: an allocation fails.
 #[tactic(auto, unfolding(crate::specs::Canonical::literal_text))]
 fn put_literal(alloc: Global, out: &mut Vec<u8>, value: &Literal) -> Result<(), AllocError>
     ensures { IfOk result (λ _. out.new.items ≡ out.old.items ++ literal_text value.now) }
@@ -151,7 +151,7 @@ fn put_literal(alloc: Global, out: &mut Vec<u8>, value: &Literal) -> Result<(), 
 }
 
 /// Appends an attribute if it is `there`, after a comma if `before` is true, otherwise after the
-/// opening bracket.
+/// opening bracket. Err: an allocation fails.
 #[tactic(auto, unfolding(crate::specs::Canonical::mark_text))]
 fn put_mark(out: &mut Vec<u8>, before: bool, there: bool, text: &[u8]) -> Result<(), AllocError>
     ensures { IfOk result (λ _. out.new.items ≡ out.old.items ++ mark_text before there text.now) }
@@ -163,7 +163,7 @@ fn put_mark(out: &mut Vec<u8>, before: bool, there: bool, text: &[u8]) -> Result
     put(out, text)
 }
 
-/// Appends a `defaultvalue` attribute, if there is one.
+/// Appends a `defaultvalue` attribute, if there is one. Err: an allocation fails.
 #[tactic(auto, unfolding(crate::specs::Canonical::default_text))]
 fn put_default(
     alloc: Global,
@@ -181,7 +181,7 @@ fn put_default(
     put(out, b")")
 }
 
-/// Appends the attributes of a parameter, if it has any.
+/// Appends the attributes of a parameter, if it has any. Err: an allocation fails.
 #[tactic(auto, unfolding(crate::specs::Canonical::parameter_marks))]
 fn put_marks(alloc: Global, out: &mut Vec<u8>, p: &Parameter) -> Result<(), AllocError>
     ensures { IfOk result (λ _. out.new.items ≡ out.old.items ++ parameter_marks p.now) }
@@ -195,7 +195,7 @@ fn put_marks(alloc: Global, out: &mut Vec<u8>, p: &Parameter) -> Result<(), Allo
     Ok(())
 }
 
-/// Appends a space and a name.
+/// Appends a space and a name. Err: an allocation fails.
 fn put_name(out: &mut Vec<u8>, name: &Name) -> Result<(), AllocError>
     ensures { IfOk result (λ _. out.new.items ≡ out.old.items ++ codes " " ++ name.now) }
 {
@@ -203,7 +203,7 @@ fn put_name(out: &mut Vec<u8>, name: &Name) -> Result<(), AllocError>
     put(out, name.as_bytes())
 }
 
-/// Appends a parameter.
+/// Appends a parameter. Err: an allocation fails.
 #[tactic(auto, unfolding(crate::specs::Canonical::parameter_text, crate::specs::Canonical::named_text))]
 fn put_parameter(alloc: Global, out: &mut Vec<u8>, p: &Parameter) -> Result<(), AllocError>
     ensures { IfOk result (λ _. out.new.items ≡ out.old.items ++ parameter_text p.now) }
@@ -224,7 +224,7 @@ impl Listed for Parameter {
     }
 }
 
-/// Appends parameters, separated by commas.
+/// Appends parameters, separated by commas. Err: an allocation fails.
 #[tactic(auto, unfolding(crate::specs::Canonical::parameters_text))]
 fn put_parameters(alloc: Global, out: &mut Vec<u8>, all: &[Parameter]) -> Result<(), AllocError>
     ensures { IfOk result (λ _. out.new.items ≡ out.old.items ++ parameters_text all.now) }
@@ -236,7 +236,7 @@ fn put_parameters(alloc: Global, out: &mut Vec<u8>, all: &[Parameter]) -> Result
     put_all(alloc, out, rest)
 }
 
-/// Appends an `id` attribute and the end of the list of attributes.
+/// Appends an `id` attribute and the end of the list of attributes. Err: an allocation fails.
 #[tactic(auto, unfolding(crate::specs::Canonical::id_text))]
 fn put_id(alloc: Global, out: &mut Vec<u8>, id: i32, end: &[u8]) -> Result<(), AllocError>
     ensures { IfOk result (λ _. out.new.items ≡ out.old.items ++ id_text id end.now) }
@@ -276,7 +276,7 @@ fn kind_mark(kind: MethodKind) -> &'static [u8]
     }
 }
 
-/// Appends parameters in parentheses.
+/// Appends parameters in parentheses. Err: an allocation fails.
 #[tactic(auto, unfolding(crate::specs::Canonical::list_text))]
 fn put_list(alloc: Global, out: &mut Vec<u8>, all: &[Parameter]) -> Result<(), AllocError>
     ensures { IfOk result (λ _. out.new.items ≡ out.old.items ++ list_text all.now) }
@@ -320,7 +320,7 @@ impl Listed for Entry {
     }
 }
 
-/// Appends the digits of a GUID.
+/// Appends the digits of a GUID. Err: an allocation fails.
 #[tactic(auto, unfolding(crate::specs::Canonical::digits_text))]
 fn put_digits(alloc: Global, out: &mut Vec<u8>, guid: Uuid) -> Result<(), AllocError>
     ensures { IfOk result (λ _. out.new.items ≡ out.old.items ++ digits_text guid) }
@@ -329,7 +329,7 @@ fn put_digits(alloc: Global, out: &mut Vec<u8>, guid: Uuid) -> Result<(), AllocE
     put(out, text.as_bytes())
 }
 
-/// Appends a `uuid` attribute and its opening bracket.
+/// Appends a `uuid` attribute and its opening bracket. Err: an allocation fails.
 #[tactic(auto, unfolding(crate::specs::Canonical::guid_text))]
 fn put_guid(alloc: Global, out: &mut Vec<u8>, guid: Uuid) -> Result<(), AllocError>
     ensures { IfOk result (λ _. out.new.items ≡ out.old.items ++ guid_text guid) }
@@ -355,7 +355,7 @@ fn properties_line() -> &'static [u8]
     b"properties:\n"
 }
 
-/// Appends the section `properties:`.
+/// Appends the section `properties:`. Err: an allocation fails.
 #[tactic(auto, unfolding(crate::specs::Canonical::properties_text))]
 fn put_first_section(alloc: Global, out: &mut Vec<u8>, all: &[Property]) -> Result<(), AllocError>
     ensures { IfOk result (λ _. out.new.items ≡ out.old.items ++ properties_text all.now) }
@@ -364,7 +364,7 @@ fn put_first_section(alloc: Global, out: &mut Vec<u8>, all: &[Property]) -> Resu
     put_all(alloc, out, all)
 }
 
-/// Appends the section `methods:` and the closing brace.
+/// Appends the section `methods:` and the closing brace. Err: an allocation fails.
 #[tactic(auto, unfolding(crate::specs::Canonical::methods_text))]
 fn put_second_section(alloc: Global, out: &mut Vec<u8>, all: &[Method]) -> Result<(), AllocError>
     ensures { IfOk result (λ _. out.new.items ≡ out.old.items ++ methods_text all.now) }
@@ -374,7 +374,7 @@ fn put_second_section(alloc: Global, out: &mut Vec<u8>, all: &[Method]) -> Resul
     put(out, b"}\n")
 }
 
-/// Appends the first lines of an item, up to its opening brace.
+/// Appends the first lines of an item, up to its opening brace. Err: an allocation fails.
 #[tactic(auto, unfolding(crate::specs::Canonical::title_text))]
 fn put_title(
     alloc: Global,
@@ -391,7 +391,7 @@ fn put_title(
     put(out, b" {\n")
 }
 
-/// Appends an interface.
+/// Appends an interface. Err: an allocation fails.
 #[tactic(auto, unfolding(crate::specs::Canonical::interface_text))]
 fn put_interface(alloc: Global, out: &mut Vec<u8>, d: &Interface) -> Result<(), AllocError>
     ensures { IfOk result (λ _. out.new.items ≡ out.old.items ++ interface_text d.now) }
@@ -401,7 +401,7 @@ fn put_interface(alloc: Global, out: &mut Vec<u8>, d: &Interface) -> Result<(), 
     put_second_section(alloc, out, d.methods.as_slice())
 }
 
-/// Appends a coclass.
+/// Appends a coclass. Err: an allocation fails.
 #[tactic(auto, unfolding(crate::specs::Canonical::coclass_text))]
 fn put_coclass(alloc: Global, out: &mut Vec<u8>, c: &Coclass) -> Result<(), AllocError>
     ensures { IfOk result (λ _. out.new.items ≡ out.old.items ++ coclass_text c.now) }
@@ -423,7 +423,7 @@ impl Listed for Item {
     }
 }
 
-/// Appends the `version` attribute and the keyword of a library.
+/// Appends the `version` attribute and the keyword of a library. Err: an allocation fails.
 #[tactic(auto, unfolding(crate::specs::Canonical::version_text))]
 fn put_version(alloc: Global, out: &mut Vec<u8>, version: Version) -> Result<(), AllocError>
     ensures { IfOk result (λ _. out.new.items ≡ out.old.items ++ version_text version) }
@@ -435,7 +435,7 @@ fn put_version(alloc: Global, out: &mut Vec<u8>, version: Version) -> Result<(),
     put(out, b")]\nlibrary ")
 }
 
-/// Appends a whole tree.
+/// Appends a whole tree. Err: an allocation fails.
 #[tactic(auto, unfolding(crate::specs::Canonical::canonical, crate::specs::Canonical::title_text))]
 fn put_tree(alloc: Global, out: &mut Vec<u8>, tree: &Tree) -> Result<(), AllocError>
     ensures { IfOk result (λ _. out.new.items ≡ out.old.items ++ canonical tree.now) }

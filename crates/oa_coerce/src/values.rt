@@ -27,7 +27,8 @@ pub fn coerce_scalar(value: Scalar, to: VarType) -> Result<Scalar, (Scalar, Coer
     scalar_by_rule(value, to)
 }
 
-/// Coerces a scalar as `coerce_scalar` does. Its contract is over the relation alone.
+/// Coerces a scalar as `coerce_scalar` does, with the same errors. Its contract is over the
+/// relation alone.
 fn scalar_by_rule(value: Scalar, to: VarType) -> Result<Scalar, (Scalar, CoerceFault)>
     ensures made { IfOk result (λ made. CoercesScalar value to made) }
     ensures refused { IfErr result (λ e. (e.0 ≡ value) × RefusesScalar value to e.1) }
@@ -70,7 +71,7 @@ pub fn coerce(
     value_by_rule(alloc, value, declared)
 }
 
-/// Coerces a value as `coerce` does. Its contract is over the relation alone.
+/// Coerces a value as `coerce` does, with the same errors. Its contract is over the relation alone.
 #[inline(always)]
 fn value_by_rule(
     alloc: Global,
@@ -99,7 +100,7 @@ fn is_long(value: &Variant, declared: ValueType) -> bool
     }
 }
 
-/// Coerces any value as `value_by_rule` does.
+/// Coerces any value as `value_by_rule` does, with the same errors.
 fn other_value(
     alloc: Global,
     value: Variant,

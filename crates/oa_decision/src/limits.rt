@@ -50,8 +50,8 @@ pub fn is_surely_within(bank: u32, table: &Table, event: &SizedEvent) -> bool
     event.len() <= MAX_EVENT_BYTES && has_surely_room(bank, table, event)
 }
 
-/// True only if the image of the table is short enough after an event. A put adds at most its
-/// event's image, so its value is not measured again, and its cell is not looked up.
+/// Returns true only if the image of the table is short enough after an event. A put adds at most
+/// its event's image, so its value is not measured again, and its cell is not looked up.
 fn has_surely_room(bank: u32, table: &Table, event: &SizedEvent) -> bool
     ensures room { result ≡ true → size_after event.now table.now ≤ bank - reserved_bytes }
     ensures known { most_after event.now table.now ≤ bank - reserved_bytes → result ≡ true }

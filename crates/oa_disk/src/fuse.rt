@@ -16,7 +16,8 @@ pub struct FuseDisk<D: Disk> {
     refused: u64,
 }
 
-/// Counts one call. Returns the fault, and counts a refused call, if no call is left.
+/// Counts one call. Err: no call is left; the given fault is returned, and a refused call is
+/// counted.
 fn spend(calls_left: &mut u64, refused: &mut u64, fault: DeviceFault) -> Result<(), DeviceFault>
     ensures blown { IsErr result ↔ (calls_left.old ≡ 0) }
     ensures spent { calls_left.new ≡ calls_left.old - 1 }

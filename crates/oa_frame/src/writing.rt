@@ -33,7 +33,7 @@ pub fn put_reply<W: Sink>(
     }
 }
 
-/// Writes a reply in two parts as one line of digits.
+/// Writes a reply in two parts as one line of digits. Err: the writer failed.
 #[inline(never)]
 fn put_line<W: Sink>(writer: &mut W, head: &[u8; 16], fields: &[u8]) -> Result<(), Unwritten>
     requires unbroken { (W.out writer.old).broken ≡ false }
@@ -43,7 +43,7 @@ fn put_line<W: Sink>(writer: &mut W, head: &[u8; 16], fields: &[u8]) -> Result<(
     put_rest(writer, fields)
 }
 
-/// Writes the digits of a reply's head.
+/// Writes the digits of a reply's head. Err: the writer failed.
 fn put_head<W: Sink>(writer: &mut W, head: &[u8; 16]) -> Result<(), Unwritten>
     requires unbroken { (W.out writer.old).broken ≡ false }
     ensures { Puts result (W.out writer.old) (W.out writer.new) (encode_lower head.now) }
@@ -53,7 +53,7 @@ fn put_head<W: Sink>(writer: &mut W, head: &[u8; 16]) -> Result<(), Unwritten>
     writer.put(&digits[..2 * head.len()])
 }
 
-/// Writes the digits of bytes, and a line feed.
+/// Writes the digits of bytes, and a line feed. Err: the writer failed.
 fn put_rest<W: Sink>(writer: &mut W, fields: &[u8]) -> Result<(), Unwritten>
     requires unbroken { (W.out writer.old).broken ≡ false }
     ensures { Puts result (W.out writer.old) (W.out writer.new) (encode_lower fields.now ++ 10 ∷ []) }
@@ -65,7 +65,7 @@ fn put_rest<W: Sink>(writer: &mut W, fields: &[u8]) -> Result<(), Unwritten>
     writer.put(b"\n")
 }
 
-/// Writes the digits of at most 63 bytes, and a line feed, in one call.
+/// Writes the digits of at most 63 bytes, and a line feed, in one call. Err: the writer failed.
 fn put_short<W: Sink>(writer: &mut W, fields: &[u8]) -> Result<(), Unwritten>
     requires short { length fields.now ≤ 63 }
     requires unbroken { (W.out writer.old).broken ≡ false }
@@ -89,7 +89,8 @@ fn spell(fields: &[u8], line: &mut [u8; 128]) -> usize
     end + 1
 }
 
-/// Writes the length of both parts of a reply together, in 4 bytes, and then the parts.
+/// Writes the length of both parts of a reply together, in 4 bytes, and then the parts. Err: the
+/// writer failed.
 #[inline(always)]
 fn put_record<W: Sink>(writer: &mut W, head: &[u8; 16], fields: &[u8]) -> Result<(), Unwritten>
     requires short { length head.now + length fields.now ≤ 4294967295 }
@@ -113,7 +114,8 @@ pub fn put_some<W: Sink>(writer: &mut W, bytes: &[u8]) -> Result<(), Unwritten>
     writer.put(bytes)
 }
 
-/// Writes the length of both parts of a reply together, in 4 bytes, and then the first part.
+/// Writes the length of both parts of a reply together, in 4 bytes, and then the first part. Err:
+/// the writer failed.
 #[inline(always)]
 fn put_front<W: Sink>(writer: &mut W, head: &[u8; 16], fields: &[u8]) -> Result<(), Unwritten>
     requires short { length head.now + length fields.now ≤ 4294967295 }
@@ -158,7 +160,7 @@ pub fn put_hex<W: Sink>(writer: &mut W, bytes: &[u8]) -> Result<(), Unwritten>
     Ok(())
 }
 
-/// Writes at most 128 bytes as digits.
+/// Writes at most 128 bytes as digits. Err: the writer failed.
 fn put_piece<W: Sink>(writer: &mut W, piece: &[u8]) -> Result<(), Unwritten>
     requires short { length piece.now ≤ 128 }
     requires unbroken { (W.out writer.old).broken ≡ false }

@@ -184,7 +184,7 @@ fn another_server(rt: HostRuntime) {
     );
 }
 
-/// The body of a request with this opcode, and with these flags if it is an INVOKE.
+/// Returns the body of a request with this opcode, and with these flags if it is an INVOKE.
 fn body_of(opcode: u8, flags: u8) -> [u8; 56] {
     let mut body = [0u8; 56];
     body[4] = opcode;

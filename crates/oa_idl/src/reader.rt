@@ -174,7 +174,7 @@ fn is_escaped(byte: u8) -> bool
 }
 
 /// Returns the characters up to the quote that closes a string; None if one of them is not allowed,
-/// or if there is no such quote.
+/// or if there is no such quote. Err: an allocation fails.
 #[tactic(auto, using(crate::proofs::Strings::character_steps))]
 fn characters(alloc: Global, text: &[u8]) -> Result<Option<Characters>, AllocError>
     ensures { IfOk result (λ found. found ≡ characters_from false text.now) }

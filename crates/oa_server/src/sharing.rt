@@ -187,7 +187,7 @@ fn asker_of(askers: &[Asker], i: usize) -> Asker
     askers[i]
 }
 
-/// Writes one client's reply or end.
+/// Writes one client's reply or end. Err: the writer failed.
 fn put_one<W: Sink>(
     alloc: Global,
     writer: &mut W,
@@ -204,7 +204,7 @@ fn put_one<W: Sink>(
 }
 
 /// Writes the end of a client: for a record that was cut or too long the reply bad stub data, with
-/// tag 0, and then the frame that ends its replies.
+/// tag 0, and then the frame that ends its replies. Err: the writer failed.
 fn put_end<W: Sink>(alloc: Global, writer: &mut W, client: u32, why: End) -> Result<(), Unwritten>
     requires { (W.out writer.old).broken ≡ false }
     ensures { Puts result (W.out writer.old) (W.out writer.new) (spelled_frames (frames_of (ALeave client why))) }

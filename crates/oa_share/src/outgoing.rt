@@ -26,7 +26,7 @@ pub fn put_reply_of<W: Sink>(
 }
 
 /// Writes everything before the second part: the head of the frame, the reply's length, and the
-/// first part.
+/// first part. Err: the writer failed.
 #[inline(always)]
 fn put_front<W: Sink>(
     writer: &mut W,

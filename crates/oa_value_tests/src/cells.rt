@@ -291,8 +291,8 @@ fn are_many(alloc: Global) -> bool {
     }
 }
 
-/// 2 ^ 62 values of size 0 need no bytes and fit in a block; 2 ^ 59 values of sixteen bytes would
-/// need 2 ^ 63 bytes.
+/// Returns whether the number of cells is bounded by their bytes. 2 ^ 62 values of size 0 need no
+/// bytes and fit in a block; 2 ^ 59 values of sixteen bytes would need 2 ^ 63 bytes.
 fn are_bounded(alloc: Global) -> bool {
     are_many(alloc) && made(alloc, 1 << 59, 2, 7u128).err() == Some(Refusal::Memory)
 }

@@ -6,7 +6,7 @@ ghost use Rattle.oa_wire_variant.specs.Canon.{canon};
 use oa_variant::Variant;
 use oa_wire_variant::laws;
 
-/// Every `Variant` meets the condition of `canon_spells`.
+/// States that every `Variant` meets the condition of `canon_spells`.
 pub fn is_spelled(value: &Variant)
     ensures { Spells (canon value.now) (unlocked value.now) }
 {

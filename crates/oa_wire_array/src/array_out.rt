@@ -35,7 +35,7 @@ fn write_bound(out: &mut NdrOut, bound: Bound) -> Result<(), AllocError>
     out.u32(bound.lower.cast_unsigned())
 }
 
-/// Writes the bounds.
+/// Writes the bounds. Err: an allocation fails.
 fn write_bounds(out: &mut NdrOut, bounds: &[Bound]) -> Result<(), AllocError>
     ensures ok { OnOk result (out.new ≡ in_field (put_all put_bound bounds.now) out.old) }
     ensures kept { TakesNothingBack out.old out.new }
@@ -46,7 +46,7 @@ fn write_bounds(out: &mut NdrOut, bounds: &[Bound]) -> Result<(), AllocError>
     Ok(())
 }
 
-/// Writes elements without pointees.
+/// Writes elements without pointees. Err: an allocation fails.
 fn write_plain(out: &mut NdrOut, cells: &[Scalar]) -> Result<(), AllocError>
     ensures ok { OnOk result (out.new ≡ in_field (put_all put_arm cells.now) out.old) }
     ensures kept { TakesNothingBack out.old out.new }
@@ -68,7 +68,7 @@ fn has_pointee(elem: VarType, cell: &Scalar) -> bool
     }
 }
 
-/// Writes the referents of elements.
+/// Writes the referents of elements. Err: an allocation fails.
 fn write_referents(out: &mut NdrOut, elem: VarType, cells: &[Scalar]) -> Result<(), AllocError>
     ensures ok { OnOk result (out.new ≡ in_field (put_all (put_cell_referent elem) cells.now) out.old) }
     ensures kept { TakesNothingBack out.old out.new }
@@ -79,7 +79,7 @@ fn write_referents(out: &mut NdrOut, elem: VarType, cells: &[Scalar]) -> Result<
     Ok(())
 }
 
-/// Writes the text of an element, unless it is null.
+/// Writes the text of an element, unless it is null. Err: an allocation fails.
 fn write_cell_text(out: &mut NdrOut, cell: &Scalar) -> Result<(), AllocError>
     ensures ok { OnOk result (out.new ≡ in_field (put_text (text_of cell.now)) out.old) }
     ensures kept { TakesNothingBack out.old out.new }
@@ -95,7 +95,7 @@ fn write_cell_text(out: &mut NdrOut, cell: &Scalar) -> Result<(), AllocError>
     }
 }
 
-/// Writes the pointee of an element.
+/// Writes the pointee of an element. Err: an allocation fails.
 fn write_pointee(out: &mut NdrOut, elem: VarType, cell: &Scalar) -> Result<(), AllocError>
     ensures ok { OnOk result (out.new ≡ in_field (put_pointee elem cell.now) out.old) }
     ensures kept { TakesNothingBack out.old out.new }
@@ -106,7 +106,7 @@ fn write_pointee(out: &mut NdrOut, elem: VarType, cell: &Scalar) -> Result<(), A
     }
 }
 
-/// Writes the pointees of elements.
+/// Writes the pointees of elements. Err: an allocation fails.
 fn write_pointees(out: &mut NdrOut, elem: VarType, cells: &[Scalar]) -> Result<(), AllocError>
     ensures ok { OnOk result (out.new ≡ in_field (put_all (put_pointee elem) cells.now) out.old) }
     ensures kept { TakesNothingBack out.old out.new }
@@ -117,7 +117,7 @@ fn write_pointees(out: &mut NdrOut, elem: VarType, cells: &[Scalar]) -> Result<(
     Ok(())
 }
 
-/// Writes elements with pointees: first all referents, then the pointees.
+/// Writes elements with pointees: first all referents, then the pointees. Err: an allocation fails.
 fn write_pointed(out: &mut NdrOut, elem: VarType, cells: &[Scalar]) -> Result<(), AllocError>
     ensures ok { OnOk result (out.new ≡ in_field (put_pointed elem cells.now) out.old) }
     ensures kept { TakesNothingBack out.old out.new }
@@ -126,7 +126,7 @@ fn write_pointed(out: &mut NdrOut, elem: VarType, cells: &[Scalar]) -> Result<()
     write_pointees(out, elem, cells)
 }
 
-/// Writes the elements of an array.
+/// Writes the elements of an array. Err: an allocation fails.
 fn write_elements(out: &mut NdrOut, elem: VarType, cells: &[Scalar]) -> Result<(), AllocError>
     ensures ok { OnOk result (out.new ≡ in_field (put_elements elem cells.now) out.old) }
     ensures kept { TakesNothingBack out.old out.new }
@@ -148,7 +148,8 @@ fn features_of(elem: VarType) -> u16
     }
 }
 
-/// Writes the second referent, the maximum count, cDims, fFeatures and cbElements.
+/// Writes the second referent, the maximum count, cDims, fFeatures and cbElements. Err: an
+/// allocation fails.
 fn write_shape(out: &mut NdrOut, elem: VarType, dims: u16) -> Result<(), AllocError>
     ensures ok { OnOk result (out.new ≡ in_field (put_shape elem dims) out.old) }
     ensures kept { TakesNothingBack out.old out.new }
@@ -160,7 +161,7 @@ fn write_shape(out: &mut NdrOut, elem: VarType, dims: u16) -> Result<(), AllocEr
     out.u32(elem.element_size().unwrap_or(0))
 }
 
-/// Writes cLocks, sfType, Size and the pointer.
+/// Writes cLocks, sfType, Size and the pointer. Err: an allocation fails.
 fn write_size(out: &mut NdrOut, elem: VarType, count: u32) -> Result<(), AllocError>
     ensures ok { OnOk result (out.new ≡ in_field (put_size elem count) out.old) }
     ensures kept { TakesNothingBack out.old out.new }

@@ -145,7 +145,7 @@ pub fn read_scalar(alloc: Global, r: &mut Ndr<'_>) -> Result<Scalar, StubFault>
     answer
 }
 
-/// Writes a VARIANT_BOOL.
+/// Writes a VARIANT_BOOL. Err: an allocation fails.
 fn write_truth(out: &mut NdrOut, truth: bool) -> Result<(), AllocError>
     ensures ok { OnOk result (out.new ≡ in_field (put_truth truth) out.old) }
     ensures kept { TakesNothingBack out.old out.new }
@@ -153,7 +153,7 @@ fn write_truth(out: &mut NdrOut, truth: bool) -> Result<(), AllocError>
     out.u16(if truth { 0xFFFF } else { 0 })
 }
 
-/// Writes a DECIMAL.
+/// Writes a DECIMAL. Err: an allocation fails.
 fn write_decimal(out: &mut NdrOut, decimal: &Decimal) -> Result<(), AllocError>
     ensures ok { OnOk result (out.new ≡ in_field (put_decimal decimal.now) out.old) }
     ensures kept { TakesNothingBack out.old out.new }

@@ -72,7 +72,8 @@ fn words(rt: &HostRuntime, alloc: Global) -> Result<Vec<String>, Fault> {
 }
 
 /// Executes the command that was matched, and returns the exit status. It is a function of its own
-/// because `run` drops everything that it holds at each of its exits.
+/// because `run` drops everything that it holds at each of its exits. Err: the fault of the
+/// command.
 fn perform(rt: &HostRuntime, matches: &ArgMatches) -> Result<ExitCode, Fault> {
     let Some((name, arguments)) = matches.subcommand() else {
         return Ok(ExitCode::from(2));
@@ -81,7 +82,8 @@ fn perform(rt: &HostRuntime, matches: &ArgMatches) -> Result<ExitCode, Fault> {
 }
 
 /// Executes a command, and returns the exit status. The words of each command are read in a
-/// function of its own, since a proof sees at once everything that one function holds.
+/// function of its own, since a proof sees at once everything that one function holds. Err: the
+/// fault of the command.
 fn act(rt: &HostRuntime, name: &str, arguments: &ArgMatches) -> Result<ExitCode, Fault> {
     if name == "play" {
         plays(rt, arguments)?;
@@ -102,7 +104,7 @@ fn act(rt: &HostRuntime, name: &str, arguments: &ArgMatches) -> Result<ExitCode,
     Ok(ExitCode::SUCCESS)
 }
 
-/// Executes `play`.
+/// Executes `play`. Err: its fault.
 fn plays(rt: &HostRuntime, arguments: &ArgMatches) -> Result<(), Fault> {
     let library = arguments.get_str("LIB").unwrap_or("");
     if arguments.get_flag("shared") {
@@ -111,7 +113,7 @@ fn plays(rt: &HostRuntime, arguments: &ArgMatches) -> Result<(), Fault> {
     play::play(rt, library, arguments.get_flag("hex"))
 }
 
-/// Executes `serve`.
+/// Executes `serve`. Err: its fault.
 fn serves(rt: &HostRuntime, arguments: &ArgMatches) -> Result<(), Fault> {
     let store = arguments.get_str("STORE").unwrap_or("");
     let library = arguments.get_str("LIB").unwrap_or("");
@@ -122,7 +124,7 @@ fn serves(rt: &HostRuntime, arguments: &ArgMatches) -> Result<(), Fault> {
     serve::serve(rt, store, library, group, arguments.get_flag("hex"))
 }
 
-/// Executes `format`.
+/// Executes `format`. Err: its fault.
 fn formats(rt: &HostRuntime, arguments: &ArgMatches) -> Result<(), Fault> {
     let streams = StandardStreams::fill_closed(rt);
     let disk = format_store(
@@ -137,7 +139,7 @@ fn formats(rt: &HostRuntime, arguments: &ArgMatches) -> Result<(), Fault> {
     tell(rt, disk, b"formatted\n")
 }
 
-/// Executes `upgrade`.
+/// Executes `upgrade`. Err: its fault.
 fn upgrades(rt: &HostRuntime, arguments: &ArgMatches) -> Result<(), Fault> {
     let streams = StandardStreams::fill_closed(rt);
     let disk = upgrade_store(
@@ -151,7 +153,7 @@ fn upgrades(rt: &HostRuntime, arguments: &ArgMatches) -> Result<(), Fault> {
     tell(rt, disk, b"upgraded\n")
 }
 
-/// Executes `dump`.
+/// Executes `dump`. Err: its fault.
 fn dumps(rt: &HostRuntime, arguments: &ArgMatches) -> Result<(), Fault> {
     let streams = StandardStreams::fill_closed(rt);
     let mut writer = Behind::new(rt.alloc(), Outlet::new(io::writer(rt)))?;
@@ -164,7 +166,7 @@ fn dumps(rt: &HostRuntime, arguments: &ArgMatches) -> Result<(), Fault> {
     )
 }
 
-/// Executes `check`.
+/// Executes `check`. Err: its fault.
 fn checks(rt: &HostRuntime, arguments: &ArgMatches) -> Result<(), Fault> {
     let mut writer = Outlet::new(io::writer(rt));
     write_text(

@@ -23,9 +23,9 @@ use oa_variant::Variant;
 use uuid::Uuid;
 
 impl Decider<'_> {
-    /// Fast path of an INVOKE on a property of scalars without parameters, with this new value or
-    /// none. It only reads. Returns the reply with this tag (E_OUTOFMEMORY if an allocation
-    /// failed), or the put to make, which may still be refused.
+    /// Decides, by a fast path, an INVOKE on a property of scalars without parameters, with this
+    /// new value or none. It only reads. Returns the reply with this tag (E_OUTOFMEMORY if an
+    /// allocation failed), or the put to make, which may still be refused.
     ///
     /// None, without a further meaning, if the call is refused, or its member is not a property of
     /// scalars that alone has its DISPID. Then use `decide`.

@@ -169,7 +169,7 @@ fn find_array(parameters: &[Parameter]) -> Option<&Parameter>
     parameters.iter().find(|p| is_array(p.value_type))
 }
 
-/// Returns the name of a parameter.
+/// Returns the name of a parameter; None if there is no parameter.
 fn name_of(parameter: Option<&Parameter>) -> Option<&Name>
     ensures { option_copied result ≡ option_map (λ p. p.name) (option_copied parameter.entry) }
 {

@@ -25,7 +25,8 @@ pub(crate) fn refusal_of(table: &Table, event: &Event) -> Option<TableFault>
     }
 }
 
-/// Refuses a number that is not the table's next one, or is above the greatest number.
+/// Returns why a creation is refused: `number` is not the table's next one, or is above the
+/// greatest number. None if it applies.
 fn of_create(table: &Table, number: u32) -> Option<TableFault>
     ensures { (class : List ℕ) → GivesReason (applied (events.Create number class) table.now) result }
 {
@@ -35,7 +36,8 @@ fn of_create(table: &Table, number: u32) -> Option<TableFault>
     None
 }
 
-/// Refuses the release of an object that is not live, or that has a locked array.
+/// Returns why a release is refused: the object is not live, or has a locked array. None if it
+/// applies.
 fn of_release(table: &Table, number: u32) -> Option<TableFault>
     ensures { GivesReason (applied (events.Release number) table.now) result }
 {
@@ -48,7 +50,8 @@ fn of_release(table: &Table, number: u32) -> Option<TableFault>
     None
 }
 
-/// Refuses a put into an object that is not live, or over a locked array.
+/// Returns why a put is refused: the object is not live, or the array in the cell is locked. None
+/// if it applies.
 fn of_put(table: &Table, name: &CellName) -> Option<TableFault>
     ensures { (value : AVariant) → GivesReason (applied (events.Put name.now value) table.now) result }
 {
@@ -63,8 +66,8 @@ fn of_put(table: &Table, name: &CellName) -> Option<TableFault>
     None
 }
 
-/// Refuses an element of an object that is not live, of a cell without an array, or that the array
-/// refuses.
+/// Returns why an element is refused: the object is not live, the cell has no array, or the array
+/// refuses it. None if it applies.
 fn of_element(
     table: &Table,
     name: &CellName,
@@ -82,7 +85,8 @@ fn of_element(
     }
 }
 
-/// Refuses an index list that names no element, and then an element of another type.
+/// Returns why an array refuses an element: the index list is not within its bounds, or else the
+/// element is of another type. None if it does not.
 fn of_array_element(
     array: &SafeArray<Scalar>,
     index: &[i32],
@@ -102,8 +106,8 @@ fn of_array_element(
     }
 }
 
-/// Refuses a bound for an object that is not live, for a cell without an array, or that the array
-/// refuses.
+/// Returns why a bound is refused: the object is not live, the cell has no array, or the array
+/// refuses it. None if it applies.
 fn of_redim(table: &Table, name: &CellName, bound: Bound) -> Option<TableFault>
     ensures { GivesReason (applied (events.Redim name.now bound) table.now) result }
 {
@@ -116,7 +120,8 @@ fn of_redim(table: &Table, name: &CellName, bound: Bound) -> Option<TableFault>
     }
 }
 
-/// Refuses a bound for a locked array, and then one that the array cannot have.
+/// Returns why an array refuses a bound: the array is locked, or else cannot have it. None if it
+/// does not.
 fn of_array_redim(array: &SafeArray<Scalar>, bound: Bound) -> Option<TableFault>
     ensures { GivesReason (redimensioned_value bound (variants.Array array.now)) result }
 {

@@ -4,6 +4,9 @@
 //! Contract: safety, as of every function; the tests also check the number of crashes, opens and
 //! failures of a script.
 //!
+//! A private function returns None if an allocation fails, or if something else happens than the test
+//! expects; one that searches returns None if it finds nothing.
+//!
 //! Used by no crate.
 #![tactic(auto)]
 

@@ -3,8 +3,8 @@ use Rattle.std.proofs.Common.{◌≡◌, inl, inr, ℕ, ◌+◌, ◌≤◌, IsTr
 use Rattle.oa_disk.specs.Disk.{NothingPending}
 use Rattle.oa_disk.specs.Moments.{weakened}
 use Rattle.oa_disk.specs.declared.disk.Disk.{Ghosts}
-use Rattle.oa_fits.proofs.Kept.{unlocked_fits}
-use Rattle.oa_fits.specs.Fits.{fits}
+use Rattle.oa_keeps.proofs.Kept.{unlocked_fits}
+use Rattle.oa_keeps.specs.Fits.{fits}
 use Rattle.oa_groups.proofs.Calling.{session_opened}
 use Rattle.oa_groups.specs.Runs.{HoldsState, TurnsOver}
 use Rattle.oa_groups.specs.Turns.{Exchange}

@@ -1,6 +1,6 @@
 //! Whether a table fits a library.
 ghost use Rattle.std.specs.Prelude.{◌≡◌};
-ghost use Rattle.oa_fits.specs.Fits.{cell_fits, fits, key_fits, object_fits};
+ghost use Rattle.oa_keeps.specs.Fits.{cell_fits, fits, key_fits, object_fits};
 ghost use Rattle.oa_variant.specs.declared.variant.Variant.TheVariants.{One};
 ghost use Rattle.oa_variant.specs.Variants.{fits_declared};
 

@@ -24,7 +24,7 @@ use Rattle.oa_typelib.specs.declared.access.MemberFault.{MemberFault}
 use Rattle.oa_typelib.specs.declared.access.MemberFault.TheVariants.{MemberNotFound}
 use Rattle.oa_keeps.proofs.Losses.{interface_found, interface_there, was_interface}
 use Rattle.oa_typelib.proofs.Same.{at_any, found_at, inside, mapped_in}
-use Rattle.oa_fits.specs.Fits.{entered}
+use Rattle.oa_keeps.specs.Fits.{entered}
 
 -- ---- the interface that is selected
 

@@ -37,7 +37,7 @@ use Rattle.oa_typelib.proofs.Naming.{any_two, filtered, in_filter, main_in, name
 use Rattle.oa_typelib.proofs.Naming.{some_main, unless, unmarked, unnot}
 use Rattle.oa_typelib.proofs.Same.{inside, none_at, in_mapped, results_are, same_itself, types_are}
 use Rattle.oa_typelib.proofs.Sound.{neither, unmapped}
-use Rattle.oa_fits.specs.Fits.{entered}
+use Rattle.oa_keeps.specs.Fits.{entered}
 
 -- ---- what is found still
 

@@ -42,9 +42,9 @@ use Rattle.oa_variant.specs.Variants.{fits_declared, unlocked}
 use Rattle.oa_variant.specs.declared.scalar.Scalar.{Scalar}
 use Rattle.oa_variant.specs.declared.variant.Variant.{Variant}
 use Rattle.oa_variant.specs.declared.variant.Variant.TheVariants.{One, Array as AnArray}
-use Rattle.oa_fits.specs.Brings.{brings_fitting, put_fits}
-use Rattle.oa_fits.specs.Fits.{cell_fits, entered, fits, interface_fits, key_fits, object_fits, property_fits}
-use Rattle.oa_fits.proofs.Places.{exact_places}
+use Rattle.oa_keeps.specs.Brings.{brings_fitting, put_fits}
+use Rattle.oa_keeps.specs.Fits.{cell_fits, entered, fits, interface_fits, key_fits, object_fits, property_fits}
+use Rattle.oa_keeps.proofs.Places.{exact_places}
 
 -- ---- what holds of all entries, where one is set, added or taken out
 module _ {K X : Type 0} (p : K × X → Bool) where

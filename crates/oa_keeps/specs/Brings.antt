@@ -7,7 +7,7 @@ use Rattle.oa_table.specs.Places.{PlaceValue}
 use Rattle.oa_table.specs.Tables.{ObjectValue, TableValue, object_at}
 use Rattle.oa_checks.specs.Libraries.{class_of}
 use Rattle.oa_variant.specs.declared.variant.Variant.{Variant}
-use Rattle.oa_fits.specs.Fits.{cell_fits}
+use Rattle.oa_keeps.specs.Fits.{cell_fits}
 
 -- if there is no such object, the event does not apply
 abbrev pub put_fits : TreeValue → PlaceValue → Variant → Option ObjectValue → Bool

@@ -3,7 +3,7 @@
 //! Contract: `check` returns a library if and only if the tree has no error (`IsLibrary`), and otherwise the first error. Each look-up
 //! returns what the definitions over the tree say (`Members`, `Names`, `Descriptions`).
 //!
-//! Used by oa_keeps, oa_bind, oa_description, oa_decision, oa_turn, oa_server and the program.
+//! Used by oa_keeps, oa_bind, oa_decision, oa_turn, oa_server and the program.
 #![tactic(auto)]
 
 mod access;

@@ -3,9 +3,9 @@ ghost use Rattle.std.specs.Prelude.{◌≡◌, ◌<◌, ◌≤◌, ◌++◌, len
 ghost use Rattle.std.specs.List.{flat_map};
 ghost use Rattle.oa_record.specs.Replies.{max_fields_bytes, string_field};
 ghost use Rattle.oa_typelib.specs.Contents.{content_of};
-ghost use Rattle.oa_description.specs.DescriptionFields.{content_head, default_field, description_field, description_head, entry_field};
-ghost use Rattle.oa_description.specs.DescriptionFields.{entry_fields, flag, invoke_kind, member_field, member_flags, member_head};
-ghost use Rattle.oa_description.specs.DescriptionFields.{parameter_field, parameter_flags, parameter_head, type_number};
+ghost use Rattle.oa_decision.specs.DescriptionFields.{content_head, default_field, description_field, description_head, entry_field};
+ghost use Rattle.oa_decision.specs.DescriptionFields.{entry_fields, flag, invoke_kind, member_field, member_flags, member_head};
+ghost use Rattle.oa_decision.specs.DescriptionFields.{parameter_field, parameter_flags, parameter_head, type_number};
 
 use oa_checks::DeclarationKind;
 use oa_idl::Name;
@@ -251,7 +251,7 @@ fn put_description(out: &mut Vec<u8>, description: &Description<'_>) -> Result<(
 /// An entry of a coclass has the flags u32, 1 for the default interface, and at 4 the index of the interface u32.
 ///
 /// Err where memory is refused, and for a description of more than 4,294,967,275 bytes, which no library has.
-pub fn description_field(
+pub(crate) fn description_field(
     alloc: Global,
     description: &Description<'_>,
 ) -> Result<Vec<u8>, AllocError>

@@ -12,7 +12,7 @@ use Rattle.oa_idl.specs.Trees.{TreeValue}
 use Rattle.oa_image.proofs.Numbered.{unlocked_numbers}
 use Rattle.oa_image.proofs.TablesWithImages.{same_table}
 use Rattle.oa_image.specs.Tables.{FitsBank, is_numbered, reserved_bytes, table_image}
-use Rattle.oa_owners.specs.ClientLocks.{ClientLock}
+use Rattle.oa_turn.specs.ClientLocks.{ClientLock}
 use Rattle.oa_record.specs.Replies.{ReplyValue}
 use Rattle.oa_server.specs.Openings.{IsOpened}
 use Rattle.oa_server.specs.Requests.{requests}

@@ -8,7 +8,7 @@ use Rattle.oa_journal.specs.Shapes.{ample_bytes, body_bytes}
 use Rattle.oa_store.specs.Writing.{CallsForOneCheckpoint}
 use Rattle.oa_store.specs.declared.store.Store.{Store}
 use Rattle.oa_table.specs.Tables.{TableValue}
-use Rattle.oa_keeper.specs.Kept.{AllHold, HasRoom, LeavesEither, LeavesTable}
+use Rattle.oa_store.specs.Kept.{AllHold, HasRoom, LeavesEither, LeavesTable}
 
 -- The store has not stopped, and the largest group fits if the batch has events.
 pub record IsOpenFor {D : Type 0} {g : Ghosts D} (batch : List ℕ) (store : Store D g) : Type 0 where

@@ -5,10 +5,10 @@ use Rattle.oa_journal.specs.Replays.{Replays}
 use Rattle.oa_journal.specs.declared.shape.Shape.{Shape}
 use Rattle.oa_store.specs.Stores.{IsStoreAt}
 use Rattle.oa_table.specs.Tables.{TableValue}
-use Rattle.oa_keeper.specs.Kept.{AllHold}
-use Rattle.oa_keeper.proofs.Committed.{meanwhile, at_last, nothing_called, no_change}
-use Rattle.oa_keeper.proofs.Batches.{no_events}
-use Rattle.oa_keeper.proofs.committing.commit_bytes.Goals as goal
+use Rattle.oa_store.specs.Kept.{AllHold}
+use Rattle.oa_store.proofs.Committed.{meanwhile, at_last, nothing_called, no_change}
+use Rattle.oa_store.proofs.Batches.{no_events}
+use Rattle.oa_store.proofs.committing.commit_bytes.Goals as goal
 
 pub returns-then-len-le5-clause-commits : goal.returns-then-len-le5-clause-commits
 returns-then-len-le5-clause-commits g c =

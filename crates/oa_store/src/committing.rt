@@ -2,14 +2,13 @@
 ghost use Rattle.std.specs.Prelude.{◌≡◌, ◌⊎◌, ◌+◌, ◌*◌, ◌≤◌, IsTrue, [], length, vec_capacity};
 ghost use Rattle.oa_journal.specs.Append.{group_of};
 ghost use Rattle.oa_journal.specs.Shapes.{ample_bytes, body_bytes};
-ghost use Rattle.oa_keeper.specs.Holding.{CallsForGroup, CanBeKept, Carries, Commits, IsOpenFor, MakesRoom, StopsWhereRefused};
+ghost use Rattle.oa_store.specs.Holding.{CallsForGroup, CanBeKept, Carries, Commits, IsOpenFor, MakesRoom, StopsWhereRefused};
 ghost use Rattle.oa_store.specs.Calls.{checkpoint_calls};
 ghost use Rattle.oa_store.specs.Writing.{Goes};
 ghost use Rattle.oa_table.specs.Tables.{unlocked_table};
 
-use crate::{Batch, DeviceFailed};
+use crate::{Batch, DeviceFailed, Store};
 use oa_disk::Disk;
-use oa_store::Store;
 use oa_table::Table;
 
 /// Checkpoints the store if one is due and the batch is empty, so that the next group fits; otherwise does nothing.

@@ -19,8 +19,8 @@ use Rattle.oa_table.specs.Events.{applied}
 use Rattle.oa_table.specs.Tables.{TableValue, unlocked_table}
 use Rattle.oa_table.specs.declared.event.Event.{Event}
 use Rattle.oa_table.specs.declared.fault.TableFault.{TableFault}
-use Rattle.oa_keeper.specs.Holding.{Carries}
-use Rattle.oa_keeper.specs.Kept.{EachIs}
+use Rattle.oa_store.specs.Holding.{Carries}
+use Rattle.oa_store.specs.Kept.{EachIs}
 
 module _ (library : List ℕ) (before after : TableValue) (shape : Shape) (chosen gate : ℕ) (group : List ℕ) (image : List ℕ → Type 0) (makes : Replays group before after) (each : EachIs image shape chosen gate library before) where
   -- while a group is committed, an image holds the table with it or without it

@@ -1,6 +1,6 @@
 use Rattle.std.proofs.Common.{◌∙◌, arith, sym}
-use Rattle.oa_keeper.proofs.Batches.{added}
-use Rattle.oa_keeper.proofs.batch.add_event.Goals as goal
+use Rattle.oa_store.proofs.Batches.{added}
+use Rattle.oa_store.proofs.batch.add_event.Goals as goal
 
 pub returns-clause-ok : goal.returns-clause-ok
 returns-clause-ok c =

@@ -1,8 +1,8 @@
 use Rattle.std.proofs.Common.{rules}
 use Rattle.oa_journal.specs.Shapes.{body_bytes}
 use Rattle.oa_store.proofs.Counted.{within}
-use Rattle.oa_keeper.proofs.Committed.{still_carried}
-use Rattle.oa_keeper.proofs.committing.make_room.Goals as goal
+use Rattle.oa_store.proofs.Committed.{still_carried}
+use Rattle.oa_store.proofs.committing.make_room.Goals as goal
 
 pub returns-then-not-is_empty-clause-carries : goal.returns-then-not-is_empty-clause-carries
 returns-then-not-is_empty-clause-carries g c = still_carried {g = g.D.Disk} (λ d f honest since. g.met.D.Disk.only_now d f honest since) c.args.batch.now _ c.args.store.now

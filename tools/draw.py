@@ -16,7 +16,7 @@ text { font: 12px sans-serif; fill: #222 } .box { fill: #eef3fa; stroke: #5b7aa5
 .program { fill: #e6f4e6; stroke: #4d8a4d } .tests { fill: #f2f2f2; stroke: #999 } .note { font-size: 11px; fill: #555 }
 path { fill: none; stroke: #8899aa; stroke-width: 1 } .way { stroke: #444; stroke-width: 1.5 }
 </style>"""
-STORAGE = {"oa_disk", "oa_journal", "oa_store", "oa_keeper", "oa_groups"}
+STORAGE = {"oa_disk", "oa_journal", "oa_store", "oa_groups"}
 # the way of a put: what happens, and in which crate
 PUT = [
     ("oaut", "standard input: a line or a record"),

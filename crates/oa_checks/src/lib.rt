@@ -4,8 +4,8 @@
 //! (`Breaches`), or the names and GUIDs of its items if it has none. `mark` marks one default
 //! interface in each coclass.
 //!
-//! Used by oa_typelib, and above it by oa_keeps, oa_bind, oa_fits, oa_description, oa_decision and
-//! oa_turn; and by the commands.
+//! Used by oa_typelib, and above it by oa_keeps, oa_bind, oa_decision and oa_turn; and by the
+//! commands.
 #![tactic(auto)]
 
 mod agreement;

@@ -19,3 +19,4 @@ pub mod Listing
 pub mod Queries
 pub mod Decided
 pub mod ValuePlans
+pub mod DescriptionFields

@@ -1,7 +1,7 @@
 -- TYPEINFO: the library's description of an interface or a coclass. (This project's choice.)
 use Rattle.std.specs.Prelude.{ℕ, Option, Result, Ok}
 use Rattle.oa_model.specs.Codes.{s_ok, disp_e_badindex}
-use Rattle.oa_description.specs.DescriptionFields.{description_field}
+use Rattle.oa_decision.specs.DescriptionFields.{description_field}
 use Rattle.oa_typelib.specs.DescriptionValues.{DescriptionValue}
 use Rattle.oa_typelib.specs.Descriptions.{description_at}
 use Rattle.oa_decision.specs.declared.decision.Decision.{Decision}

@@ -4,7 +4,8 @@
 //! Contract: `Decider::decide` returns the defined decision (`decided`), or out of memory if an
 //! allocation may be needed (`Decides`). `Decider::plan_value` does so for a call with no more than
 //! a new value (`PlansValue`). `disallowed` returns why an event is not allowed (`allowed`), and
-//! `is_surely_within` is true only within the limits.
+//! `is_surely_within` is true only within the limits. A description's fields are its bytes, and
+//! have all entries of a coclass (`laws::no_entry_is_left_out`).
 //!
 //! Used by oa_turn, which makes the changes.
 #![tactic(auto)]
@@ -12,7 +13,9 @@
 mod applies;
 mod decider;
 mod decision;
+mod description;
 mod fields;
+pub mod laws;
 mod limits;
 mod plan;
 mod refusal;

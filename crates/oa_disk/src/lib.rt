@@ -5,8 +5,8 @@
 //! during `write_then_flip` leaves either torn bytes and the old switch, or all bytes and any byte
 //! at the switch.
 //!
-//! Used by the storage crates (oa_journal, oa_store, oa_keeper, oa_groups), oa_server and
-//! oa_history, and over a file by oa_commands and the program.
+//! Used by the storage crates (oa_journal, oa_store, oa_groups), oa_server and oa_history, and over
+//! a file by oa_commands and the program.
 #![tactic(auto)]
 
 mod call;

@@ -7,7 +7,7 @@ use Rattle.oa_journal.specs.Replays.{Replays}
 use Rattle.oa_journal.specs.declared.shape.Shape.TheVariants.{Two}
 use Rattle.oa_store.specs.Stores.{IsStoreIn}
 use Rattle.oa_table.specs.Tables.{TableValue}
-use Rattle.oa_keeper.proofs.Committed.{no_change}
+use Rattle.oa_store.proofs.Committed.{no_change}
 use Rattle.oa_groups.specs.Groupings.{Grouping, IsDue, FailsAtCheckpoint, IsHeld, IsSettled}
 use Rattle.oa_groups.specs.Faults.{IsWholeBefore}
 use Rattle.oa_groups.specs.Going.{IsCut, IsNextGroup, Going, Faulted}

@@ -5,7 +5,7 @@ use Rattle.oa_disk.specs.Disk.{LeavesOnly}
 use Rattle.oa_disk.specs.declared.disk.Disk.{Ghosts}
 use Rattle.oa_journal.specs.Shapes.{ample_bytes, body_bytes}
 use Rattle.oa_store.specs.declared.store.Store.{Store}
-use Rattle.oa_keeper.specs.Holding.{Carries, Commits, LeavesCommitted}
+use Rattle.oa_store.specs.Holding.{Carries, Commits, LeavesCommitted}
 use Rattle.oa_groups.specs.Groups.{fills}
 use Rattle.oa_groups.specs.Runs.{AllHoldState, HoldsState, MakesEvent}
 use Rattle.oa_store.specs.Writing.{CallsForOneCheckpoint, Goes}

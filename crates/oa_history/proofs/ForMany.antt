@@ -3,8 +3,8 @@ use Rattle.std.proofs.Common.{◌≡◌, inl, inr, ℕ, ◌+◌, ◌≤◌, IsTr
 use Rattle.oa_disk.specs.Disk.{NothingPending}
 use Rattle.oa_disk.specs.Moments.{weakened}
 use Rattle.oa_disk.specs.declared.disk.Disk.{Ghosts}
-use Rattle.oa_fits.proofs.Kept.{unlocked_fits}
-use Rattle.oa_fits.specs.Fits.{fits}
+use Rattle.oa_keeps.proofs.Kept.{unlocked_fits}
+use Rattle.oa_keeps.specs.Fits.{fits}
 use Rattle.oa_groups.proofs.Calling.{session_opened}
 use Rattle.oa_groups.specs.Runs.{HoldsState, TurnsOver}
 use Rattle.oa_groups.specs.Turns.{Exchange}
@@ -12,7 +12,7 @@ use Rattle.oa_idl.specs.Trees.{TreeValue}
 use Rattle.oa_image.proofs.Numbered.{unlocked_numbers}
 use Rattle.oa_image.proofs.TablesWithImages.{same_table}
 use Rattle.oa_image.specs.Tables.{FitsBank, is_numbered, reserved_bytes, table_image}
-use Rattle.oa_owners.specs.ClientLocks.{ClientLock}
+use Rattle.oa_turn.specs.ClientLocks.{ClientLock}
 use Rattle.oa_record.specs.Replies.{ReplyValue}
 use Rattle.oa_server.specs.Openings.{IsOpened}
 use Rattle.oa_server.specs.Requests.{requests}

@@ -3,7 +3,7 @@ use mathlib.Core.Path.{path_j, subst_refl}
 use Rattle.std.proofs.Common.{◌≡◌, ◌⊎◌, inl, inr, ⊎_elim, ℕ, ◌+◌, length, List, [], ◌∷◌, ◌++◌, Bor, refl, sym, ◌∙◌, ap, subst, append_assoc}
 use Rattle.oa_disk.specs.declared.disk.Disk.{Ghosts}
 use Rattle.oa_disk.specs.declared.memory.MemoryDisk.{MemoryDisk}
-use Rattle.oa_owners.specs.ClientLocks.{ClientLock}
+use Rattle.oa_turn.specs.ClientLocks.{ClientLock}
 use Rattle.oa_record.specs.Replacement.{is_replacement}
 use Rattle.oa_stream.specs.Ahead.{ahead, read_ahead}
 use Rattle.oa_stream.specs.Memory.{gathered_output}

@@ -12,9 +12,9 @@ use Rattle.std.specs.declared.cmp.Ordering.{Ordering}
 use Rattle.std.specs.declared.cmp.Ordering.TheVariants.{Less, Equal, Greater}
 use Rattle.oa_array.specs.declared.fault.ArrayFault.{ArrayFault}
 use Rattle.oa_array.specs.declared.fault.ArrayFault.TheVariants as arrays
-use Rattle.oa_owners.proofs.Counted.{count_first, itself, same_cells, same_locks_at}
-use Rattle.oa_owners.specs.ClientLocks.{ClientLock, cell_cmp, is_cell, is_lock_of, lock_cmp, of_others, owns, with_more, with_one, without_first}
-use Rattle.oa_owners.specs.Counts.{count_in, name_of}
+use Rattle.oa_turn.proofs.Counted.{count_first, itself, same_cells, same_locks_at}
+use Rattle.oa_turn.specs.ClientLocks.{ClientLock, cell_cmp, is_cell, is_lock_of, lock_cmp, of_others, owns, with_more, with_one, without_first}
+use Rattle.oa_turn.specs.Counts.{count_in, name_of}
 use Rattle.oa_record.specs.Asks.{Asks, IsStub, tag_at}
 use Rattle.oa_record.specs.Replacement.{is_replacement}
 use Rattle.oa_record.specs.Replies.{ReplyValue, number_field, word}

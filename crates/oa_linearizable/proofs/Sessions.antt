@@ -1,7 +1,7 @@
 -- Sessions over a store, cut behind any of their turns.
 use Rattle.std.proofs.Common.{◌≡◌, ℕ, List, [], ◌∷◌, ◌++◌, refl, ap, ◌∙◌, subst}
 use Rattle.oa_disk.specs.declared.disk.Disk.{Ghosts}
-use Rattle.oa_owners.specs.ClientLocks.{ClientLock}
+use Rattle.oa_turn.specs.ClientLocks.{ClientLock}
 use Rattle.oa_server.specs.SharedTalks.{asked_written}
 use Rattle.oa_server.specs.Sharing.{shared}
 use Rattle.oa_share.specs.Answering.{SharedTurn}

@@ -1,7 +1,7 @@
 -- LOCK as a mutex of many clients. (This project's choice.)
 use Rattle.std.specs.Prelude.{◌≡◌, ◌⊎◌, ◌<◌, ◌^◌, ℕ, ◌+◌, true, false, List, [], ◌∷◌}
 use Rattle.oa_frame.specs.declared.ends.End.{End}
-use Rattle.oa_owners.specs.ClientLocks.{is_cell}
+use Rattle.oa_turn.specs.ClientLocks.{is_cell}
 use Rattle.oa_record.specs.Replies.{ReplyValue, number_field}
 use Rattle.oa_server.specs.Ledgers.{HasLedger}
 use Rattle.oa_server.specs.Sharing.{ClientReply, Replies, Shared}

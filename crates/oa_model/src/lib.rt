@@ -4,8 +4,7 @@
 //! `from_vt`). The wire bytes of a GUID are those of its fields in little-endian order
 //! (`guid_to_wire`, `guid_from_wire`). `fold` changes only A to Z.
 //!
-//! Used by every crate except oa_cells, oa_ndr, oa_ordered, oa_tokens, oa_stream and oa_disk;
-//! oa_keeper uses it only through others.
+//! Used by every crate except oa_cells, oa_ndr, oa_ordered, oa_tokens, oa_stream and oa_disk.
 #![tactic(auto)]
 
 mod bound;

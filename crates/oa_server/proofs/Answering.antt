@@ -15,8 +15,8 @@ use Rattle.oa_groups.proofs.Takes.{underway_start, underway_taken}
 use Rattle.oa_journal.specs.Replays.{Replays}
 use Rattle.oa_groups.specs.Runs.{AllHoldState, HoldsState}
 use Rattle.oa_canonical.specs.Canonical.{canonical}
-use Rattle.oa_keeper.specs.Holding.{Commits}
-use Rattle.oa_keeper.specs.Kept.{AllHold, LeavesEither, LeavesTable}
+use Rattle.oa_store.specs.Holding.{Commits}
+use Rattle.oa_store.specs.Kept.{AllHold, LeavesEither, LeavesTable}
 use Rattle.oa_record.specs.Replacement.{is_replacement}
 use Rattle.oa_turn.proofs.SameLibrary.{plain_library, turn_bank}
 use Rattle.oa_record.specs.Replies.{ReplyValue}

@@ -1,6 +1,6 @@
 -- What was served can be served again.
 use Rattle.std.proofs.Common.{List, [], ◌∷◌, subst, ◌∙◌}
-use Rattle.oa_fits.proofs.Kept.{unlocked_fits}
+use Rattle.oa_keeps.proofs.Kept.{unlocked_fits}
 use Rattle.oa_groups.specs.Runs.{TurnsOver}
 use Rattle.oa_groups.specs.Turns.{Exchange}
 use Rattle.oa_image.proofs.Numbered.{unlocked_numbers}

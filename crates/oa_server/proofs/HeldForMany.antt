@@ -10,8 +10,8 @@ use Rattle.oa_groups.specs.Simple.{no_event}
 use Rattle.oa_groups.specs.Turns.{exchange}
 use Rattle.oa_groups.proofs.Stores.{goes_nowhere}
 use Rattle.oa_journal.specs.Replays.{Replays}
-use Rattle.oa_keeper.proofs.Committed.{still_carried}
-use Rattle.oa_owners.specs.ClientLocks.{ClientLock}
+use Rattle.oa_store.proofs.Committed.{still_carried}
+use Rattle.oa_turn.specs.ClientLocks.{ClientLock}
 use Rattle.oa_decision.specs.declared.decision.LockChange.{LockChange}
 use Rattle.oa_record.specs.Replies.{ReplyValue, reply_record}
 use Rattle.oa_server.specs.Desks.{ClearsDesk, IsEventless, all_frames, cleared_desk, desk_grouping, shared_grouping, told_at, told_to, told_with}

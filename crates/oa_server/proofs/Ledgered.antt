@@ -23,9 +23,9 @@ use Rattle.oa_model.specs.declared.bound.Bound.{Bound}
 use Rattle.oa_model.specs.declared.hresult.HResult.{HResult}
 use Rattle.oa_model.specs.declared.var_type.ValueType.{ValueType}
 use Rattle.oa_model.specs.declared.var_type.ValueType.TheVariants as kinds
-use Rattle.oa_owners.specs.ClientLocks.{ClientLock, cells_of, of_others, with_one, without_one}
-use Rattle.oa_owners.specs.Counts.{HasLocks, IsLedger, name_of}
-use Rattle.oa_owners.proofs.Counted.{can_unlock, count_more_of, count_none, count_of_none, count_owned, count_without, event_ordered, event_stays, has_same, lock_counted, object_ordered, own_one_more, own_without, redim_same, unlock_counted}
+use Rattle.oa_turn.specs.ClientLocks.{ClientLock, cells_of, of_others, with_one, without_one}
+use Rattle.oa_turn.specs.Counts.{HasLocks, IsLedger, name_of}
+use Rattle.oa_turn.proofs.Counted.{can_unlock, count_more_of, count_none, count_of_none, count_owned, count_without, event_ordered, event_stays, has_same, lock_counted, object_ordered, own_one_more, own_without, redim_same, unlock_counted}
 use Rattle.oa_record.specs.Asks.{Asks, IsStub, tag_at}
 use Rattle.oa_record.specs.Replacement.{is_replacement}
 use Rattle.oa_record.specs.Replies.{ReplyValue, number_field}

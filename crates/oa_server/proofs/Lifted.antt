@@ -7,7 +7,7 @@ use Rattle.oa_groups.specs.Groups.{fills}
 use Rattle.oa_groups.specs.Groupings.{Grouping, IsAfterFault, IsAnsweredAlone, IsApart, IsDue, IsEnded, IsFlushed, IsHeld, IsIdle, IsLast, IsSettled, IsTaken}
 use Rattle.oa_groups.specs.Turns.{exchange}
 use Rattle.oa_groups.proofs.Entries.{either}
-use Rattle.oa_owners.specs.ClientLocks.{ClientLock}
+use Rattle.oa_turn.specs.ClientLocks.{ClientLock}
 use Rattle.oa_record.specs.Replacement.{is_replacement}
 use Rattle.oa_record.specs.Replies.{ReplyValue}
 use Rattle.oa_store.specs.declared.store.Store.{Store}

@@ -1,7 +1,7 @@
 -- Bodies that ask for a lock to be changed.
 use Rattle.std.proofs.Common.{◌≡◌, ◌⊎◌, if◌then◌else◌, inl, inr, ℕ, Bool, true, false, true≢false, List, [], Option, Some, None, Result, Ok, Err, IsOk, refl, sym, ap, ◌∙◌, subst}
 use Rattle.oa_model.specs.Codes.{e_outofmemory}
-use Rattle.oa_owners.specs.ClientLocks.{ClientLock, owns, with_one, without_one}
+use Rattle.oa_turn.specs.ClientLocks.{ClientLock, owns, with_one, without_one}
 use Rattle.oa_record.specs.Asks.{Asks, IsStub, MayStarve, tag_at}
 use Rattle.oa_record.specs.Replacement.{is_replacement}
 use Rattle.oa_record.specs.Replies.{ReplyValue}

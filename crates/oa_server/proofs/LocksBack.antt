@@ -1,7 +1,7 @@
 -- Locks that are taken back, one after another; and one for whose owner no memory was found.
 use Rattle.std.proofs.Common.{◌≡◌, inl, inr, ℕ, zero, suc, ◌+◌, ◌-◌, ◌<◌, ◌≤◌, arith, true, true≢false, List, [], ◌∷◌, ◌++◌, Some, Result, Ok, Err, refl, sym, ap, ◌∙◌}
-use Rattle.oa_owners.proofs.Counted.{lock_back}
-use Rattle.oa_owners.specs.Kept.{all_cells, copies, each_counted}
+use Rattle.oa_turn.proofs.Counted.{lock_back}
+use Rattle.oa_turn.specs.Kept.{all_cells, copies, each_counted}
 use Rattle.oa_record.specs.Asks.{tag_at}
 use Rattle.oa_record.specs.Replies.{ReplyValue}
 use Rattle.oa_record.specs.declared.request.Request.{Request}

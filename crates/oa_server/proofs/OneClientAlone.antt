@@ -8,9 +8,9 @@ use Rattle.oa_groups.specs.Runs.{TurnsOver}
 use Rattle.oa_groups.specs.Served.{IsServed}
 use Rattle.oa_groups.specs.Turns.{Exchange, body_of, reply_of}
 use Rattle.oa_groups.proofs.Entries.{run_append}
-use Rattle.oa_owners.proofs.Counted.{count_none}
-use Rattle.oa_owners.specs.ClientLocks.{ClientLock, of_others}
-use Rattle.oa_owners.specs.Counts.{count_in, name_of}
+use Rattle.oa_turn.proofs.Counted.{count_none}
+use Rattle.oa_turn.specs.ClientLocks.{ClientLock, of_others}
+use Rattle.oa_turn.specs.Counts.{count_in, name_of}
 use Rattle.oa_record.specs.Asks.{Asks, IsStub}
 use Rattle.oa_record.specs.Replacement.{is_replacement}
 use Rattle.oa_record.specs.Replies.{ReplyValue, reply_record}

@@ -1,7 +1,7 @@
 -- What an opening answers, where a stop has left one of two states.
 use Rattle.std.proofs.Common.{true, ◌≤◌, ◌≡◌, ◌≢◌, ◌⊎◌, ⊎_elim, ℕ, List, Some, length, inl, inr, refl, sym, ◌∙◌, subst, arith}
-use Rattle.oa_fits.proofs.Kept.{unlocked_fits}
-use Rattle.oa_fits.specs.Fits.{fits}
+use Rattle.oa_keeps.proofs.Kept.{unlocked_fits}
+use Rattle.oa_keeps.specs.Fits.{fits}
 use Rattle.oa_groups.specs.Runs.{HoldsState}
 use Rattle.oa_canonical.specs.Canonical.{canonical}
 use Rattle.oa_idl.specs.Trees.{TreeValue}

@@ -14,7 +14,7 @@ use Rattle.oa_groups.proofs.Stores.{goes_nowhere}
 use Rattle.oa_groups.proofs.Takes.{underway_start, underway_taken}
 use Rattle.oa_journal.specs.Replays.{Replays}
 use Rattle.oa_groups.specs.Turns.{exchange}
-use Rattle.oa_keeper.proofs.Committed.{nothing_called}
+use Rattle.oa_store.proofs.Committed.{nothing_called}
 use Rattle.oa_record.specs.Replacement.{is_replacement}
 use Rattle.oa_record.specs.Replies.{ReplyValue}
 use Rattle.oa_store.specs.Calls.{checkpoint_calls}

@@ -6,7 +6,7 @@ use Rattle.oa_groups.specs.Groupings.{IsHeld, IsSettled}
 use Rattle.oa_groups.specs.Groups.{fills}
 use Rattle.oa_store.specs.Writing.{Goes}
 use Rattle.oa_groups.specs.Turns.{exchange}
-use Rattle.oa_keeper.specs.Holding.{Carries, Commits}
+use Rattle.oa_store.specs.Holding.{Carries, Commits}
 use Rattle.oa_record.specs.Replacement.{is_replacement}
 use Rattle.oa_record.specs.Replies.{ReplyValue}
 use Rattle.oa_store.specs.declared.store.Store.{Store}

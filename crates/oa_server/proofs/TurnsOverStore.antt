@@ -8,8 +8,8 @@ use Rattle.oa_groups.specs.Runs.{MakesEvent}
 use Rattle.oa_groups.proofs.Called.{none_or_some}
 use Rattle.oa_image.proofs.Lengths.{event_bytes}
 use Rattle.oa_journal.specs.Shapes.{ample_bytes, body_bytes}
-use Rattle.oa_keeper.proofs.Committed.{one_event}
-use Rattle.oa_keeper.specs.Holding.{Carries}
+use Rattle.oa_store.proofs.Committed.{one_event}
+use Rattle.oa_store.specs.Holding.{Carries}
 use Rattle.oa_store.specs.declared.store.Store.{Store}
 use Rattle.oa_table.specs.declared.fault.TableFault.{TableFault}
 use Rattle.oa_server.specs.OpenGroups.{CallsWhereDue}

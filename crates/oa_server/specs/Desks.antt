@@ -5,7 +5,7 @@ use Rattle.oa_frame.specs.Sessions.{last_reply}
 use Rattle.oa_frame.specs.declared.ends.End.{End}
 use Rattle.oa_groups.specs.Groupings.{Grouping, IsTaken}
 use Rattle.oa_groups.specs.Turns.{exchange}
-use Rattle.oa_owners.specs.ClientLocks.{ClientLock}
+use Rattle.oa_turn.specs.ClientLocks.{ClientLock}
 use Rattle.oa_record.specs.Replies.{ReplyValue, reply_record}
 use Rattle.oa_server.specs.OpenGroups.{CanTake, CanTakeCleared}
 use Rattle.oa_server.specs.Serving.{last_written}

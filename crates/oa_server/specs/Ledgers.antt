@@ -6,8 +6,8 @@ use Rattle.std.specs.Ordering.{nat_cmp}
 use Rattle.oa_groups.specs.Runs.{TurnsOver}
 use Rattle.oa_groups.specs.Turns.{Exchange, body_of, reply_of}
 use Rattle.oa_image.specs.Tables.{is_numbered}
-use Rattle.oa_owners.specs.ClientLocks.{of_others}
-use Rattle.oa_owners.specs.Counts.{IsLedger}
+use Rattle.oa_turn.specs.ClientLocks.{of_others}
+use Rattle.oa_turn.specs.Counts.{IsLedger}
 use Rattle.oa_record.specs.Replies.{ReplyValue}
 use Rattle.oa_server.specs.SharedRequests.{opened, shared_requests}
 use Rattle.oa_server.specs.Sharing.{ClientReply, IsSharedTurn, Replies, Shared, TurnOf, TurnsFor, behind_all, tagged}

@@ -7,8 +7,8 @@ use Rattle.oa_groups.specs.Groupings.{Grouping, IsDue}
 use Rattle.oa_image.specs.Events.{event_image}
 use Rattle.oa_journal.specs.Replays.{Replays}
 use Rattle.oa_journal.specs.Shapes.{ample_bytes, body_bytes}
-use Rattle.oa_keeper.specs.Holding.{Carries}
-use Rattle.oa_keeper.specs.Kept.{HasRoom}
+use Rattle.oa_store.specs.Holding.{Carries}
+use Rattle.oa_store.specs.Kept.{HasRoom}
 use Rattle.oa_model.specs.Limits.{group_bytes, max_event_bytes}
 use Rattle.oa_record.specs.Replies.{ReplyValue}
 use Rattle.oa_store.specs.Calls.{checkpoint_calls}

@@ -4,7 +4,7 @@ use Rattle.oa_disk.specs.declared.disk.Disk.{Ghosts}
 use Rattle.oa_groups.specs.Runs.{HoldsState}
 use Rattle.oa_canonical.specs.Canonical.{canonical}
 use Rattle.oa_idl.specs.Trees.{TreeValue}
-use Rattle.oa_keeper.specs.Kept.{EachIs}
+use Rattle.oa_store.specs.Kept.{EachIs}
 use Rattle.oa_image.specs.Tables.{is_numbered}
 use Rattle.oa_journal.specs.Reads.{WritesNothing}
 use Rattle.oa_journal.specs.declared.shape.Shape.TheVariants.{Two}

@@ -5,7 +5,7 @@ use Rattle.oa_canonical.specs.Canonical.{canonical}
 use Rattle.oa_frame.specs.declared.ends.End.TheVariants.{Closed, Cut, TooLong, BadHex, ReadFault, WriteFault}
 use Rattle.oa_groups.specs.Turns.{Turns}
 use Rattle.oa_model.specs.Codes.{stg_e_writefault}
-use Rattle.oa_owners.specs.ClientLocks.{ClientLock, cells_of}
+use Rattle.oa_turn.specs.ClientLocks.{ClientLock, cells_of}
 use Rattle.oa_record.specs.Replies.{ReplyValue}
 use Rattle.oa_server.specs.Requests as one_client
 use Rattle.oa_server.specs.Sharing.{ClientReply, IsSharedTurn, Replies, Shared, TurnOf, TurnsFor}

@@ -7,7 +7,7 @@ use Rattle.oa_frame.specs.declared.ends.End.TheVariants.{Closed, Cut, TooLong, B
 use Rattle.oa_groups.specs.Turns.{Exchange}
 use Rattle.oa_journal.specs.Replays.{Replays}
 use Rattle.oa_model.specs.Codes.{e_unexpected}
-use Rattle.oa_owners.specs.ClientLocks.{ClientLock, cells_of, of_others, owns, with_one, without_one}
+use Rattle.oa_turn.specs.ClientLocks.{ClientLock, cells_of, of_others, owns, with_one, without_one}
 use Rattle.oa_record.specs.Asks.{tag_at}
 use Rattle.oa_record.specs.Replacement.{is_replacement}
 use Rattle.oa_record.specs.Replies.{ReplyValue}

@@ -16,13 +16,11 @@ use crate::locking::{let_go, lock_turn};
 use crate::open_group::{OpenGroup, bare_reply};
 use oa_disk::Disk;
 use oa_frame::End;
-use oa_keeper::Batch;
 use oa_model::HResult;
-use oa_owners::Owners;
 use oa_record::Reply;
 use oa_record::laws::{a_replacement_is_no_request, refused_asks_nothing};
-use oa_store::Store;
-use oa_turn::Host;
+use oa_store::{Batch, Store};
+use oa_turn::{Host, Owners};
 use std::alloc::Global;
 
 /// The client of a reply, and how it ended if the reply is for its end.

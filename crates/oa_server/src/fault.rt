@@ -2,7 +2,7 @@
 ghost use Rattle.std.specs.Prelude.{◌≡◌};
 ghost use Rattle.oa_server.specs.declared.fault.HoldFault.TheVariants.{Device, Memory};
 
-use oa_keeper::DeviceFailed;
+use oa_store::DeviceFailed;
 use std::alloc::AllocError;
 use thiserror::Error;
 

@@ -4,7 +4,7 @@ ghost use Rattle.std.specs.Prelude.{◌≡◌, ◌≤◌, ◌<◌, ◌+◌, ◌+
 ghost use Rattle.oa_groups.specs.Groupings.{IsEnded, IsSettled, IsTaken};
 ghost use Rattle.oa_groups.specs.Served.{IsServed};
 ghost use Rattle.oa_journal.specs.Shapes.{ample_bytes};
-ghost use Rattle.oa_keeper.specs.Kept.{HasRoom};
+ghost use Rattle.oa_store.specs.Kept.{HasRoom};
 ghost use Rattle.oa_record.specs.Replacement.{is_replacement};
 ghost use Rattle.oa_server.specs.Answers.{IsAnswered, AnswersAfterFault, IsReplacedOver, IsReplacedOrLate};
 ghost use Rattle.oa_server.specs.OpenGroups.{CanTake, CanTakeCleared, HandsOut, HasBanks, cleared_grouping, grouping_of};
@@ -14,10 +14,9 @@ use crate::holding::turn_held;
 use crate::open_group::{OpenGroup, bare_reply, withdraw};
 use crate::replacement::replace_over;
 use oa_disk::Disk;
-use oa_keeper::{Batch, commit};
 use oa_model::HResult;
 use oa_record::{Reply, is_replacement};
-use oa_store::Store;
+use oa_store::{Batch, Store, commit};
 use oa_turn::Host;
 use std::alloc::{AllocError, Global};
 

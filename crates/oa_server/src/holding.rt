@@ -1,7 +1,7 @@
 //! A turn over a store: its event is held in a batch until its group ends.
 ghost use Rattle.std.specs.Prelude.{◌≡◌, ◌++◌, List, ℕ, false, IfOk, IsErr, IsErrOf, OnErr, OnOk};
 ghost use Rattle.oa_image.specs.Events.{event_image};
-ghost use Rattle.oa_keeper.specs.Holding.{IsOpenFor};
+ghost use Rattle.oa_store.specs.Holding.{IsOpenFor};
 ghost use Rattle.oa_record.specs.Replacement.{is_replacement};
 ghost use Rattle.oa_server.specs.OpenGroups.{CallsForCheckpoint, CallsForRoom, CallsWhereDue, CanBeMade, HasBanks, HoldsOn, IsAdded};
 ghost use Rattle.oa_server.specs.OpenGroups.{IsCutOff, MakesWay};
@@ -15,11 +15,10 @@ use crate::fault::HoldFault;
 use oa_disk::Disk;
 use oa_image::SizedEvent;
 use oa_image::laws::is_event;
-use oa_keeper::{Batch, DeviceFailed, make_room};
 use oa_model::HResult;
 use oa_record::Reply;
 use oa_record::laws::one_request;
-use oa_store::Store;
+use oa_store::{Batch, DeviceFailed, Store, make_room};
 use oa_turn::{Host, Plan, Planned};
 use std::alloc::Global;
 

@@ -29,8 +29,8 @@ ghost use Rattle.oa_typelib.specs.Checked.{IsChecked};
 
 use oa_canonical::laws::marked_is_read;
 use oa_disk::Disk;
-use oa_fits::laws::changes_that_fit;
 use oa_idl::laws::one_tree;
+use oa_keeps::laws::changes_that_fit;
 use oa_record::laws::{a_replacement_is_no_request, one_request, refused_asks_nothing};
 pub use oa_turn::laws::{kept_fits, no_trace};
 

@@ -2,10 +2,10 @@
 ghost use Rattle.std.specs.Prelude.{◌≡◌, [], false, true, List, ℕ, IfNone, IfSome, map};
 ghost use Rattle.oa_decision.specs.declared.decision.LockChange.{LockChange as AChange};
 ghost use Rattle.oa_decision.specs.declared.decision.LockChange.TheVariants.{Lock as ALock, Unlock as AnUnlock};
-ghost use Rattle.oa_owners.specs.ClientLocks.{without_one};
-ghost use Rattle.oa_owners.specs.Counts.{name_of};
-ghost use Rattle.oa_owners.specs.Kept.{copies};
-ghost use Rattle.oa_owners.specs.ClientLocks.{ClientLock as AClientLock};
+ghost use Rattle.oa_turn.specs.ClientLocks.{without_one};
+ghost use Rattle.oa_turn.specs.Counts.{name_of};
+ghost use Rattle.oa_turn.specs.Kept.{copies};
+ghost use Rattle.oa_turn.specs.ClientLocks.{ClientLock as AClientLock};
 ghost use Rattle.oa_record.specs.Replacement.{is_replacement};
 ghost use Rattle.oa_server.specs.Sharing.{IsLockTurn, TurnsFor, behind_all, behind_end, shared, taken_back};
 ghost use Rattle.oa_turn.specs.Events.{HasEvent, held_of, is_done};
@@ -16,11 +16,10 @@ ghost use Rattle.oa_turn.specs.Turns.{Ordinary};
 use crate::open_group::bare_reply;
 use oa_decision::LockChange;
 use oa_model::HResult;
-use oa_owners::{CellKey, ClientCells, Owners};
 use oa_record::Reply;
 use oa_record::laws::{a_replacement_is_no_request, one_request, refused_asks_nothing};
 use oa_table::CellName;
-use oa_turn::{Host, Plan};
+use oa_turn::{CellKey, ClientCells, Host, Owners, Plan};
 use std::alloc::Global;
 
 /// Executes one turn in memory for a body of the client with this number, and returns the reply.

@@ -7,9 +7,9 @@ ghost use Rattle.oa_record.specs.Asks.{tag_at};
 ghost use Rattle.oa_server.specs.Requests.{withdrawn};
 
 use oa_groups::is_full;
-use oa_keeper::Batch;
 use oa_model::HResult;
 use oa_record::{Reply, tag_of};
+use oa_store::Batch;
 use std::alloc::{AllocError, Global};
 
 /// The open group: its events, which are not committed yet, and its replies, which are held back.

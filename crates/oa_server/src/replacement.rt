@@ -9,10 +9,9 @@ ghost use Rattle.oa_turn.specs.Replacing.{Replacement};
 use crate::open_group::bare_reply;
 use crate::starting::text_of;
 use oa_disk::Disk;
-use oa_keeper::DeviceFailed;
 use oa_model::HResult;
 use oa_record::Reply;
-use oa_store::{Store, WriteFault};
+use oa_store::{DeviceFailed, Store, WriteFault};
 use oa_turn::{Host, ReplacementPlan};
 use std::alloc::Global;
 

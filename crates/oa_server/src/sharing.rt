@@ -21,10 +21,10 @@ use crate::storage::Storage;
 use oa_disk::Disk;
 use oa_frame::End;
 use oa_model::HResult;
-use oa_owners::Owners;
 use oa_record::{Reply, is_replacement};
 use oa_share::{SessionEnd, SharedResponder, put_last_of, put_reply_of, serve_clients};
 use oa_stream::{Ahead, Sink, Source, Unwritten};
+use oa_turn::Owners;
 use std::alloc::{AllocError, Global};
 
 /// In memory each reply is written at once. Over a store it is held until its group ends, and then

@@ -185,3 +185,8 @@ pub enum WriteFault {
     #[error("device: {0}")]
     Device(DeviceFault),
 }
+
+/// A call of the device failed, and the store has stopped.
+#[derive(Clone, Copy, Debug, PartialEq, Eq, Error)]
+#[error("the device has failed")]
+pub struct DeviceFailed;

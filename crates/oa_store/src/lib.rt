@@ -3,10 +3,13 @@
 //!
 //! Contract: `Store::open` returns the one table that the contents are a store of (`IsStore`). A
 //! crash in `commit`, `checkpoint` or `upgrade` leaves a store of the table before or after.
+//! `Batch` holds the events of a group, which are committed together.
 //!
-//! Used by oa_keeper, oa_groups and oa_server, and by format, upgrade and dump of the program.
+//! Used by oa_groups and oa_server, and by format, upgrade and dump of the program.
 #![tactic(auto)]
 
+mod batch;
+mod committing;
 mod fault;
 mod formatting;
 mod head;
@@ -16,7 +19,9 @@ mod store;
 mod switching;
 mod upgrading;
 
-pub use fault::{FormatFault, OpenFault, UpgradeFault, WriteFault};
+pub use batch::Batch;
+pub use committing::{commit, make_room};
+pub use fault::{DeviceFailed, FormatFault, OpenFault, UpgradeFault, WriteFault};
 pub use formatting::format;
 pub use reading::inspect;
 pub use store::Store;

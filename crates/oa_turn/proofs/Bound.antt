@@ -33,7 +33,7 @@ use Rattle.oa_bind.specs.Calls.{BoundCallValue}
 use Rattle.oa_bind.specs.Given.{Given, argument_for, at, argument_index, new_value_id}
 use Rattle.oa_bind.specs.Names.{complete, well_named}
 use Rattle.oa_bind.specs.Refusals.{◌>>=◌, each_at}
-use Rattle.oa_fits.specs.Fits.{key_fits}
+use Rattle.oa_keeps.specs.Fits.{key_fits}
 use Rattle.oa_decision.proofs.Keys.{if_both}
 
 -- ---- defaults

@@ -47,10 +47,10 @@ use Rattle.oa_table.specs.Elements.{redimensioned_value}
 use Rattle.oa_table.specs.Events.{applied}
 use Rattle.oa_table.specs.Places.{PlaceValue}
 use Rattle.oa_table.specs.Tables.{ObjectValue, TableValue, class_in, object_at}
-use Rattle.oa_fits.specs.Brings.{brings_fitting, put_fits}
-use Rattle.oa_fits.specs.Fits.{entered, fits, key_fits}
-use Rattle.oa_fits.proofs.Entered.{found_property, selected_entered}
-use Rattle.oa_fits.proofs.Kept.{lock_kept, redim_leaves, unlock_kept, unlocked_alike}
+use Rattle.oa_keeps.specs.Brings.{brings_fitting, put_fits}
+use Rattle.oa_keeps.specs.Fits.{entered, fits, key_fits}
+use Rattle.oa_keeps.proofs.Entered.{found_property, selected_entered}
+use Rattle.oa_keeps.proofs.Kept.{lock_kept, redim_leaves, unlock_kept, unlocked_alike}
 use Rattle.oa_decision.specs.Limits.{allowed}
 use Rattle.oa_decision.specs.declared.decision.Decision.{Decision}
 use Rattle.oa_decision.specs.declared.decision.Decision.TheVariants.{Answer, Change, Relock}
@@ -72,7 +72,7 @@ use Rattle.oa_decision.specs.States.{State}
 use Rattle.oa_decision.specs.Decided.{decided}
 use Rattle.oa_keeps.specs.Keeps.{first_lost}
 use Rattle.oa_keeps.specs.declared.lost.Lost.{Lost}
-use Rattle.oa_fits.proofs.KeptFits.{kept_fits}
+use Rattle.oa_keeps.proofs.KeptFits.{kept_fits}
 use Rattle.oa_keeps.proofs.Losses.{keeps_all}
 use Rattle.oa_turn.specs.Replacing.{Replacement, after_replacement}
 use Rattle.oa_turn.specs.Turns.{Ordinary, Run, Turn}

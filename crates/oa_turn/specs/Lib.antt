@@ -10,3 +10,6 @@ pub mod Beginnings
 pub mod Traces
 pub mod OwnCodes
 pub mod Locking
+pub mod ClientLocks
+pub mod Kept
+pub mod Counts

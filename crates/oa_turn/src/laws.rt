@@ -2,7 +2,7 @@
 ghost use Rattle.std.specs.Prelude.{◌≡◌, ◌↔◌, ℕ, true, Bool, List, None, Ok};
 ghost use Rattle.oa_record.specs.declared.request.Request.{Request as ARequest};
 ghost use Rattle.oa_record.specs.Replies.{ReplyValue};
-ghost use Rattle.oa_fits.specs.Fits.{fits};
+ghost use Rattle.oa_keeps.specs.Fits.{fits};
 ghost use Rattle.oa_turn.specs.Steps.{IsQuiet};
 ghost use Rattle.oa_turn.specs.OwnCodes.{is_own};
 ghost use Rattle.oa_decision.specs.States.{State};
@@ -16,8 +16,8 @@ ghost use Rattle.oa_table.specs.declared.name.CellName.{CellName as AName};
 ghost use Rattle.oa_typelib.specs.Checked.{IsChecked};
 ghost use Rattle.oa_keeps.specs.Keeps.{KeepsLibrary, first_lost};
 
-use oa_fits::laws::changes_that_fit;
 use oa_idl::laws::one_tree;
+use oa_keeps::laws::changes_that_fit;
 use oa_record::laws::one_request;
 
 /// A request that is answered with another code than S_OK leaves no trace. It makes no event and
@@ -40,7 +40,7 @@ pub fn kept_fits()
         → fits new table ≡ true }
     ensures keeps { (new old : TreeValue) → IsChecked new → (first_lost new old ≡ None) ↔ KeepsLibrary new old }
 {
-    oa_fits::laws::kept_fits();
+    oa_keeps::laws::kept_fits();
 }
 
 /// If a table fits its library, it still does after a turn and after a run, for the library of

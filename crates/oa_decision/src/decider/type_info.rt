@@ -5,9 +5,9 @@ ghost use Rattle.oa_decision.specs.TypeInfo.{information};
 
 use super::Decider;
 use crate::decision::{Decision, Undecided};
+use crate::description::description_field;
 use crate::fields::Fields;
 use crate::refusal::Refusal;
-use oa_description::description_field;
 use oa_model::HResult;
 use oa_typelib::DescribeError;
 

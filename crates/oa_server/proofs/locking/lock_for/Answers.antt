@@ -1,6 +1,6 @@
 use Rattle.std.proofs.Common.{true≢false, Some, refl, sym, ap, ◌∙◌}
 use Rattle.oa_decision.specs.declared.decision.LockChange.TheVariants.{Unlock}
-use Rattle.oa_owners.specs.ClientLocks.{with_one}
+use Rattle.oa_turn.specs.ClientLocks.{with_one}
 use Rattle.oa_server.proofs.LockTurns.{locked_turn, no_place}
 use Rattle.oa_server.proofs.LocksBack.{lock_undone}
 use Rattle.oa_turn.specs.Steps.{after_locks}

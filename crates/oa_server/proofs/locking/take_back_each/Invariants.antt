@@ -1,5 +1,5 @@
 use Rattle.std.proofs.Common.{◌≡◌, map}
-use Rattle.oa_owners.specs.Counts.{name_of}
+use Rattle.oa_turn.specs.Counts.{name_of}
 use Rattle.oa_server.proofs.LocksBack.{taken_clients}
 use Rattle.oa_server.specs.Sharing.{taken_back}
 use Rattle.oa_server.proofs.locking.take_back_each.Given as goal

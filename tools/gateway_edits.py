@@ -26,23 +26,18 @@ EDITS = (
         "    free(b->at);\n    *pool -= beyond_base(b->room);\n    *b = (Buffer){0};",
         "    free(b->at);\n    *b = (Buffer){0};",
     ),
-    (
-        "reads-with-unread",
-        "clients.c",
-        " && c->in.mark - c->in.start <= QUEUE && unread(c) <= UNREAD;",
-        " && c->in.mark - c->in.start <= QUEUE;",
-    ),
+    ("reads-with-unread", "clients.c", "QUEUE &&\n                 unread(c) <= UNREAD", "QUEUE"),
     (
         "no-queue-limit",
         "clients.c",
-        "!c->starved && c->in.mark - c->in.start <= QUEUE && unread",
-        "!c->starved && unread",
+        "c->in.mark - c->in.start <= QUEUE &&\n                 unread",
+        "unread",
     ),
     (
         "no-queue-limit-both",
         "clients.c",
         [
-            ("!c->starved && c->in.mark - c->in.start <= QUEUE && unread", "!c->starved && unread"),
+            ("c->in.mark - c->in.start <= QUEUE &&\n                 unread", "unread"),
             (
                 "turns < 4 && c->stage == OPEN && c->in.mark - c->in.start <= QUEUE;",
                 "turns < 4 && c->stage == OPEN;",
@@ -62,7 +57,7 @@ EDITS = (
         "        client_gone(c);\n        counts.live--;\n",
         "        client_gone(c);\n",
     ),
-    ("holder-gone-holds", "clients.c", "    if (c == holder) let_go_on();\n", ""),
+    ("holder-gone-holds", "clients.c", "    if (c == holder)\n        let_go_on();\n", ""),
     ("visit-not-counted", "clients.c", ".visit = c->visit + 1, .next", ".visit = c->visit, .next"),
     (
         "fd-leak-gone",
@@ -81,8 +76,8 @@ EDITS = (
         "no-turn-behind-unread",
         "clients.c",
         (
-            "    if (c->kind < METRICS && unread(c) <= UNREAD && c->in.mark > c->in.start) "
-            "enqueue(c);\n"
+            "    if (c->kind < METRICS && unread(c) <= UNREAD && c->in.mark > c->in.start)\n"
+            "        enqueue(c);\n"
         ),
         "",
     ),
@@ -93,12 +88,7 @@ EDITS = (
         "if (c->stage == ANSWERED && !unread(c)) {",
         "if (c->stage == ANSWERED) {",
     ),
-    (
-        "starved-ignored",
-        "clients.c",
-        "&& !make_room(&c->in, need, &in_bytes, limit);",
-        "&& !make_room(&c->in, need, &in_bytes, SIZE_MAX);",
-    ),
+    ("starved-ignored", "clients.c", "&in_bytes, limit);", "&in_bytes, SIZE_MAX);"),
     (
         "alone-starves",
         "clients.c",
@@ -113,12 +103,7 @@ EDITS = (
     ),
     ("came-not-set", "clients.c", "        c->came = now;\n        counts.in", "        counts.in"),
     ("monitor-unbounded", "clients.c", "n <= 0 || c->in.end + (size_t)n > 8192", "n <= 0"),
-    (
-        "visit-not-asked",
-        "clients.c",
-        "    if (c->fd < 0 || c->visit != visit) return;\n",
-        "    if (c->fd < 0) return;\n",
-    ),
+    ("visit-not-asked", "clients.c", "< 0 || c->visit != visit)\n", "< 0)\n"),
     (
         "deaf-spins",
         "clients.c",
@@ -131,8 +116,8 @@ EDITS = (
     (
         "close-at-once",
         "clients.c",
-        "        if (!n || (n < 0 && errno != EAGAIN && errno != EINTR)) gone(c);\n    } else if",
-        "        if (n) gone(c);\n        else gone(c);\n    } else if",
+        "!n || (n < 0 && errno != EAGAIN && errno != EINTR))",
+        "n)\n            gone(c);\n        else",
     ),
     (
         "one-too-many",
@@ -179,8 +164,8 @@ EDITS = (
     (
         "accept-one-only",
         "clients.c",
-        "        listen_to(c);\n    }\n}\nstatic void read_again",
-        "        listen_to(c);\n        break;\n    }\n}\nstatic void read_again",
+        "        listen_to(c);\n",
+        "        listen_to(c);\n        break;\n",
     ),
     (
         "let-read-deaf",
@@ -188,30 +173,15 @@ EDITS = (
         "    c->starved = false;\n    c->came = now;\n    listen_to(c);\n}",
         "    c->starved = false;\n    c->came = now;\n}",
     ),
-    (
-        "end-reads-nothing",
-        "clients.c",
-        "        else read_client(c);\n        if (c->fd < 0 || c->stage != OPEN) continue;\n",
-        "        if (c->fd < 0 || c->stage != OPEN) continue;\n",
-    ),
+    ("end-reads-nothing", "clients.c", "        else\n            read_client(c);\n", ""),
     (
         "backup-idles",
         "clients.c",
         "milliseconds(c == tracker ? COPYING : 10)",
         "c == tracker ? patience.idle : 10000",
     ),
-    (
-        "hold-for-ever",
-        "clients.c",
-        "if (c == alone || c == holder) patience.idle",
-        "if (c == alone) patience.idle",
-    ),
-    (
-        "in-the-way-off",
-        "clients.c",
-        "    if (verdict == STAYS) return;",
-        "    if (verdict != IDLE) return;",
-    ),
+    ("hold-for-ever", "clients.c", "alone || c == holder", "alone"),
+    ("in-the-way-off", "clients.c", "== STAYS", "!= IDLE"),
     (
         "silent-though-asked",
         "clients.c",
@@ -233,11 +203,11 @@ EDITS = (
         "partial > BASE / 2 ? BODY + BASE - partial : BASE / 2",
         "BODY + BASE - partial",
     ),
-    ("begun-not-set", "framing.c", "    if (in->mark > before) c->begun = now;\n", ""),
+    ("begun-not-set", "framing.c", "    if (in->mark > before)\n        c->begun = now;\n", ""),
     (
         "took-not-set-in-give",
         "framing.c",
-        "    if (c->out.end == c->out.start) c->took = now;\n",
+        "    if (c->out.end == c->out.start)\n        c->took = now;\n",
         "",
     ),
     ("wanted-no-length", "framing.c", "    return 4 + size - partial;\n", "    return BASE;\n"),
@@ -275,8 +245,11 @@ EDITS = (
     (
         "waits-with-nothing",
         "turns.c",
-        "c->waits = c->in.mark > c->in.start && unread(c) <= UNREAD;",
-        "c->waits = unread(c) <= UNREAD;",
+        (
+            "/* else it comes back once it has taken them */\n"
+            "        c->waits = c->in.mark > c->in.start && unread(c) <= UNREAD;"
+        ),
+        "c->waits = unread(c) <= UNREAD; /* else it comes back once it has taken them */",
     ),
     (
         "alone-among-the-others",
@@ -284,12 +257,7 @@ EDITS = (
         "return c == alone ? &own : c->kind == ALONE ? &alones",
         "return c->kind == ALONE ? &alones",
     ),
-    (
-        "ends-alone-wait",
-        "turns.c",
-        "if (!count && !ends_wait) return false;",
-        "if (!count) return false;",
-    ),
+    ("ends-alone-wait", "turns.c", "count && !ends_wait", "count"),
     ("number-of-the-first", "turns.c", "return &at_server[c - clients];", "return at_server;"),
     (
         "sent-in-the-first-ones-name",
@@ -324,15 +292,15 @@ EDITS = (
         "c->weight = c->heaviest > c->weight / 2 ? c->heaviest : c->weight / 2;",
         "c->weight = c->heaviest > c->weight ? c->heaviest : c->weight;",
     ),
-    ("await-not-given-up", "turns.c", "    if (c->stage != OPEN) await_no_more(c);\n", ""),
-    ("answered-touched", "turns.c", "        if (c->touched) continue;\n", ""),
+    ("await-not-given-up", "turns.c", "    if (c->stage != OPEN)\n        await_no_more(c);\n", ""),
+    ("answered-touched", "turns.c", "        if (c->touched)\n            continue;\n", ""),
     (
         "gone-waits-on",
         "turns.c",
-        "    dequeue(c);\n    if (c != alone) return;",
-        "    if (c != alone) return;",
+        "    await_no_more(c);\n    dequeue(c);\n",
+        "    await_no_more(c);\n",
     ),
-    ("no-own-group", "server.c", '    if (setpgid(0, 0)) cannot_start("setpgid");', "    "),
+    ("no-own-group", "server.c", '    if (setpgid(0, 0))\n        cannot_start("setpgid");\n', ""),
     (
         "old-bytes-to-new-server",
         "server.c",
@@ -351,7 +319,7 @@ EDITS = (
         "    server_fd = -1;\n    is_up = false;\n",
         "    server_fd = -1;\n",
     ),
-    ("faulted-starts-again", "server.c", "if (code || counts.faulted) fail", "if (code) fail"),
+    ("faulted-starts-again", "server.c", "code || counts.faulted", "code"),
     (
         "replies-unbounded",
         "turns.c",
@@ -360,35 +328,20 @@ EDITS = (
     ),
     ("lacking-not-told", "turns.c", "            replies_lack_room |= taking == LACKS;\n", ""),
     ("held-stays", "server.c", "    is_held = false;\n    return seconds;", "    return seconds;"),
-    (
-        "held-in-flight",
-        "server.c",
-        "    if (!is_up || in_flight) return;\n    if (tracker",
-        "    if (!is_up || (in_flight && !holder)) return;\n    if (tracker",
-    ),
+    ("held-in-flight", "server.c", "|| in_flight", "|| (in_flight && !holder)"),
     (
         "sends-while-held",
         "turns.c",
         "{is_up, in_flight, holder, ends,",
         "{is_up, in_flight, false, ends,",
     ),
-    (
-        "deadline-never",
-        "server.c",
-        "if (until_batch(now) != 0) return;",
-        "if (until_batch(now) < 0) return;",
-    ),
-    (
-        "restart-in-drain",
-        "server.c",
-        "    if (draining > 0) return;\n    if (counts.starts",
-        "    if (counts.starts",
-    ),
+    ("deadline-never", "server.c", "(until_batch(now) !=", "(until_batch(now) <"),
+    ("restart-in-drain", "server.c", "    if (draining > 0)\n        return;\n", ""),
     (
         "end-hangs",
         "server.c",
-        "    if (in_flight || shutdown(server_fd, SHUT_WR)) close(server_fd);\n",
-        "    shutdown(server_fd, SHUT_WR);\n",
+        "if (in_flight || shutdown(server_fd, SHUT_WR))\n        close(server_fd",
+        "shutdown(server_fd, SHUT_WR",
     ),
     (
         "server-signals-blocked",
@@ -396,8 +349,8 @@ EDITS = (
         "    if (sigprocmask(SIG_SETMASK, &none, NULL) || signal",
         "    if (signal",
     ),
-    ("no-wait-for-store", "server.c", "if (clock_now() > until) _exit(IN_USE);", "_exit(IN_USE);"),
-    ("drain-no-limit", "main.c", " && now < draining + stalled;\n", ";\n"),
+    ("no-wait-for-store", "server.c", "if (clock_now() > until)\n                _exit", "_exit"),
+    ("drain-no-limit", "main.c", " &&\n           now < draining + stalled", ""),
     (
         "fault-status-0",
         "main.c",
@@ -409,7 +362,7 @@ EDITS = (
     (
         "listeners-left-open",
         "main.c",
-        "        if (listeners[i].fd >= 0) close(listeners[i].fd);\n",
+        "        if (listeners[i].fd >= 0)\n            close(listeners[i].fd);\n",
         "",
     ),
     (
@@ -427,9 +380,9 @@ EDITS = (
     ),
     ("groups-first-alone", "sockets.c", "k < size / sizeof *all; k++", "k < 1; k++"),
     ("groups-too-many", "sockets.c", "k < size / sizeof *all; k++", "k < size; k++"),
-    ("no-primary-group", "sockets.c", " || is_among(&groups, peer.gid)", ""),
+    ("no-primary-group", "sockets.c", "&groups, peer.gid) || is_among(more_groups", "more_groups"),
     ("systemd-blocking", "sockets.c", " || fcntl(fd, F_SETFL, O_NONBLOCK))", ")"),
-    ("systemd-no-cloexec", "sockets.c", " || fcntl(fd, F_SETFD, FD_CLOEXEC)", ""),
+    ("systemd-no-cloexec", "sockets.c", "F_SETFD, FD_CLOEXEC) || fcntl(fd, F_SETFL", "F_SETFL"),
     (
         "listener-no-cloexec",
         "sockets.c",
@@ -439,7 +392,7 @@ EDITS = (
     (
         "no-reuseaddr",
         "sockets.c",
-        "setsockopt(l->fd, SOL_SOCKET, SO_REUSEADDR, &yes, sizeof yes) || bind",
+        "setsockopt(l->fd, SOL_SOCKET, SO_REUSEADDR, &yes, sizeof yes) ||\n                 bind",
         "bind",
     ),
     (
@@ -458,26 +411,26 @@ EDITS = (
         "backup-no-hold",
         "backup.c",
         (
-            '    if (strcmp(ask_for_leave(gateway, "hold\\n"), "held")) return NULL;\n'
-            '    if (!complete(copy)) fail(1, "%s: damaged at %llu", copy->store, (unsigned long '
-            "long)(copy->body + copy->gate));\n"
+            'strcmp(ask_for_leave(gateway, "hold\\n"), "held"))\n        return NULL;\n'
+            '    if (!complete(copy))\n        fail(1, "%s: damaged at %llu", copy->store, '
+            "(unsigned long long)(copy->body + copy->gate))"
         ),
         (
-            '    if (!complete(copy)) fail(1, "%s: damaged at %llu", copy->store, (unsigned long '
+            '!complete(copy))\n        fail(1, "%s: damaged at %llu", copy->store, (unsigned long '
             'long)(copy->body + copy->gate));\n    if (strcmp(ask_for_leave(gateway, "hold\\n"), '
-            '"held")) return NULL;\n'
+            '"held"))\n        return NULL'
         ),
     ),
     (
         "backup-no-fsync",
         "backup.c",
-        '    if (fsync(copy.to)) fail(1, "cannot write %s: %s", file, strerror(errno));\n',
+        '    if (fsync(copy.to))\n        fail(1, "cannot write %s: %s", file, strerror(errno));\n',
         "",
     ),
     (
         "backup-no-dir-fsync",
         "backup.c",
-        '    if (fsync(folder)) fail(1, "cannot write %s: %s", file, strerror(errno));\n',
+        '    if (fsync(folder))\n        fail(1, "cannot write %s: %s", file, strerror(errno));\n',
         "",
     ),
     (
@@ -492,7 +445,7 @@ EDITS = (
         "ftruncate(copy->to, 0) ? errno : posix_fallocate",
         "0 ? errno : posix_fallocate",
     ),
-    ("free-by-anybody", "metrics.c", "c == holder && is_held) fprintf", "holder) fprintf"),
+    ("free-by-anybody", "metrics.c", "c == holder && is_held", "holder"),
     (
         "hold-twice",
         "metrics.c",
@@ -514,7 +467,7 @@ EDITS = (
         "    counted.clients += in_batch[place] != batch;\n",
         "    counted.clients++;\n",
     ),
-    ("slow-longest-is-last", "slow.c", "    if (size <= counted.longest) return;\n", ""),
+    ("slow-longest-is-last", "slow.c", "    if (size <= counted.longest)\n        return;\n", ""),
     (
         "slow-unnoted",
         "noting.c",
@@ -528,32 +481,32 @@ EDITS = (
         "code == E_FAILED || code == WRITE_FAULT",
         "code == WRITE_FAULT",
     ),
-    ("keys-unbounded", "keys.c", "        if (!*it) found = it;\n", "        found = it;\n"),
+    ("keys-unbounded", "keys.c", "if (!*it)\n            found", "found"),
     ("keys-three-at-once", "keys.c", "enum { AT_ONCE = 2 };", "enum { AT_ONCE = 3 };"),
     (
         "keys-place-not-used",
         "keys.c",
-        "    if (place) *place = spawn_self(words, c->fd);\n    if (place && *place) return true;",
-        "    if (place && spawn_self(words, c->fd)) return true;",
+        "place)\n        *place = spawn_self(words, c->fd);\n    if (place && *place",
+        "place && spawn_self(words, c->fd)",
     ),
     (
         "keys-ended-not-seen",
         "keys.c",
-        "        if (*it && waitpid(*it, NULL, WNOHANG)) *it = 0;\n",
+        "        if (*it && waitpid(*it, NULL, WNOHANG))\n            *it = 0;\n",
         "",
     ),
     (
         "keys-ended-not-told",
         "keys.c",
-        "if (processes[i] == process) processes[i] = 0;",
-        "(void)process;",
+        "if (processes[i] == process)\n            processes[i] = 0",
+        "(void)process",
     ),
     (
         "keys-never-ended",
         "keys.c",
         [
-            ("        if (*it && waitpid(*it, NULL, WNOHANG)) *it = 0;\n", ""),
-            ("if (processes[i] == process) processes[i] = 0;", "(void)process;"),
+            ("        if (*it && waitpid(*it, NULL, WNOHANG))\n            *it = 0;\n", ""),
+            ("if (processes[i] == process)\n            processes[i] = 0", "(void)process"),
         ],
         None,
     ),
@@ -567,8 +520,8 @@ EDITS = (
     (
         "keys-of-another-object",
         "keys.c",
-        "(char *)(uintptr_t)store, object, guid, member, NULL}",
-        "(char *)(uintptr_t)store, member, guid, object, NULL}",
+        "object,\n                           guid,\n                           member",
+        "member,\n                           guid,\n                           object",
     ),
     ("keys-of-nine-digits", "keys.c", "object=%10[0-9]", "object=%9[0-9]"),
     ("keys-no-braces", "keys.c", "interface=%38[", "interface=%36["),
@@ -577,24 +530,14 @@ EDITS = (
     ("keys-no-carriage-return", "keys.c", 'strchr("\\r\\n", asked[end])', "asked[end] == 10"),
     ("keys-any-count", "keys.c", "count == 3 && end", "end"),
     ("keys-refused-as-busy", "keys.c", "fprintf(to, good ? ", "fprintf(to, !good ? "),
-    ("keys-and-busy", "keys.c", "    if (place && *place) return true;\n", ""),
-    (
-        "pause-never",
-        "turns.c",
-        "double pause_left(double at) { return begins_in(at, true); }",
-        "double pause_left(double at) { return (void)at, 0; }",
-    ),
-    (
-        "pause-of-none",
-        "turns.c",
-        "double pause_left(double at) { return begins_in(at, true); }",
-        "double pause_left(double at) { return until_batch(at); }",
-    ),
+    ("keys-and-busy", "keys.c", "    if (place && *place)\n        return true;\n", ""),
+    ("pause-never", "turns.c", "begins_in(at, true)", "(void)at, 0"),
+    ("pause-of-none", "turns.c", "begins_in(at, true", "until_batch(at"),
     (
         "pause-for-ever",
         "turns.c",
-        "double pause_left(double at) { return begins_in(at, true); }",
-        "double pause_left(double at) { return (void)at, begins_in(answered_at, true); }",
+        " return begins_in(at, true)",
+        " return (void)at, begins_in(answered_at, true)",
     ),
     (
         "pause-with-nothing",
@@ -611,34 +554,29 @@ EDITS = (
     (
         "pause-spun-out",
         "watching.c",
-        "    if (pause > 0 && now + pause > due) return now + pause;\n",
+        "    if (pause > 0 && now + pause > due)\n        return now + pause;\n",
         "",
     ),
     (
         "pause-slept-over",
         "watching.c",
-        "if (pause > 0 && now + pause > due) return now + pause;",
-        "if (now + pause > due) return now + 1;",
+        "pause > 0 && now + pause > due)\n        return now + pause",
+        "now + pause > due)\n        return now + 1",
     ),
     (
         "pause-before-lines-only",
         "watching.c",
-        "    if (is_between_batches()) return;\n    tell_changes(false);\n",
-        "    tell_changes(false);\n",
+        "    if (is_between_batches())\n        return;\n",
+        "",
     ),
     (
         "name-not-looked-at-again",
         "files.c",
         (
-            "    if (!fstatat(folder, aside, &there, AT_SYMLINK_NOFOLLOW) && "
-            "S_ISSOCK(there.st_mode) && is_same_file(&there, known))\n        return"
+            "!fstatat(folder, aside, &there, AT_SYMLINK_NOFOLLOW) && S_ISSOCK(there.st_mode) &&\n"
+            "        is_same_file(&there, known)"
         ),
-        "    if (base)\n        return",
+        "base",
     ),
-    (
-        "name-not-given-back",
-        "files.c",
-        "if (rename_to_free_name(folder, aside, base)) say",
-        "if (!base) say",
-    ),
+    ("name-not-given-back", "files.c", "rename_to_free_name(folder, aside, base)", "!base"),
 )

@@ -184,7 +184,7 @@ class Written(UnderWine):
         """By a planted fault: the file does not get its name."""
         unnamed = (
             "registration.c",
-            [(" && MoveFileExW(made, file, MOVEFILE_REPLACE_EXISTING)", " && file[0] == 0")],
+            [("MoveFileExW(made, file, MOVEFILE_REPLACE_EXISTING)", "file[0] == 0")],
         )
         for room, build in all_planted({"a file gets no name": unnamed}, "build.sh").values():
             with room:

@@ -197,8 +197,7 @@ class Docs(Cases):
 
     @unittest.skipUnless(shutil.which("clang-format-14"), "clang-format-14 is not there")
     def test_how_c_is_laid_out(self):
-        """As Debian's clang-format has it, by the .clang-format of each file's folder or of one
-        above it."""
+        """As Debian's clang-format has it, by the .clang-format of the repository."""
         files = sorted(
             it
             for of in ("bench", "clients", "tests")

@@ -4,8 +4,9 @@
     python3 tools/book.py FOLDER   writes the pages; begin with FOLDER/index.html
     python3 tools/book.py --check  writes them into a temporary folder and checks every link
 
-The first page has the promises of README, with the definitions of each and how much is below them. The other pages have the
-definitions that tools/spec.py finds below the promises, a page for each file of specs/. Beside each definition are its comment and the definitions that use it.
+The first page has the promises of README, with the definitions of each and how much is below them.
+The other pages have the definitions that tools/spec.py finds below the promises, a page for each
+file of specs/. Beside each definition are its comment and the definitions that use it.
 """
 import argparse
 import collections
@@ -19,12 +20,17 @@ sys.dont_write_bytecode = True
 sys.path.insert(0, os.path.dirname(os.path.abspath(__file__)))
 import spec
 
-STYLE = """<!DOCTYPE html><html lang="en"><meta charset="utf-8"><meta name="viewport" content="width=device-width">
+STYLE = """<!DOCTYPE html><html lang="en"><meta charset="utf-8"><meta name="viewport" \
+content="width=device-width">
 <style>
-body { font: 15px/1.5 system-ui, sans-serif; max-width: 76em; margin: 2em auto; padding: 0 1em; color: #222 }
-section { display: grid; grid-template-columns: minmax(0, 3fr) minmax(14em, 1fr); gap: 0 1.5em; border-top: 1px solid #ddd; padding: .6em 0 }
-section h3 { grid-column: 1 / 3; margin: .2em 0 } pre { background: #f6f6f4; padding: .7em; white-space: pre-wrap; margin: 0 }
-aside { color: #255; font-size: .92em } aside small { color: #666 } a { color: #0645ad; text-decoration: none } a:hover { text-decoration: underline }
+body { font: 15px/1.5 system-ui, sans-serif; max-width: 76em; margin: 2em auto; padding: 0 1em; \
+color: #222 }
+section { display: grid; grid-template-columns: minmax(0, 3fr) minmax(14em, 1fr); gap: 0 1.5em; \
+border-top: 1px solid #ddd; padding: .6em 0 }
+section h3 { grid-column: 1 / 3; margin: .2em 0 } pre { background: #f6f6f4; padding: .7em; \
+white-space: pre-wrap; margin: 0 }
+aside { color: #255; font-size: .92em } aside small { color: #666 } a { color: #0645ad; \
+text-decoration: none } a:hover { text-decoration: underline }
 svg text { font: 13px system-ui, sans-serif } .count { fill: #666 } .bar { fill: #8fb3d9 }
 </style>"""
 TOKEN = re.compile(rf"{spec.NAME}(?:\.{spec.NAME})?|[<>&]")
@@ -43,7 +49,10 @@ class Pages:
 
     def __init__(self):
         self.book = spec.Book()
-        self.roots = {number: [root for it in words for root in spec.roots_of(it)] for number, words in spec.SENTENCES.items()}
+        self.roots = {
+            number: [root for it in words for root in spec.roots_of(it)]
+            for number, words in spec.SENTENCES.items()
+        }
         self.promise = self.book.closure([it for some in self.roots.values() for it in some])
         self.below = {it: self.book.closure([it]) for some in self.roots.values() for it in some}
         self.users, self.links = collections.defaultdict(list), 0
@@ -56,12 +65,17 @@ class Pages:
 
     def link(self, key, words=None):
         self.links += 1
-        return f'<a href="{self.page(key[0])}#{html.escape(key[1])}">{html.escape(words or key[1])}</a>'
+        return (
+            f'<a href="{self.page(key[0])}#{html.escape(key[1])}">{html.escape(words or key[1])}</'
+            "a>"
+        )
 
     def linked(self, key):
         """The lines of a definition, each name in them a link."""
         module = key[0]
-        known, modules = {**self.book.imports[module], **self.book.own[module]}, self.book.modules[module]
+        known, modules = {**self.book.imports[module], **self.book.own[module]}, self.book.modules[
+            module
+        ]
 
         def word(found):
             name = found.group(0)
@@ -70,15 +84,26 @@ class Pages:
             to = to and self.book.where(to)
             return self.link(to, name) if to in self.included and to != key else html.escape(name)
 
-        return "\n".join(TOKEN.sub(word, line) for line in self.book.definitions[key].lines if not line.lstrip().startswith("--"))
+        return "\n".join(
+            TOKEN.sub(word, line)
+            for line in self.book.definitions[key].lines
+            if not line.lstrip().startswith("--")
+        )
 
     def definition(self, key):
-        comment = " ".join(it.strip().lstrip("- ") for it in self.book.definitions[key].lines if it.lstrip().startswith("--"))
+        comment = " ".join(
+            it.strip().lstrip("- ")
+            for it in self.book.definitions[key].lines
+            if it.lstrip().startswith("--")
+        )
         users = self.users[key]
-        used = ", ".join(self.link(it) for it in users[:MOST_USERS]) + (f" and {len(users) - MOST_USERS} more" if len(users) > MOST_USERS else "")
+        used = ", ".join(self.link(it) for it in users[:MOST_USERS]) + (
+            f" and {len(users) - MOST_USERS} more" if len(users) > MOST_USERS else ""
+        )
         used = f"Used by {used}" if users else "The definition of a promise"
         return (
-            f'<section id="{html.escape(key[1])}"><h3>{html.escape(key[1])}</h3><pre>{self.linked(key)}</pre>'
+            f'<section id="{html.escape(key[1])}"><h3>{html.escape(key[1])}</h3><pre>'
+            f"{self.linked(key)}</pre>"
             f"<aside><p>{html.escape(comment)}</p><small>{used}</small></aside></section>"
         )
 
@@ -90,11 +115,18 @@ class Pages:
         for place, (number, key) in enumerate(rows):
             top, many = 22 * place, len(self.below[key])
             lines.append(
-                f'<text x="0" y="{top + 15}">{number}</text><a href="{self.page(key[0])}#{html.escape(key[1])}"><text x="20" y="{top + 15}">{html.escape(key[1])}</text></a>'
-                f'<rect class="bar" x="180" y="{top + 3}" width="{max(2, 420 * many // most)}" height="15"/>'
-                f'<text class="count" x="{188 + 420 * many // most}" y="{top + 15}">{many:,} definitions, {self.book.lines(self.below[key]):,} lines</text>'
+                f'<text x="0" y="{top + 15}">{number}</text><a '
+                f'href="{self.page(key[0])}#{html.escape(key[1])}"><text x="20" '
+                f'y="{top + 15}">{html.escape(key[1])}</text></a>'
+                f'<rect class="bar" x="180" y="{top + 3}" width="{max(2, 420 * many // most)}" '
+                'height="15"/>'
+                f'<text class="count" x="{188 + 420 * many // most}" y="{top + 15}">{many:,} '
+                f"definitions, {self.book.lines(self.below[key]):,} lines</text>"
             )
-        return f'<svg role="img" aria-label="definitions below each promise" width="800" height="{22 * len(rows) + 6}">{"".join(lines)}</svg>'
+        return (
+            '<svg role="img" aria-label="definitions below each promise" width="800" '
+            f'height="{22 * len(rows) + 6}">{"".join(lines)}</svg>'
+        )
 
     def write(self, folder):
         os.makedirs(folder, exist_ok=True)
@@ -103,17 +135,29 @@ class Pages:
         for key in self.promise:
             modules[key[0]].append(key)
         for module, keys in modules.items():
-            text = f'{STYLE}<title>{module}</title><h1>{module}</h1><p><a href="index.html">The promises</a></p>' + "".join(map(self.definition, keys))
+            text = (
+                f'{STYLE}<title>{module}</title><h1>{module}</h1><p><a href="index.html">The '
+                "promises</a></p>" + "".join(map(self.definition, keys))
+            )
             self.put(folder, self.page(module), text)
         said = spec.promises(spec.README)
         if {*said} != {*self.roots}:
-            sys.exit(f"README.md has the promises {sorted(said)}, and tools/spec.py {sorted(self.roots)}")
+            sys.exit(
+                f"README.md has the promises {sorted(said)}, and tools/spec.py {sorted(self.roots)}"
+            )
         items = "".join(
-            f'<li value="{number}">{shown(said[number])}<br><small>Begin with {", ".join(map(self.link, some))}.</small></li>'
+            f'<li value="{number}">{shown(said[number])}<br><small>Begin with '
+            f'{", ".join(map(self.link, some))}.</small></li>'
             for number, some in self.roots.items()
         )
-        text = f"<title>The promises of oaut</title><h1>The promises of oaut</h1>{self.picture()}<ol>{items}</ol>"
-        text += f"<p>{len(self.promise):,} definitions in {len(modules)} files, {self.book.lines(self.promise):,} lines.</p>"
+        text = (
+            "<title>The promises of oaut</title><h1>The promises of "
+            f"oaut</h1>{self.picture()}<ol>{items}</ol>"
+        )
+        text += (
+            f"<p>{len(self.promise):,} definitions in {len(modules)} files, "
+            f"{self.book.lines(self.promise):,} lines.</p>"
+        )
         self.put(folder, "index.html", STYLE + text)
         return len(modules) + 1
 
@@ -138,8 +182,12 @@ def dangling(folder):
 
 
 def main():
-    parser = argparse.ArgumentParser(description=__doc__, formatter_class=argparse.RawDescriptionHelpFormatter)
-    parser.add_argument("--check", action="store_true", help="check that every link leads to a definition")
+    parser = argparse.ArgumentParser(
+        description=__doc__, formatter_class=argparse.RawDescriptionHelpFormatter
+    )
+    parser.add_argument(
+        "--check", action="store_true", help="check that every link leads to a definition"
+    )
     parser.add_argument("folder", metavar="FOLDER", nargs="?", help="folder for the pages")
     given = parser.parse_args()
     if given.check == bool(given.folder):
@@ -149,7 +197,15 @@ def main():
         folder = given.folder or room
         many = pages.write(folder)
         wrong = dangling(folder) if given.check else []
-    print("\n".join([*wrong, f"{many} pages, {len(pages.promise)} definitions, {pages.links} links" + (f", {len(wrong)} lead nowhere" if given.check else "")]))
+    print(
+        "\n".join(
+            [
+                *wrong,
+                f"{many} pages, {len(pages.promise)} definitions, {pages.links} links"
+                + (f", {len(wrong)} lead nowhere" if given.check else ""),
+            ]
+        )
+    )
     return int(bool(wrong))
 
 

@@ -1,13 +1,18 @@
 #!/usr/bin/env python3
 """The definitions of README's promises, and how much a reader of each has to read.
 
-    python3 tools/spec.py FOLDER      writes a page for each word below: its definition, and each that it names, down to lists and numbers
-    python3 tools/spec.py --write     writes the two tables of docs/internals/reading-the-proofs.md anew
-    python3 tools/spec.py --check     compares these, holds the counts to the limits below, and compares the promises of README and of that page
+    python3 tools/spec.py FOLDER      writes a page for each word below: its definition, and each
+        that it names, down to lists and numbers
+    python3 tools/spec.py --write     writes the two tables of docs/internals/reading-the-proofs.md
+        anew
+    python3 tools/spec.py --check     compares these, holds the counts to the limits below, and
+        compares the promises of README and of that page
 
-A page begins with the definition itself. Then comes each definition that it names, in that order, each followed by those that it names in turn, once. With
-each is the file that it is copied from. Its comments name its source: a section of a standard, or this project's choice. Definitions of the prover's library,
-structs and enums are named and not copied. Lemmas among the fields of some descriptions of bytes are left out, because they are proofs.
+A page begins with the definition itself. Then comes each definition that it names, in that order,
+each followed by those that it names in turn, once. With each is the file that it is copied from.
+Its comments name its source: a section of a standard, or this project's choice. Definitions of the
+prover's library, structs and enums are named and not copied. Lemmas among the fields of some
+descriptions of bytes are left out, because they are proofs.
 """
 import collections
 import os
@@ -20,13 +25,32 @@ PAGE = f"{ROOT}/docs/internals/reading-the-proofs.md"
 README = f"{ROOT}/README.md"
 
 # the definitions of each promise of README, each with its module; those of a disk count as one
-DISK = tuple(f"oa_disk.specs.Disk.{it}" for it in ("WritesUnsynced", "Syncs", "TakesTime", "FailsAs"))
+DISK = tuple(
+    f"oa_disk.specs.Disk.{it}" for it in ("WritesUnsynced", "Syncs", "TakesTime", "FailsAs")
+)
 SENTENCES = {
     1: ["oa_turn.specs.Turns.Turn", "oa_frame.specs.Sessions.Session"],
-    2: ["oa_history.specs.Lived.IsLived", "oa_history.specs.Survived.IsSurvived", "oa_store.specs.Stores.IsStore", DISK],
-    3: ["oa_linearizable.specs.Crashes.ServersAreDurable", "oa_linearizable.specs.Tables.SeenHistoriesAreLinearizable"],
-    4: ["oa_wire_variant.specs.Variants.Spells", "oa_idl.specs.IsTree.IsTree", "oa_checks.specs.IsLibrary.IsLibrary"],
-    5: ["oa_keeps.specs.Keeps.KeepsLibrary", "oa_server.specs.Answers.ReplacesInStore", "oa_store.specs.Changes.IsUpgrade", "oa_store.specs.Faults.IsBrought"],
+    2: [
+        "oa_history.specs.Lived.IsLived",
+        "oa_history.specs.Survived.IsSurvived",
+        "oa_store.specs.Stores.IsStore",
+        DISK,
+    ],
+    3: [
+        "oa_linearizable.specs.Crashes.ServersAreDurable",
+        "oa_linearizable.specs.Tables.SeenHistoriesAreLinearizable",
+    ],
+    4: [
+        "oa_wire_variant.specs.Variants.Spells",
+        "oa_idl.specs.IsTree.IsTree",
+        "oa_checks.specs.IsLibrary.IsLibrary",
+    ],
+    5: [
+        "oa_keeps.specs.Keeps.KeepsLibrary",
+        "oa_server.specs.Answers.ReplacesInStore",
+        "oa_store.specs.Changes.IsUpgrade",
+        "oa_store.specs.Faults.IsBrought",
+    ],
 }
 # more than this nobody should have to read
 LIMITS = {"Turn": 810, "IsLived": 1_335}
@@ -35,11 +59,19 @@ PROMISE = re.compile(r"^(\d)\. (.*?)(?=^\d\. |^#|^\S|\Z)", re.MULTILINE | re.DOT
 
 # the subjects of IsLived, each with the crates that define it
 SUBJECTS = {
-    "a library: its text, its canonical text, its checks, its members, its description": "tokens idl canonical checks typelib keeps description",
+    "a library: its text, its canonical text, its checks, its members, its description": (
+        "tokens idl canonical checks typelib keeps description"
+    ),
     "decisions on requests, and their effect on the table": "bind coerce decision turn table fits",
-    "encodings of values, events and tables, the disk, the store": "layout image disk journal store keeper",
-    "sessions over streams, commit groups, locks and their owners, recovery, crashes": "stream frame share groups owners server history",
-    "values, and their bytes in a request or reply": "array bstr variant ndr wire_text wire_array wire_variant",
+    "encodings of values, events and tables, the disk, the store": (
+        "layout image disk journal store keeper"
+    ),
+    "sessions over streams, commit groups, locks and their owners, recovery, crashes": (
+        "stream frame share groups owners server history"
+    ),
+    "values, and their bytes in a request or reply": (
+        "array bstr variant ndr wire_text wire_array wire_variant"
+    ),
     "codes, limits, types and their numbers": "model",
     "requests and replies": "record",
 }
@@ -59,7 +91,8 @@ Definition = collections.namedtuple("Definition", "path lines")
 
 
 class Book:
-    """The definitions of all specs/, each by its module and its name; `laws` are those that are none, but are proved."""
+    """The definitions of all specs/, each by its module and its name; `laws` are those that are
+    none, but are proved."""
 
     def __init__(self):
         self.definitions, self.imports, self.modules, self.laws, self.names = {}, {}, {}, set(), {}
@@ -76,11 +109,16 @@ class Book:
         with open(f"{ROOT}/crates/{path}", encoding="utf-8") as file:
             text = file.read()
         self.imports[module] = {}
-        self.modules[module] = {name: of.removeprefix("Rattle.") for of, name in WHOLE.findall(text)}
+        self.modules[module] = {
+            name: of.removeprefix("Rattle.") for of, name in WHOLE.findall(text)
+        }
         for of, names in USE.findall(text):
             for name in filter(None, map(str.strip, names.split(","))):
                 there, _, here = name.partition(" as ")
-                self.imports[module][(here or there).strip()] = (of.removeprefix("Rattle."), there.strip())
+                self.imports[module][(here or there).strip()] = (
+                    of.removeprefix("Rattle."),
+                    there.strip(),
+                )
         # depth: how far definitions are set in here, by the blocks `module` around them
         current, above, depth = None, [], 0
         for line in USE.sub("", text).split("\n"):
@@ -99,7 +137,9 @@ class Book:
             elif words.split()[0] not in ("infixl", "infixr", "infix", "unfolding"):
                 current = self.begun(module, words, current)
                 if current:
-                    self.definitions.setdefault(current, Definition(path, list(above))).lines.append(line)
+                    self.definitions.setdefault(
+                        current, Definition(path, list(above))
+                    ).lines.append(line)
                 above = []
 
     def begun(self, module, words, current):
@@ -113,7 +153,8 @@ class Book:
         return module, name
 
     def named_by(self, key):
-        """The names in a definition, in their order: other definitions, and names that end the reading. Each definition is read once."""
+        """The names in a definition, in their order: other definitions, and names that end the
+        reading. Each definition is read once."""
         if key not in self.names:
             self.names[key] = self.names_in(key)
         return self.names[key]
@@ -127,9 +168,15 @@ class Book:
             known[own] = self.imports[module][own]
         signs = {it: it.strip("◌") for it in known if it.startswith("◌")}
         # steps of a `do` are joined by the operator of the module
-        meant = [it for it, sign in signs.items() if f" {sign} " in text or sign == ">>=" and "←" in text]
+        meant = [
+            it for it, sign in signs.items() if f" {sign} " in text or sign == ">>=" and "←" in text
+        ]
         found = [known.get(it) for it in [*re.findall(rf"(?<![\w.]){NAME}", text), *meant]]
-        found += [(self.modules[module][of], name) for of, name in re.findall(rf"({NAME})\.({NAME})", text) if of in self.modules[module]]
+        found += [
+            (self.modules[module][of], name)
+            for of, name in re.findall(rf"({NAME})\.({NAME})", text)
+            if of in self.modules[module]
+        ]
         return list(dict.fromkeys(self.where(it) for it in found if it))
 
     def where(self, key):
@@ -165,7 +212,12 @@ def roots_of(word):
 def promises(path):
     """The promises that a page lists below its heading, in words, by their numbers."""
     with open(path, encoding="utf-8") as file:
-        section = file.read().split("## What is proved\n", 1)[-1].split("## The promises\n", 1)[-1].split("\n## ", 1)[0]
+        section = (
+            file.read()
+            .split("## What is proved\n", 1)[-1]
+            .split("## The promises\n", 1)[-1]
+            .split("\n## ", 1)[0]
+        )
     return {int(number): " ".join(text.split()) for number, text in PROMISE.findall(section)}
 
 
@@ -175,17 +227,35 @@ def counts(book):
         for roots in map(roots_of, words):
             keys = book.closure(roots)
             name = f"`{roots[0][1]}`" if len(roots) == 1 else "the clauses of `Disk`"
-            rows.append((number, name, len(keys), book.lines(keys), len({it[0] for it in keys}), len({it[0].split(".")[0] for it in keys})))
+            rows.append(
+                (
+                    number,
+                    name,
+                    len(keys),
+                    book.lines(keys),
+                    len({it[0] for it in keys}),
+                    len({it[0].split(".")[0] for it in keys}),
+                )
+            )
     return rows
 
 
 def table(rows):
-    return "\n".join([COLUMNS, "|---|---|---|---|---|---|"] + [f"| {it[0]} | {it[1]} | {it[2]:,} | {it[3]:,} | {it[4]} | {it[5]} |" for it in rows]) + "\n"
+    return (
+        "\n".join(
+            [COLUMNS, "|---|---|---|---|---|---|"]
+            + [f"| {it[0]} | {it[1]} | {it[2]:,} | {it[3]:,} | {it[4]} | {it[5]} |" for it in rows]
+        )
+        + "\n"
+    )
 
 
 def subject_table(book):
     keys = book.closure(roots_of(SENTENCES[2][0]))
-    parts = {it: [key for key in keys if key[0].split(".")[0].removeprefix("oa_") in crates.split()] for it, crates in SUBJECTS.items()}
+    parts = {
+        it: [key for key in keys if key[0].split(".")[0].removeprefix("oa_") in crates.split()]
+        for it, crates in SUBJECTS.items()
+    }
     rows = [f"| {it} | {len(some):,} | {book.lines(some):,} |" for it, some in parts.items()]
     if sum(map(len, parts.values())) != len(keys):
         sys.exit("a crate below IsLived has no subject")
@@ -205,7 +275,13 @@ def write(book, folder):
 
 def main(words):
     book = Book()
-    unknown = [".".join(it) for some in SENTENCES.values() for word in some for it in roots_of(word) if it not in book.definitions]
+    unknown = [
+        ".".join(it)
+        for some in SENTENCES.values()
+        for word in some
+        for it in roots_of(word)
+        if it not in book.definitions
+    ]
     if unknown:
         sys.exit(f"no definition is named {', '.join(unknown)}")
     rows = counts(book)
@@ -213,17 +289,31 @@ def main(words):
         page = file.read()
     if words == ["--write"]:
         with open(PAGE, "w", encoding="utf-8") as file:
-            file.write(SUBJECT_TABLE.sub(subject_table(book), TABLE.sub(table(rows), page, count=1), count=1))
+            file.write(
+                SUBJECT_TABLE.sub(
+                    subject_table(book), TABLE.sub(table(rows), page, count=1), count=1
+                )
+            )
     elif words == ["--check"]:
         is_told = table(rows) in page and subject_table(book) in page
         if not is_told:
-            print("docs/internals/reading-the-proofs.md has other tables: python3 tools/spec.py --write")
-        long = [f"{name}: {many} definitions, for {LIMITS[name.strip('`')]}" for _, name, many, *_ in rows if many > LIMITS.get(name.strip("`"), many)]
+            print(
+                "docs/internals/reading-the-proofs.md has other tables: python3 tools/spec.py "
+                "--write"
+            )
+        long = [
+            f"{name}: {many} definitions, for {LIMITS[name.strip('`')]}"
+            for _, name, many, *_ in rows
+            if many > LIMITS.get(name.strip("`"), many)
+        ]
         print("\n".join(long), end="\n" if long else "")
         told = promises(README)
         is_one_list = told == promises(PAGE) and {*told} == {*SENTENCES}
         if not is_one_list:
-            print("README.md and docs/internals/reading-the-proofs.md have other promises, or other numbers than this file")
+            print(
+                "README.md and docs/internals/reading-the-proofs.md have other promises, or other "
+                "numbers than this file"
+            )
         return 0 if is_told and is_one_list and not long else 1
     elif len(words) == 1 and not words[0].startswith("-"):
         write(book, words[0])

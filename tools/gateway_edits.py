@@ -88,7 +88,7 @@ EDITS = (
         "/* else it comes back once it has taken them */\n        c->waits = c->in.mark > c->in.start && unread(c) <= UNREAD;",
         "c->waits = unread(c) <= UNREAD; /* else it comes back once it has taken them */",
     ),
-    ("alone-among-the-others", "turns.c", "return c == alone ? &own : c->kind == ALONE ? &alones", "return c->kind == ALONE ? &alones"),
+    ("alone-among-the-others", "turns.c", "    if (c == alone)\n        return &own;\n", ""),
     ("ends-alone-wait", "turns.c", "count && !ends_wait", "count"),
     ("number-of-the-first", "turns.c", "return &at_server[c - clients];", "return at_server;"),
     ("sent-in-the-first-ones-name", "turns.c", "oa_send(number_of(c), (uint32_t)(c - clients),", "oa_send(number_of(c), 0,"),

@@ -85,7 +85,7 @@ def cost(line, at, stack):
         return None
     if before == ":" or before == "=" and after == "record" or re.search(r"\(\w[\w' ]*$", head) and re.match(r"[\w' ]*: ", line[at + 1 :]):
         return None
-    if before in ("in", "=") or after in JOINS:
+    if before == "in" or before == "=" and stack[-1:] != ("r",) or after in JOINS:
         kind = 0
     elif before[-1] in ",;" or after == "|":
         kind = 3

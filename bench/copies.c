@@ -30,11 +30,14 @@ static int more(void)
 // Puts so many bytes of the input together; 0 at its end.
 static int gather(unsigned char *to, size_t count)
 {
-    for (size_t at = 0, now; at < count; at += now, taken += now) {
+    size_t at = 0;
+    while (at < count) {
         if (taken == held && !more())
             return 0;
-        now = held - taken < count - at ? held - taken : count - at;
+        size_t now = held - taken < count - at ? held - taken : count - at;
         memcpy(to + at, piece + taken, now);
+        at += now;
+        taken += now;
     }
     return 1;
 }
@@ -65,7 +68,8 @@ static size_t read_line(void)
         end = memchr(piece + taken, '\n', held - taken);
         size_t now = (end ? (size_t)(end - piece) : held) - taken;
         memcpy(line + at, piece + taken, now);
-        at += now, taken += now + (end != NULL);
+        at += now;
+        taken += now + (end != NULL);
     }
     for (size_t i = 0; i < at / 2; i++)
         record[i] = value_of(line[2 * i]) << 4 | value_of(line[2 * i + 1]);
@@ -74,18 +78,24 @@ static size_t read_line(void)
 
 static void put_all(const unsigned char *from, size_t count)
 {
-    for (ssize_t now; count > 0; from += now, count -= now)
-        if ((now = write(1, from, count)) <= 0)
+    while (count > 0) {
+        ssize_t now = write(1, from, count);
+        if (now <= 0)
             exit(1);
+        from += now;
+        count -= (size_t)now;
+    }
 }
 
 static void put_line(size_t count)
 {
-    for (size_t at = 0, now; at < count; at += now) {
+    size_t now;
+    for (size_t at = 0; at < count; at += now) {
         now = count - at < PIECE / 2 ? count - at : PIECE / 2;
-        for (size_t i = 0; i < now; i++)
-            out[2 * i] = digit_of(reply[at + i] >> 4),
-                    out[2 * i + 1] = digit_of(reply[at + i] & 15);
+        for (size_t i = 0; i < now; i++) {
+            out[2 * i] = digit_of(reply[at + i] >> 4);
+            out[2 * i + 1] = digit_of(reply[at + i] & 15);
+        }
         put_all(out, 2 * now);
     }
     put_all((const unsigned char *)"\n", 1);
@@ -95,21 +105,30 @@ int main(int count, char **words)
 {
     int is_lines = count > 1 && !strcmp(words[1], "lines");
     // (long blocks stay with the program, as they do in a session of oaut)
-    mallopt(M_MMAP_THRESHOLD, 1 << 30), mallopt(M_TRIM_THRESHOLD, 1 << 30);
-    line = malloc(2 * LONGEST + 1), record = malloc(LONGEST), reply = malloc(LONGEST);
-    for (size_t length; (length = is_lines ? read_line() : read_raw()) > 0;) {
+    mallopt(M_MMAP_THRESHOLD, 1 << 30);
+    mallopt(M_TRIM_THRESHOLD, 1 << 30);
+    line = malloc(2 * LONGEST + 1);
+    record = malloc(LONGEST);
+    reply = malloc(LONGEST);
+    size_t length;
+    while ((length = is_lines ? read_line() : read_raw()) > 0) {
         if (length >= SHORT) {
             unsigned char *was[TEXTS];
             part = length / TEXTS;
-            for (int i = 0; i < TEXTS; i++)
-                was[i] = texts[i], texts[i] = malloc(part),
+            for (int i = 0; i < TEXTS; i++) {
+                was[i] = texts[i];
+                texts[i] = malloc(part);
                 memcpy(texts[i], record + i * part, part);
+            }
             for (int i = 0; i < TEXTS; i++)
                 free(was[i]);
         } else if (part) {
             for (int i = 0; i < TEXTS; i++)
                 memcpy(reply + i * part, texts[i], part);
-            is_lines ? put_line(TEXTS * part) : put_all(reply, TEXTS * part);
+            if (is_lines)
+                put_line(TEXTS * part);
+            else
+                put_all(reply, TEXTS * part);
         }
     }
     return 0;

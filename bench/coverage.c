@@ -37,7 +37,8 @@ static size_t held;
 
 static void hit(int signal, siginfo_t *info, void *given)
 {
-    (void)signal, (void)info;
+    (void)signal;
+    (void)info;
     greg_t *rip = &((ucontext_t *)given)->uc_mcontext.gregs[REG_RIP];
     size_t place = (uint8_t *)*rip - 1 - text;
     if (place >= length)
@@ -56,8 +57,10 @@ static void watch(void)
         if (header[it].p_type == PT_PHDR)
             base = (size_t)header - header[it].p_vaddr;
     for (size_t it = 0; it < getauxval(AT_PHNUM); it++)
-        if (header[it].p_type == PT_LOAD && header[it].p_flags & PF_X)
-            text = (uint8_t *)base + header[it].p_vaddr, length = header[it].p_memsz;
+        if (header[it].p_type == PT_LOAD && header[it].p_flags & PF_X) {
+            text = (uint8_t *)base + header[it].p_vaddr;
+            length = header[it].p_memsz;
+        }
     kept = malloc(length);
     reached = mmap(NULL, length, PROT_READ | PROT_WRITE, MAP_SHARED | MAP_ANONYMOUS, -1, 0);
     memcpy(kept, text, length);
@@ -83,18 +86,22 @@ static size_t part_of(size_t at, size_t *end)
     /* the place in the input for a place of the file, and the end of that part of the file */
     size_t head[2] = {8192, 16785408}, bank = 20971520, least = 33562624;
     size_t body = held > 1 && image[1] % 2 ? least + bank : least;
+    *end = at + 1;
     if (at == 0)
-        return *end = 1, 0;
+        return 0;
     if (at == 4096)
-        return *end = 4097, 1;
+        return 1;
     for (int it = 0; it < 2; it++)
-        if (at >= head[it] && at < head[it] + 32)
-            return *end = head[it] + 32, 2 + 32 * it + at - head[it];
+        if (at >= head[it] && at < head[it] + 32) {
+            *end = head[it] + 32;
+            return 2 + 32 * it + at - head[it];
+        }
     if (held > 40 && image[2 + 32 * (image[1] % 2) + 7] == '1')
         body = head[image[1] % 2] + 32;
-    if (at >= body)
-        return *end = body + MOST_INPUT, 66 + at - body;
-    return *end = at + 1, MOST_INPUT;
+    if (at < body)
+        return MOST_INPUT;
+    *end = body + MOST_INPUT;
+    return 66 + at - body;
 }
 
 ssize_t pread64(int file, void *into, size_t size, off64_t at)
@@ -151,8 +158,11 @@ static int served(int count, char **words, char **variables)
     int32_t word, child;
     int seeds = 0, seed;
     char path[4096];
-    while (snprintf(path, sizeof path, "%s/%d", getenv("SEEDS"), seeds),
-           (seed = open(path, O_RDONLY)) >= 0) {
+    for (;;) {
+        snprintf(path, sizeof path, "%s/%d", getenv("SEEDS"), seeds);
+        seed = open(path, O_RDONLY);
+        if (seed < 0)
+            break;
         child = fork();
         if (child == 0) {
             dup2(seed, 0);

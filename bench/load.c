@@ -110,9 +110,11 @@ static void ask(Client *c)
     if (c->filled || (pipeline > 1 && c->sent - c->heard > pipeline / 2))
         return;
     double t = now();
-    for (; c->sent - c->heard < pipeline; c->sent++, c->filled += PUT) {
+    while (c->sent - c->heard < pipeline) {
         c->started[c->sent % pipeline] = t;
         put_at(c->out + c->filled, c->sent, (uint32_t)(c - all) + 1, c->sent);
+        c->sent++;
+        c->filled += PUT;
     }
     flush_out(c);
 }
@@ -127,14 +129,17 @@ static void hear(Client *c)
     c->have += (size_t)n;
     double t = now();
     size_t at = 0;
-    for (; c->have - at >= REPLY; at += REPLY, c->heard++, done++) {
+    for (; c->have - at >= REPLY; at += REPLY) {
         if (get32(c->in + at) != REPLY - 4 || get32(c->in + at + 4) != c->heard ||
             get32(c->in + at + 8))
             fail("a reply that is none of its put");
         double steps = (t - c->started[c->heard % pipeline]) * 1e6;
         latencies[steps < STEPS - 1 ? (unsigned)steps : STEPS - 1]++;
+        c->heard++;
+        done++;
     }
-    memmove(c->in, c->in + at, c->have -= at);
+    c->have -= at;
+    memmove(c->in, c->in + at, c->have);
     ask(c);
 }
 
@@ -144,8 +149,11 @@ int main(int argc, char **argv)
         return 1;
     clients = (unsigned)atoi(argv[2]);
     pipeline = (unsigned)atoi(argv[3]);
-    double begun = now(), until = begun + atof(argv[4]), warm_from = begun + 0.1 * atof(argv[4]),
-           warmed = 0;
+    double seconds = atof(argv[4]);
+    double begun = now();
+    double until = begun + seconds;
+    double warm_from = begun + 0.1 * seconds;
+    double warmed = 0;
     struct rlimit files;
     getrlimit(RLIMIT_NOFILE, &files);
     files.rlim_cur = files.rlim_max;

@@ -251,12 +251,7 @@ EDITS = (
         ),
         "c->waits = unread(c) <= UNREAD; /* else it comes back once it has taken them */",
     ),
-    (
-        "alone-among-the-others",
-        "turns.c",
-        "return c == alone ? &own : c->kind == ALONE ? &alones",
-        "return c->kind == ALONE ? &alones",
-    ),
+    ("alone-among-the-others", "turns.c", "    if (c == alone)\n        return &own;\n", ""),
     ("ends-alone-wait", "turns.c", "count && !ends_wait", "count"),
     ("number-of-the-first", "turns.c", "return &at_server[c - clients];", "return at_server;"),
     (

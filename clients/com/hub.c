@@ -559,7 +559,9 @@ static HRESULT STDMETHODCALLTYPE enumerator_next(IEnumVARIANT *self, ULONG wante
     }
     if (fetched)
         *fetched = count;
-    return FAILED(result) ? result : count == wanted ? S_OK : S_FALSE;
+    if (FAILED(result))
+        return result;
+    return count == wanted ? S_OK : S_FALSE;
 }
 
 static HRESULT STDMETHODCALLTYPE enumerator_skip(IEnumVARIANT *self, ULONG count)

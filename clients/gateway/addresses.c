@@ -88,7 +88,8 @@ static const char *read_host(const char *from, const char *end, Address *into)
     snprintf(text, sizeof text, "%.*s", (int)(end - from), from);
     if (*text == '[') {
         name++;
-        if (!(rest = strchr(text, ']')))
+        rest = strchr(text, ']');
+        if (!rest)
             return of_host;
         *rest++ = 0;
     } else
@@ -99,7 +100,8 @@ static const char *read_host(const char *from, const char *end, Address *into)
         port = rest + 1;
         *rest = 0;
     }
-    if ((wrong = decode(name, strlen(name), host, sizeof host)))
+    wrong = decode(name, strlen(name), host, sizeof host);
+    if (wrong)
         return wrong == too_long ? of_host : wrong;
     return take_host(host, port, into) ? of_host : NULL;
 }
@@ -107,11 +109,13 @@ static const char *read_host(const char *from, const char *end, Address *into)
 static const char *read_url(const char *word, Address *into)
 {
     char path[sizeof((struct sockaddr_un *)0)->sun_path];
-    const char *at = after("oaut+unix://", word), *host = after("oaut://", word);
+    const char *at = after("oaut+unix://", word);
+    const char *host = after("oaut://", word);
     if (!at && !host)
         return no_tls;
-    const char *from = at ? at : host, *query = from + strcspn(from, "?"),
-               *slash = from + strcspn(from, "/?");
+    const char *from = at ? at : host;
+    const char *query = from + strcspn(from, "?");
+    const char *slash = from + strcspn(from, "/?");
     if (strchr(from, '#'))
         return "an address has no part after #: write # as %23";
     if (at) {

@@ -183,7 +183,8 @@ static bool find_bank(Copy *copy)
     bool second = copy->selector & 1;
     if (!read_at(copy, copy->head, HEAD_BYTES, HEADS + (second ? BANK_HEADS : 0)))
         return false;
-    uint64_t library = number_at(copy->head + 12), snapshot = number_at(copy->head + 16);
+    uint64_t library = number_at(copy->head + 12);
+    uint64_t snapshot = number_at(copy->head + 16);
     copy->size = number_at(copy->head + 20);
     copy->body = BODIES + (second ? copy->size : 0);
     copy->gate = library + snapshot;
@@ -390,7 +391,8 @@ int backup(const char *control, const char *file)
     Copy copy = {.file = file};
     struct stat store;
     const char *base;
-    int gateway = reach(control), folder = open_folder(file, O_RDONLY, &base);
+    int gateway = reach(control);
+    int folder = open_folder(file, O_RDONLY, &base);
     if (folder < 0)
         fail(1, "cannot write %s: %s", file, strerror(errno));
     snprintf(copy.store, sizeof copy.store, "%.4095s", ask_for_leave(gateway, "store\n"));

@@ -41,7 +41,8 @@ void clear_text(Text *it)
 static void grow(Text *it, size_t size)
 {
     it->room = it->size + size + (it->size + size) / 2 + 4096;
-    if (!(it->at = realloc(it->at, it->room)))
+    it->at = realloc(it->at, it->room);
+    if (!it->at)
         fail(1, "out of memory");
 }
 
@@ -64,9 +65,10 @@ void add_bytes(Text *it, const void *bytes, size_t size)
 static void add_number(Text *it, uint64_t value)
 {
     char digits[20], *at = digits + sizeof digits;
-    do
+    do {
         *--at = (char)('0' + value % 10);
-    while (value /= 10);
+        value /= 10;
+    } while (value);
     add_bytes(it, at, (size_t)(digits + sizeof digits - at));
 }
 
@@ -392,9 +394,11 @@ void change_line(Text *line, Text *value, const Change *it, const char *kept)
     if ((opcode == INVOKE || opcode == PUT_ELEMENT || opcode == REDIM) &&
         read_call(kept, it->size, &call)) {
         unsigned place = opcode == INVOKE ? new_value(&call) : call.count;
-        const Part *new = opcode == PUT_ELEMENT ? &call.value
-                          : place < call.count  ? &call.arguments[place]
-                                                : NULL;
+        const Part *new = NULL;
+        if (opcode == PUT_ELEMENT)
+            new = &call.value;
+        else if (place < call.count)
+            new = &call.arguments[place];
         if (memcmp(kept + INTERFACE, nothing, 16)) {
             ADD(line, ",\"interface\":");
             add_guid(line, kept + INTERFACE);
@@ -438,7 +442,10 @@ void change_head(Change *it, const char *kept, const char *reply, size_t size)
     it->has_member = opcode == INVOKE || opcode == PUT_ELEMENT || opcode == REDIM;
     if (opcode == LIBRARY)
         return;
-    it->object = opcode == CREATE ? (size >= 24 ? get32(reply + 20) : 0) : get32(kept + OBJECT);
+    if (opcode != CREATE)
+        it->object = get32(kept + OBJECT);
+    else
+        it->object = size >= 24 ? get32(reply + 20) : 0;
     if (it->has_member)
         it->member = (int32_t)get32(kept + MEMBER);
     if (opcode == CREATE)

@@ -60,7 +60,8 @@ bool make_room(Buffer *b, size_t more, size_t *pool, size_t limit)
     b->end = filled;
     if (room <= b->room)
         return true;
-    if (!(b->at = realloc(b->at, room)))
+    b->at = realloc(b->at, room);
+    if (!b->at)
         fail(1, "out of memory");
     *pool += beyond_base(room) - beyond_base(b->room);
     b->room = room;
@@ -387,10 +388,14 @@ void let_read(void)
     if (favoured || !room_lacks)
         return;
     room_lacks = false;
-    for (size_t i = 0; i < count && !room_lacks; i++, turn++)
+    for (size_t i = 0; i < count && !room_lacks; i++) {
         room_lacks = clients[turn % count].starved;
-    if (room_lacks)
-        read_again(favoured = &clients[(turn - 1) % count]);
+        turn++;
+    }
+    if (!room_lacks)
+        return;
+    favoured = &clients[(turn - 1) % count];
+    read_again(favoured);
 }
 
 /* The gateway ends: it reads only what has come already. */

@@ -161,8 +161,10 @@ static bool pass_value(Bytes *from, Array *it)
         give_up(CHANGED);
     it->first = take_word(from);
     it->lowest = (int32_t)take_word(from);
-    for (uint32_t i = 1; i < it->bounds; i++, take(from, 4))
+    for (uint32_t i = 1; i < it->bounds; i++) {
         it->row = times(it->row, take_word(from));
+        take(from, 4);
+    }
     uint64_t count = times(it->first, it->row);
     if (count > MOST_ELEMENTS)
         give_up(CHANGED);
@@ -243,12 +245,14 @@ static uint64_t pass_name(Bytes *from, uint32_t number)
     for (uint32_t left = take_short(from); left; left--)
         pass_content(from, take_short(from));
     uint64_t hash = number + 0x9E3779B97F4A7C15u;
-    for (size_t left = (size_t)(from->at - begun), n; left; left -= n, begun += n) {
+    while (begun < from->at) {
         uint64_t piece = 0;
-        n = left < sizeof piece ? left : sizeof piece;
+        size_t left = (size_t)(from->at - begun);
+        size_t n = left < sizeof piece ? left : sizeof piece;
         memcpy(&piece, begun, n);
         hash = (hash ^ piece ^ n) * 0xD6E8FEB86659FD93u;
         hash ^= hash >> 32;
+        begun += n;
     }
     return hash | 1;
 }
@@ -291,8 +295,10 @@ static void seek_cell(Bytes *from, uint32_t number)
     if (number != sought.object || memcmp(begun, sought.of, OF))
         return;
     Entry *it = find(&cells, hash);
-    while (it->size && (it->size != size || memcmp(sought.keys + it->more, key, size)))
-        it = find(&cells, hash += 2);
+    while (it->size && (it->size != size || memcmp(sought.keys + it->more, key, size))) {
+        hash += 2;
+        it = find(&cells, hash);
+    }
     if (it->size)
         return;
     if (sought.size + size > KEYS)
@@ -337,7 +343,8 @@ static void take_cell(Bytes *from, uint32_t number)
     uint64_t key = pass_name(from, number);
     Array array;
     bool is_array = pass_value(from, &array);
-    Entry *cell = find(&cells, key), *object = object_of(number);
+    Entry *cell = find(&cells, key);
+    Entry *object = object_of(number);
     live_cells += !cell->size;
     object->more += !cell->size;
     resize(cell, object, (uint64_t)(from->at - begun));
@@ -416,8 +423,10 @@ static void take_bound(Bytes *from, uint32_t number)
         for (uint64_t i = count; i < before; i++)
             size -= it->sizes[i];
         it->sizes = allocated(realloc(it->sizes, (count + 1) * sizeof *it->sizes));
-        for (uint64_t i = before; i < count; i++)
-            size += it->sizes[i] = it->type == VARIANT ? 2 : 4;
+        for (uint64_t i = before; i < count; i++) {
+            it->sizes[i] = it->type == VARIANT ? 2 : 4;
+            size += it->sizes[i];
+        }
     }
     resize(cell, object_of(number), size);
 }
@@ -563,10 +572,11 @@ static const char *measure_bank(int file, Bank *bank)
     if (!why)
         take_bank(map, bank);
     munmap((void *)(uintptr_t)map, length);
-    return !why              ? NULL
-           : why == CHANGED  ? "damaged, or another bank counts by now"
-           : why == TOO_MANY ? "too many keys"
-                             : "it has too many cells";
+    if (!why)
+        return NULL;
+    if (why == CHANGED)
+        return "damaged, or another bank counts by now";
+    return why == TOO_MANY ? "too many keys" : "it has too many cells";
 }
 
 static double seconds_now(clockid_t clock)
@@ -710,7 +720,8 @@ static void take_text(void)
         due = now + 1;
         return;
     }
-    memcpy(text, coming, (text_size = came) + 1);
+    memcpy(text, coming, came + 1);
+    text_size = came;
     measured = seconds_now(CLOCK_REALTIME);
     double took = value_of(last);
     due = now + (took * APART > 1 ? took * APART : 1);

@@ -55,6 +55,15 @@ static inline uint64_t get64(const char *at)
     return value;
 }
 
+/* The length of the first of whole replies, or 0 if there is none. */
+static inline size_t length_of_reply(const char *at, size_t size)
+{
+    if (size < HEAD)
+        return 0;
+    size_t length = 4 + (size_t)get32(at);
+    return length < HEAD || length > size ? 0 : length;
+}
+
 /* Bytes that have come and not gone yet, from `start` to `end`; up to `mark` they are whole
  * requests. */
 typedef struct buffer {

@@ -199,7 +199,8 @@ static void prepare(void)
     if (!have_descriptors(needed))
         fail(1, "--clients needs %zu descriptors", (size_t)needed + SPARE);
     const char *given = store;
-    if (!(store = realpath(given, NULL)))
+    store = realpath(given, NULL);
+    if (!store)
         fail(1, "cannot read %s: %s", given, strerror(errno));
     check_paths();
     make_places((size_t)MOST_CLIENTS);
@@ -242,10 +243,13 @@ int main(int argc, char **argv)
     bool begun = false;
     for (double next_tick = now, next_relief = now; goes_on();) {
         /* as `pump` saw it: what it began no batch for waits for more */
-        double at = clock_now(), pause = until_batch(now);
-        double next = pause > 0                                    ? now + pause
-                      : replies_lack_room && next_tick > now + 0.1 ? now + 0.1
-                                                                   : next_tick;
+        double at = clock_now();
+        double pause = until_batch(now);
+        double next = next_tick;
+        if (pause > 0)
+            next = now + pause;
+        else if (replies_lack_room && next_tick > now + 0.1)
+            next = now + 0.1;
         if (watching && watchers_due() < next)
             next = watchers_due();
         int n = wait_for_events(events, next - at);

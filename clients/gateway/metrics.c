@@ -97,13 +97,16 @@ static void tell_all(FILE *to, const char *name, const char *help, const Histogr
     uint64_t count = 0;
     double most = it->least;
     fprintf(to, "# HELP oaut_gateway_%s %s\n# TYPE oaut_gateway_%s histogram\n", name, help, name);
-    for (unsigned i = 0; i < BUCKETS; i++, most *= 2)
-        fprintf(to, "oaut_gateway_%s_bucket{le=\"%.6g\"} %lu\n", name, most,
-                count += it->buckets[i]);
+    for (unsigned i = 0; i < BUCKETS; i++) {
+        count += it->buckets[i];
+        fprintf(to, "oaut_gateway_%s_bucket{le=\"%.6g\"} %lu\n", name, most, count);
+        most *= 2;
+    }
     count += it->buckets[BUCKETS];
     fprintf(to,
-            "oaut_gateway_%s_bucket{le=\"+Inf\"} %lu\noaut_gateway_%s_sum "
-            "%.9g\noaut_gateway_%s_count %lu\n",
+            "oaut_gateway_%s_bucket{le=\"+Inf\"} %lu\n"
+            "oaut_gateway_%s_sum %.9g\n"
+            "oaut_gateway_%s_count %lu\n",
             name, count, name, it->sum, name, count);
 }
 
@@ -186,29 +189,34 @@ void answer_monitor(Client *c)
         bool found = !strncmp(asked, "GET /metrics ", 13);
         fprintf(to, "HTTP/1.0 %s\r\nContent-Type: text/plain; version=0.0.4\r\n\r\n",
                 found ? "200 OK" : "404 Not Found");
-        if (found)
+        if (found) {
             tell(to);
-        if (found)
             tell_fullness(to);
+        }
     } else if (c->kind == WATCH && !strncmp(asked, "keys ", 5))
         is_gone = send_keys(c, asked, to);
     else if (c->kind == WATCH)
         begin_watching(c, asked, to);
     else if (!strcmp(asked, "status\n"))
         tell(to);
-    else if (!strcmp(asked, "store\n"))
-        c->stage = (fprintf(to, "%s\n", store), OPEN);
-    else if (!strncmp(asked, "reload\t", 7) || !strcmp(asked, "reload\n"))
+    else if (!strcmp(asked, "store\n")) {
+        fprintf(to, "%s\n", store);
+        c->stage = OPEN;
+    } else if (!strncmp(asked, "reload\t", 7) || !strcmp(asked, "reload\n"))
         reload(asked + 6, to);
-    else if (!strcmp(asked, "track\n") && tracker && tracker != c)
-        c->stage = (fputs("busy\n", to), OPEN);
-    else if (!strcmp(asked, "track\n"))
-        c->stage = (track(c), OPEN);
-    else if (!strcmp(asked, "hold\n") && !holder)
-        c->stage = (holder = c, OPEN);
-    else if (!strcmp(asked, "tail\n") && begin_tail(c))
-        c->stage = (fputs("{}\n", to), OPEN);
-    else if (!strcmp(asked, "free\n") && c == holder && is_held)
+    else if (!strcmp(asked, "track\n")) {
+        if (tracker && tracker != c)
+            fputs("busy\n", to);
+        else
+            track(c);
+        c->stage = OPEN;
+    } else if (!strcmp(asked, "hold\n") && !holder) {
+        holder = c;
+        c->stage = OPEN;
+    } else if (!strcmp(asked, "tail\n") && begin_tail(c)) {
+        fputs("{}\n", to);
+        c->stage = OPEN;
+    } else if (!strcmp(asked, "free\n") && c == holder && is_held)
         fprintf(to, "held for %.3f s\n", let_go_on());
     else
         fputs("refused\n", to);

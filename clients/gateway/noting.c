@@ -124,7 +124,8 @@ static Note *add_note(const Client *c, What what)
     struct page *it = page_now;
     if (it->count == it->room) {
         it->room = it->room ? 2 * it->room : 1024;
-        if (!(it->notes = realloc(it->notes, it->room * sizeof *it->notes)))
+        it->notes = realloc(it->notes, it->room * sizeof *it->notes);
+        if (!it->notes)
             fail(1, "out of memory");
     }
     Note *note = &it->notes[it->count++];
@@ -178,9 +179,11 @@ static Note *next_note(uint32_t place)
 /* Replies have come for a client, or for one that has gone. */
 void replies_leave(uint32_t place, char *replies, size_t size)
 {
-    for (size_t at = 0, n; at < size; at += n) {
+    size_t n;
+    for (size_t at = 0; at < size; at += n) {
+        n = length_of_reply(replies + at, size - at);
         /* the caller that counts them refuses them */
-        if (size - at < HEAD || (n = 4 + (size_t)get32(replies + at)) < HEAD || n > size - at)
+        if (!n)
             return;
         Note *note = matching ? next_note(place) : NULL;
         if (note && note->what == TURNED_DOWN)

@@ -48,28 +48,52 @@ static const char usage[] =
     "none)\n"
     "--program PATH           the server (oaut)\n";
 
-static bool set_option(const char *name, const char *word)
+static bool set_number(const struct number *it, const char *word)
 {
     char *end;
+    *it->value = strtod(word, &end);
+    return !*end && *it->value >= it->least && *it->value <= it->greatest;
+}
+
+static bool set_mode(const char *word)
+{
+    char *end;
+    mode = strtoul(word, &end, 8);
+    return !*end && mode <= 0777;
+}
+
+static bool set_option(const char *name, const char *word)
+{
     for (Kind kind = SHARED; kind < KINDS; kind++)
-        if (!strcmp(name, kinds[kind]))
-            return add_address(kind, word), true;
+        if (!strcmp(name, kinds[kind])) {
+            add_address(kind, word);
+            return true;
+        }
     for (const struct number *it = numbers; it < numbers + sizeof numbers / sizeof *numbers; it++)
         if (!strcmp(name, it->name))
-            return *it->value = strtod(word, &end),
-                   !*end && *it->value >= it->least && *it->value <= it->greatest;
-    if (!strcmp(name, "view"))
-        return page = word, true;
+            return set_number(it, word);
     if (!strcmp(name, "mode"))
-        return mode = strtoul(word, &end, 8), !*end && mode <= 0777;
-    if (!strcmp(name, "program"))
-        return program = word, true;
-    return add_allowed(name, word);
+        return set_mode(word);
+    if (!strcmp(name, "view"))
+        page = word;
+    else if (!strcmp(name, "program"))
+        program = word;
+    else
+        return add_allowed(name, word);
+    return true;
 }
 
 void settle_memory(void)
 {
     memory = (size_t)megabytes << 20;
+}
+
+/* Prints what was asked for to standard output, and ends. */
+static _Noreturn void print(const char *text)
+{
+    if (fputs(text, stdout) < 0 || fflush(stdout))
+        fail(1, "cannot write to standard output: %s", strerror(errno));
+    exit(0);
 }
 
 /* Reads the options, and calls `took` for each. Returns where the words after them begin. */
@@ -79,14 +103,15 @@ int take_options(int argc, char **argv, void (*took)(const char *, const char *)
     char name[24];
     for (; at < argc && !strncmp(argv[at], "--", 2); at++) {
         const char *option = argv[at] + 2, *equals = strchr(option, '=');
-        const char *asked = !strcmp(option, "help")      ? usage
-                            : !strcmp(option, "version") ? "oaut-gateway " VERSION "\n"
-                                                         : NULL;
-        if (asked && (fputs(asked, stdout) < 0 || fflush(stdout)))
-            fail(1, "cannot write to standard output: %s", strerror(errno));
-        if (asked)
-            exit(0);
-        const char *word = equals ? equals + 1 : at + 1 < argc ? argv[++at] : NULL;
+        const char *word = NULL;
+        if (!strcmp(option, "help"))
+            print(usage);
+        if (!strcmp(option, "version"))
+            print("oaut-gateway " VERSION "\n");
+        if (equals)
+            word = equals + 1;
+        else if (at + 1 < argc)
+            word = argv[++at];
         snprintf(name, sizeof name, "%.*s", (int)strcspn(option, "="), option);
         if (!word || !*word || !set_option(name, word))
             fail(2, "--%s %s: no such option, or no such value; see --help", name,

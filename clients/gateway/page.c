@@ -47,12 +47,12 @@ void check_page(void)
 void start_page(void)
 {
     char shared[128], told[128], watched[128];
-    const char *words[] = {"python3",  "-m", "oaut",      "view",
-                           "--listen", page, "--connect", address_of(SHARED, shared, sizeof shared),
-                           store,      NULL, NULL,        NULL,
-                           NULL,       NULL};
-    const char *metrics = address_of(METRICS, told, sizeof told),
-               *watch_address = address_of(WATCH, watched, sizeof watched), **more = words + 9;
+    const char *connect = address_of(SHARED, shared, sizeof shared);
+    const char *metrics = address_of(METRICS, told, sizeof told);
+    const char *watch_address = address_of(WATCH, watched, sizeof watched);
+    const char *words[14] = {"python3", "-m",        "oaut",  "view", "--listen",
+                             page,      "--connect", connect, store};
+    const char **more = words + 9;
     pid_t own = getpid();
     if (metrics) {
         *more++ = "--metrics";

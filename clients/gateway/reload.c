@@ -66,8 +66,10 @@ static bool take(Settings *it, const char *option, FILE *to)
     char *end;
     if (who) {
         unsigned long id = strtoul(word, &end, 10);
-        if (who->count == ALLOWED || !*word || *end || id >= UINT32_MAX)
-            return fprintf(to, "refused: --%.*s %s\n", (int)length, option, word), false;
+        if (who->count == ALLOWED || !*word || *end || id >= UINT32_MAX) {
+            fprintf(to, "refused: --%.*s %s\n", (int)length, option, word);
+            return false;
+        }
         who->ids[who->count++] = (uint32_t)id;
         return true;
     }
@@ -78,13 +80,14 @@ static bool take(Settings *it, const char *option, FILE *to)
         it->values[i] = strtod(word, &end);
         if (*word && !*end && it->values[i] >= number->least && it->values[i] <= number->greatest)
             return true;
-        return fprintf(to, "refused: --%s %s\n", number->name, word), false;
+        fprintf(to, "refused: --%s %s\n", number->name, word);
+        return false;
     }
     if (was_given(option))
         return true;
-    return fprintf(to, "refused: --%.*s %s is for a start: restart the gateway\n", (int)length,
-                   option, word),
-           false;
+    fprintf(to, "refused: --%.*s %s is for a start: restart the gateway\n", (int)length, option,
+            word);
+    return false;
 }
 
 /* A line of a control socket: options, each after a tab. The command sends all limits, also those
@@ -102,9 +105,11 @@ void reload(const char *line, FILE *to)
     strcpy(words, line);
     words[strcspn(words, "\n")] = 0;
     char *rest = words;
-    for (char *option; (option = strsep(&rest, "\t"));)
+    while (rest) {
+        const char *option = strsep(&rest, "\t");
         if (*option && !take(&it, option, to))
             return;
+    }
     if ((it.users.count || it.groups.count) && is_nameless(false)) {
         fputs("refused: TCP clients have no user: no --allow-user, --allow-group\n", to);
         return;
@@ -150,7 +155,8 @@ int ask_to_reload(int argc, char **argv)
     char *line = NULL;
     size_t size = 0;
     const char *control = argv[1];
-    if (!(asked = open_memstream(&line, &size)))
+    asked = open_memstream(&line, &size);
+    if (!asked)
         fail(1, "out of memory");
     fputs("reload", asked);
     if (take_options(argc - 1, argv + 1, send_fixed) != argc - 1)

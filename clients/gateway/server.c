@@ -73,7 +73,9 @@ static int dump_library(int library)
  * locked; then runs the server with the store's library. */
 static _Noreturn void become_server(int socket, pid_t gateway)
 {
-    int file = open(store, O_RDWR | O_CLOEXEC), library = memfd_create("library", 0), end = 0;
+    int file = open(store, O_RDWR | O_CLOEXEC);
+    int library = memfd_create("library", 0);
+    int end = 0;
     char name[40];
     sigset_t none;
     sigemptyset(&none);
@@ -120,13 +122,15 @@ void start_server(void)
     starts[0] = sent = asked = now;
     counts.starts++;
     pid_t own = getpid();
-    if ((server = fork()) < 0)
+    server = fork();
+    if (server < 0)
         fail(1, "cannot start a process: %s", strerror(errno));
     if (!server)
         become_server(pair[1], own);
     close(pair[1]);
     server_fd = pair[0];
-    watch_surely(server_fd, EPOLL_CTL_ADD, server_events = EPOLLIN, SERVER);
+    server_events = EPOLLIN;
+    watch_surely(server_fd, EPOLL_CTL_ADD, server_events, SERVER);
     server_came();
 }
 
@@ -250,8 +254,10 @@ void write_server(void)
     }
     give_room_back(&to_server, &server_bytes, false);
     uint32_t events = EPOLLIN | (to_server.end && !is_deaf ? EPOLLOUT : 0u);
-    if (has_server() && events != server_events)
-        watch_surely(server_fd, EPOLL_CTL_MOD, server_events = events, SERVER);
+    if (has_server() && events != server_events) {
+        server_events = events;
+        watch_surely(server_fd, EPOLL_CTL_MOD, events, SERVER);
+    }
 }
 
 /* ---- backups */
@@ -354,7 +360,8 @@ static void answer(void)
 {
     struct queue answered = TAILQ_HEAD_INITIALIZER(answered);
     bool all = hand_out(&answered);
-    for (Client *c; (c = TAILQ_FIRST(&answered));) {
+    while (!TAILQ_EMPTY(&answered)) {
+        Client *c = TAILQ_FIRST(&answered);
         TAILQ_REMOVE(&answered, c, answer);
         c->touched = c->starved = false;
         speak(c);
@@ -393,7 +400,8 @@ void read_server(void)
             server_ended();
             return;
         }
-        from_server.end += got = (size_t)n;
+        got = (size_t)n;
+        from_server.end += got;
     }
     if (in_flight)
         answer();

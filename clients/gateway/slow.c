@@ -20,7 +20,9 @@ static uint64_t *in_batch;
 void count_request(uint32_t place, const char *record, size_t size)
 {
     uint16_t opcode = 0;
-    if (!in_batch && !(in_batch = calloc(most_places, sizeof *in_batch)))
+    if (!in_batch)
+        in_batch = calloc(most_places, sizeof *in_batch);
+    if (!in_batch)
         fail(1, "out of memory");
     if (counted.number != batch) {
         memset(&counted, 0, sizeof counted);

@@ -35,7 +35,9 @@ bool add_allowed(const char *option, const char *word)
 {
     bool reads = !strncmp(option, "allow-read-", 11),
          user = !strcmp(option, reads ? "allow-read-user" : "allow-user");
-    Allowed *to = user ? (reads ? &read_users : &users) : (reads ? &read_groups : &groups);
+    Allowed *to = reads ? &read_groups : &groups;
+    if (user)
+        to = reads ? &read_users : &users;
     const struct passwd *one = user ? getpwnam(word) : NULL;
     const struct group *some = user ? NULL : getgrnam(word);
     char *end;
@@ -44,15 +46,21 @@ bool add_allowed(const char *option, const char *word)
         return false;
     if (to->count == ALLOWED || (!one && !some && (*end || number >= UINT32_MAX)))
         return false;
-    to->ids[to->count++] = one ? one->pw_uid : some ? some->gr_gid : (uint32_t)number;
+    uint32_t id = (uint32_t)number;
+    if (one)
+        id = one->pw_uid;
+    else if (some)
+        id = some->gr_gid;
+    to->ids[to->count++] = id;
     return true;
 }
 
 /* Takes over the sockets that systemd passes. */
 static void take_those_of_systemd(void)
 {
-    const char *pid = getenv("LISTEN_PID"), *count = getenv("LISTEN_FDS"),
-               *names = getenv("LISTEN_FDNAMES");
+    const char *pid = getenv("LISTEN_PID");
+    const char *count = getenv("LISTEN_FDS");
+    const char *names = getenv("LISTEN_FDNAMES");
     for (int fd = 3; pid && count && strtol(pid, NULL, 10) == getpid() && fd < 3 + atoi(count);
          fd++) {
         struct listener *l = &listeners[listener_count];
@@ -63,7 +71,11 @@ static void take_those_of_systemd(void)
         listener_count++;
         *l = (struct listener){.fd = fd, .size = sizeof l->name, .folder = -1};
         for (Kind kind = HEX; kind < KINDS; kind++) {
-            const char *name = kind == HEX ? "hex" : kind == READ ? "read" : kinds[kind];
+            const char *name = kinds[kind];
+            if (kind == HEX)
+                name = "hex";
+            else if (kind == READ)
+                name = "read";
             if (length == strlen(name) && !strncmp(names, name, length))
                 l->kind = kind;
         }

@@ -138,7 +138,9 @@ static void await_no_more(Client *c)
 
 static struct line *line_of(const Client *c)
 {
-    return c == alone ? &own : c->kind == ALONE ? &alones : &shared;
+    if (c == alone)
+        return &own;
+    return c->kind == ALONE ? &alones : &shared;
 }
 
 void enqueue(Client *c)
@@ -264,11 +266,13 @@ static bool waits_for_backup(size_t before, const char *request, size_t length)
     enum { ELEMENTS = 1 << 19, MOST_ADDED = 1 << 17 };
 
     unsigned opcode = opcode_of(request, length);
-    size_t more = opcode == REDIM                             ? ELEMENTS + default_bytes
-                  : opcode == INVOKE || opcode == PUT_ELEMENT ? default_bytes
-                                                              : 0;
+    size_t more = 0;
     if (!is_tracked)
         return false;
+    if (opcode == INVOKE || opcode == PUT_ELEMENT || opcode == REDIM)
+        more = default_bytes;
+    if (opcode == REDIM)
+        more += ELEMENTS;
     if (before > 0 && (before + length > TRACKED_BYTES || added + more > MOST_ADDED))
         return true;
     added += more;
@@ -278,10 +282,12 @@ static bool waits_for_backup(size_t before, const char *request, size_t length)
 /* Whether more than few requests of a client wait. */
 static bool floods(const Client *c)
 {
-    size_t at = c->in.start;
-    for (unsigned count = 0; at < c->in.mark; count++, at += 4 + (size_t)get32(c->in.at + at))
+    unsigned count = 0;
+    for (size_t at = c->in.start; at < c->in.mark; at += 4 + (size_t)get32(c->in.at + at)) {
         if (count == FEW)
             return true;
+        count++;
+    }
     return false;
 }
 
@@ -293,7 +299,9 @@ static unsigned most_flooded(void)
     double most = quick * 150e3;
     if (now > few_wait + 0.05)
         return BATCH;
-    return most < FLOOD ? FLOOD : most > BATCH ? BATCH : (unsigned)most;
+    if (most < FLOOD)
+        return FLOOD;
+    return most > BATCH ? BATCH : (unsigned)most;
 }
 
 /* The next requests of a client go out, `left` at most; how many they are. */
@@ -354,8 +362,10 @@ bool begin_batch(void)
         alone = c;
         enqueue(c);
     }
-    for (Client *c;
-         count < BATCH && to_server.end - to_server.start < BATCH_BYTES && (c = next_turn(line));) {
+    while (count < BATCH && to_server.end - to_server.start < BATCH_BYTES) {
+        Client *c = next_turn(line);
+        if (!c)
+            break;
         unsigned taken = unread(c) > UNREAD ? 0 : take_turn(c, BATCH - count);
         count += taken;
         /* else it comes back once it has taken them */
@@ -389,13 +399,16 @@ void batch_took(double seconds)
 static unsigned note_replies(const char *replies, size_t size, size_t *most)
 {
     unsigned count = 0;
+    size_t n;
     *most = 0;
-    for (size_t at = 0, n; at < size; at += n, count++) {
-        if (size - at < HEAD || (n = 4 + (size_t)get32(replies + at)) < HEAD || n > size - at)
+    for (size_t at = 0; at < size; at += n) {
+        n = length_of_reply(replies + at, size - at);
+        if (!n)
             fail(3, "the server's frames make no sense");
         if (n > *most)
             *most = n;
         note(get32(replies + at + 8));
+        count++;
     }
     return count;
 }
@@ -499,7 +512,9 @@ void client_gone(Client *c)
 /* A server was started: once it answers this, it serves. */
 void server_came(void)
 {
-    if (!at_server && !(at_server = calloc(most_places, sizeof *at_server)))
+    if (!at_server)
+        at_server = calloc(most_places, sizeof *at_server);
+    if (!at_server)
         fail(1, "out of memory");
     oa_restart(at_server, (size_t)(end_of_clients - clients));
     if (noting)

@@ -100,7 +100,8 @@ static uint32_t class_of(const char *guid)
     for (uint32_t i = 0; i < class_count; i++)
         if (!memcmp(classes[i], guid, 16))
             return i;
-    if (!(classes = realloc(classes, (class_count + 1) * sizeof *classes)))
+    classes = realloc(classes, (class_count + 1) * sizeof *classes);
+    if (!classes)
         fail(1, "out of memory");
     memcpy(classes[class_count], guid, 16);
     return class_count++;
@@ -112,7 +113,8 @@ static void put_object(uint32_t object, uint32_t class)
         struct slot *old = slots;
         size_t count = slot_count;
         slot_count = count ? 2 * count : LEAST_OBJECTS;
-        if (!(slots = calloc(slot_count, sizeof *slots)))
+        slots = calloc(slot_count, sizeof *slots);
+        if (!slots)
             fail(1, "out of memory");
         for (size_t i = 0; i < count; i++)
             if (old[i].object)
@@ -451,8 +453,8 @@ void tell_watchers(void)
         left_in_turn = watcher_count;
         is_behind = has_more = false;
     }
-    for (Watcher *it; left_in_turn && time < begun + SLICE && (it = TAILQ_FIRST(&all));
-         time = clock_now()) {
+    while (left_in_turn && time < begun + SLICE && !TAILQ_EMPTY(&all)) {
+        Watcher *it = TAILQ_FIRST(&all);
         left_in_turn--;
         TAILQ_REMOVE(&all, it, turn);
         TAILQ_INSERT_TAIL(&all, it, turn);
@@ -460,6 +462,7 @@ void tell_watchers(void)
             is_behind = has_more = true;
         if (in_flight && server_has_come())
             break;
+        time = clock_now();
     }
     if (!watcher_count)
         left_in_turn = 0;
@@ -552,10 +555,14 @@ bool read_number(const char *word, long long least, long long greatest, long lon
 static bool take_word(Watcher *it, const char *word)
 {
     long long value;
-    if (!strcmp(word, "values"))
-        return it->filter.values = true;
-    if (!strncmp(word, "class=", 6))
-        return it->filter.by_class = read_guid(word + 6, it->filter.class);
+    if (!strcmp(word, "values")) {
+        it->filter.values = true;
+        return true;
+    }
+    if (!strncmp(word, "class=", 6)) {
+        it->filter.by_class = read_guid(word + 6, it->filter.class);
+        return it->filter.by_class;
+    }
     if (!strncmp(word, "object=", 7)) {
         it->filter.by_object = read_number(word + 7, 0, UINT32_MAX, &value);
         it->filter.object = (uint32_t)value;
@@ -579,8 +586,10 @@ void begin_watching(Client *c, const char *asked, FILE *to)
     snprintf(line, sizeof line, "%.*s", (int)strcspn(asked, "\r\n"), asked);
     const char *word = strsep(&rest, " ");
     bool good = !strcmp(word, "watch");
-    while (good && (word = strsep(&rest, " ")))
+    while (good && rest) {
+        word = strsep(&rest, " ");
         good = !*word || take_word(it, word);
+    }
     if (!good) {
         fputs("{\"refused\":\"a line is needed: watch [values] [class=GUID] [object=N] "
               "[member=N]\"}\n",
@@ -618,7 +627,8 @@ void prepare_watching(void)
     note_or_not();
     if (!watching)
         return;
-    if (!(ring = calloc(1, RING)))
+    ring = calloc(1, RING);
+    if (!ring)
         fail(1, "out of memory");
     if (getrandom(&epoch, sizeof epoch, GRND_NONBLOCK) != sizeof epoch) {
         struct timespec it;

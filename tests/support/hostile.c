@@ -253,7 +253,8 @@ int unlink(const char *path)
 /* a file that cannot be closed is closed all the same, as Linux has it */
 int close(int file)
 {
-    int failed = fails("close", file, NULL), error = errno;
+    int failed = fails("close", file, NULL);
+    int error = errno;
     int told = syscall(SYS_close, file);
     if (!failed)
         return told;

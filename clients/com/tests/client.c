@@ -260,7 +260,8 @@ static void arrays(void)
         for (shape = 0; shape < 3; shape++) {
             SAFEARRAYBOUND bounds[2] = {{shape == 2 ? 0 : 2, -1}, {3, 5}};
             SAFEARRAY *array = SafeArrayCreate(CELLS[i], shape ? 2 : 1, bounds);
-            ULONG k, count = shape == 2 ? 0 : shape ? 6 : 2;
+            static const ULONG counts[] = {2, 6, 0};
+            ULONG k, count = counts[shape];
 
             for (k = 0; k < count; k++)
                 fill_cell(array, CELLS[i], k);
@@ -771,7 +772,11 @@ static VARIANT some_value(unsigned kind, unsigned number)
         V_VT(&made) = VT_DECIMAL;
         return made;
     }
-    V_VT(&made) = VT_ARRAY | (kind == 3 ? VT_I2 : kind < 6 ? VT_BSTR : VT_VARIANT);
+    V_VT(&made) = VT_ARRAY | VT_VARIANT;
+    if (kind == 3)
+        V_VT(&made) = VT_ARRAY | VT_I2;
+    else if (kind < 6)
+        V_VT(&made) = VT_ARRAY | VT_BSTR;
     V_ARRAY(&made) = SafeArrayCreate(V_VT(&made) & (VARTYPE)~VT_ARRAY, 2, bounds);
     for (i = 0; i < 6; i++)
         fill_cell(V_ARRAY(&made), V_VT(&made) & (VARTYPE)~VT_ARRAY, i);

@@ -287,8 +287,9 @@ static void serve(int listening)
 
             if (way < 30)
                 sent = spoiled(whole.bytes, whole.length);
-            told = way >= 37 && way < 40 ? any(4) ? any(0x2000000) : 0xFFFFFFFF - any(20)
-                                         : (UINT32)sent.length;
+            told = (UINT32)sent.length;
+            if (way >= 37 && way < 40)
+                told = any(4) ? any(0x2000000) : 0xFFFFFFFF - any(20);
             if (way == 40)
                 usleep(15000); /* late */
             if (way == 41) {
@@ -340,18 +341,22 @@ static VARIANT any_scalar(void)
 
         memcpy(&V_UI8(&made), &number, sizeof number);
     }
-    V_VT(&made) = any(4) ? VT_R8 : any(2) ? VT_R4 : VT_DATE;
+    V_VT(&made) = VT_R8;
+    if (!any(4))
+        V_VT(&made) = any(2) ? VT_R4 : VT_DATE;
     return made;
 }
 
 static VARIANT any_argument(void)
 {
     SAFEARRAYBOUND bounds[3] = {{any(4), 0}, {any(3), -1}, {any(3), 5}};
-    VARTYPE type = any(2) ? VT_VARIANT : any(2) ? VT_R8 : VT_R4;
+    VARTYPE type = any(2) ? VT_VARIANT : VT_R8;
     UINT dimensions = 1 + any(3), i, cells = 1;
     SAFEARRAY *array;
     VARIANT made;
 
+    if (type == VT_R8 && any(2))
+        type = VT_R4;
     if (any(3))
         return any_scalar();
     array = SafeArrayCreate(type, dimensions, bounds);

@@ -12,10 +12,12 @@
 #include <netdb.h>
 
 #undef assert
-#define assert(it)                                                               \
-    do {                                                                         \
-        if (!(it))                                                               \
-            fprintf(stderr, "addresses: line %d: %s\n", __LINE__, #it), abort(); \
+#define assert(it)                                                      \
+    do {                                                                \
+        if (!(it)) {                                                    \
+            fprintf(stderr, "addresses: line %d: %s\n", __LINE__, #it); \
+            abort();                                                    \
+        }                                                               \
     } while (0)
 
 static void print(const char *word, FILE *to)

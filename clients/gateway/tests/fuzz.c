@@ -6,15 +6,16 @@
  * Without words it reads one input (AFL++ gives many), else it makes so many. Compiled with
  * -DFUZZED and -fsanitize=fuzzer it is a target of libFuzzer. An input says, byte by byte, which
  * client sends what, in which pieces it comes, when a batch begins and how much of the server's
- * replies has come. The server keeps locks by their clients: none is left once all have
- * gone. */
+ * replies has come. The server keeps locks by their clients: none is left after all have gone. */
 #include "../gateway.h"
 
 #undef assert
-#define assert(it)                                                          \
-    do {                                                                    \
-        if (!(it))                                                          \
-            fprintf(stderr, "fuzz: line %d: %s\n", __LINE__, #it), abort(); \
+#define assert(it)                                                 \
+    do {                                                           \
+        if (!(it)) {                                               \
+            fprintf(stderr, "fuzz: line %d: %s\n", __LINE__, #it); \
+            abort();                                               \
+        }                                                          \
     } while (0)
 
 /* MARK: with whose number it is the highest byte of a tag; it stands in no raw bytes, as the
@@ -45,13 +46,15 @@ static size_t seen_bytes, fake_bytes, there_bytes, locks[CELLS], given_back;
 static Buffer fake; /* replies of the server that have not come yet */
 static const uint8_t *input;
 static size_t left;
-/* in which visit the third client had the server alone behind the last batch, and one more; else
- * 0 */
+/* in which visit the third client had the server alone behind the last batch, plus 1; else 0 */
 static uint32_t alone_visit;
 
 static unsigned byte(void)
 {
-    return left ? left--, *input++ : 0;
+    if (!left)
+        return 0;
+    left--;
+    return *input++;
 }
 
 static uint32_t get(const char *at)
@@ -190,7 +193,8 @@ static void comes(Man *m, size_t most)
         n = n < most ? n : most;
         memcpy(to, m->pipe, n);
         add(&m->seen, &seen_bytes, m->pipe, n);
-        memmove(m->pipe, m->pipe + n, m->filled -= n);
+        m->filled -= n;
+        memmove(m->pipe, m->pipe + n, m->filled);
         most -= n;
         look_at(m);
         bytes_came(c, signs, n);
@@ -333,7 +337,8 @@ static void serve(void)
 {
     while (to_server.end > to_server.start) {
         char *at = to_server.at + to_server.start;
-        uint32_t number = get(at), size = get(at + 4);
+        uint32_t number = get(at);
+        uint32_t size = get(at + 4);
         Man *from = number < MEN ? &men[number] : NULL;
         assert(to_server.end - to_server.start >= 8 + (size_t)size && size <= 1 << 20);
         assert(from || !size);
@@ -366,8 +371,11 @@ static void hears(size_t most)
     if (fake.start == fake.end)
         fake.start = fake.end = 0;
     hand_out(&answered);
-    for (Client *c; (c = TAILQ_FIRST(&answered)); c->touched = false)
+    while (!TAILQ_EMPTY(&answered)) {
+        Client *c = TAILQ_FIRST(&answered);
         TAILQ_REMOVE(&answered, c, answer);
+        c->touched = false;
+    }
     size_t due = 0;
     for (Man *m = men; m < men + MEN; m++)
         due += m->c->answered == batch;

@@ -18,10 +18,12 @@
 #include <poll.h>
 
 #undef assert
-#define assert(it)                                                             \
-    do {                                                                       \
-        if (!(it))                                                             \
-            fprintf(stderr, "sockets: line %d: %s\n", __LINE__, #it), abort(); \
+#define assert(it)                                                    \
+    do {                                                              \
+        if (!(it)) {                                                  \
+            fprintf(stderr, "sockets: line %d: %s\n", __LINE__, #it); \
+            abort();                                                  \
+        }                                                             \
     } while (0)
 
 enum { PEERS = 12, PIECES = 1 << 16, NUMBERED = 64 };
@@ -37,8 +39,11 @@ typedef struct part {
 
 static void add(Part *to, const void *some, size_t size)
 {
-    if (to->size + size > to->room)
-        assert((to->at = realloc(to->at, to->room = 2 * (to->size + size))));
+    if (to->size + size > to->room) {
+        to->room = 2 * (to->size + size);
+        to->at = realloc(to->at, to->room);
+        assert(to->at);
+    }
     if (size)
         memcpy(to->at + to->size, some, size);
     to->size += size;
@@ -71,7 +76,13 @@ static void add_reply(Part *out, uint32_t number, const char *record, size_t siz
     static char reply[1 << 20];
     static const uint32_t codes[] = {0, 0, 0, 0x80004005, 0x8002000D, 0x8003001D, 0x800706F7, 0};
     unsigned kind = size < 16 ? 0 : (unsigned char)record[12];
-    size_t more = kind < 200 ? 0 : kind < 240 ? 4096 : kind < 250 ? 1 << 16 : (1 << 20) - 20;
+    size_t more = 0;
+    if (kind >= 250)
+        more = (1 << 20) - 20;
+    else if (kind >= 240)
+        more = 1 << 16;
+    else if (kind >= 200)
+        more = 4096;
     uint32_t words[4] = {(uint32_t)(16 + more), size < 8 ? 0 : number_at(record + 4),
                          codes[kind & 7]};
     memcpy(reply, words, sizeof words);
@@ -103,12 +114,14 @@ static _Noreturn void serve(void)
     static Part in, out, had[NUMBERED];
     static bool over[NUMBERED];
     static char piece[PIECES];
-    for (ssize_t n; (n = read(0, piece, sizeof piece)) > 0;) {
+    ssize_t n;
+    while ((n = read(0, piece, sizeof piece)) > 0) {
         add(&in, piece, (size_t)n);
         size_t at = 0;
         while (in.size - at >= 8 && in.size - at - 8 >= number_at(in.at + at + 4)) {
-            uint32_t number = number_at(in.at + at), size = number_at(in.at + at + 4),
-                     stub[5] = {16, 0, BAD};
+            uint32_t number = number_at(in.at + at);
+            uint32_t size = number_at(in.at + at + 4);
+            uint32_t stub[5] = {16, 0, BAD};
             if (number == OWN && size)
                 add_reply(&out, OWN, in.at + at + 8, size);
             else if (number == OWN)
@@ -252,7 +265,10 @@ static size_t left;
 
 static unsigned byte(void)
 {
-    return left ? left--, *input++ : 0;
+    if (!left)
+        return 0;
+    left--;
+    return *input++;
 }
 
 static const char *const lines[] = {

@@ -50,7 +50,7 @@ class Pages:
     def __init__(self):
         self.book = spec.Book()
         self.roots = {
-            number: [root for it in words for root in spec.roots_of(it)]
+            number: [root for it in words for root in self.book.roots(it)]
             for number, words in spec.SENTENCES.items()
         }
         self.promise = self.book.closure([it for some in self.roots.values() for it in some])

@@ -3,10 +3,10 @@
 
     python3 tools/spec.py FOLDER      writes a page for each word below: its definition, and each
         that it names, down to lists and numbers
-    python3 tools/spec.py --write     writes the two tables of docs/internals/reading-the-proofs.md
-        anew
+    python3 tools/spec.py --write     writes the three tables of the page reading-the-proofs.md anew
     python3 tools/spec.py --check     compares these, holds the counts to the limits below, and
-        compares the promises of README and of that page
+        compares the promises of README and of that page. It finds each definition of specs/promise/
+        that no promise needs, and each outside that one needs
 
 A page begins with the definition itself. Then comes each definition that it names, in that order,
 each followed by those that it names in turn, once. With each is the file that it is copied from.
@@ -24,36 +24,35 @@ PAGE = f"{ROOT}/docs/internals/reading-the-proofs.md"
 
 README = f"{ROOT}/README.md"
 
-# the definitions of each promise of README, each with its module; those of a disk count as one
-DISK = tuple(
-    f"oa_disk.specs.Disk.{it}" for it in ("WritesUnsynced", "Syncs", "TakesTime", "FailsAs")
-)
+# the definitions of each promise of README, each with its crate; those of a disk count as one
+DISK = tuple(f"oa_disk.{it}" for it in ("WritesUnsynced", "Syncs", "TakesTime", "FailsAs"))
 SENTENCES = {
-    1: ["oa_turn.specs.Turns.Turn", "oa_frame.specs.Sessions.Session"],
-    2: [
-        "oa_history.specs.Lived.IsLived",
-        "oa_history.specs.Survived.IsSurvived",
-        "oa_store.specs.Stores.IsStore",
-        DISK,
-    ],
-    3: [
-        "oa_linearizable.specs.Crashes.ServersAreDurable",
-        "oa_linearizable.specs.Tables.SeenHistoriesAreLinearizable",
-    ],
-    4: [
-        "oa_wire_variant.specs.Variants.Spells",
-        "oa_idl.specs.IsTree.IsTree",
-        "oa_checks.specs.IsLibrary.IsLibrary",
-    ],
+    1: ["oa_turn.Turn", "oa_frame.Session"],
+    2: ["oa_history.IsLived", "oa_history.IsSurvived", "oa_store.IsStore", DISK],
+    3: ["oa_linearizable.ServersAreDurable", "oa_linearizable.SeenHistoriesAreLinearizable"],
+    4: ["oa_wire_variant.Spells", "oa_idl.IsTree", "oa_checks.IsLibrary"],
     5: [
-        "oa_keeps.specs.Keeps.KeepsLibrary",
-        "oa_server.specs.Answers.ReplacesInStore",
-        "oa_store.specs.Changes.IsUpgrade",
-        "oa_store.specs.Faults.IsBrought",
+        "oa_keeps.KeepsLibrary",
+        "oa_server.ReplacesInStore",
+        "oa_store.IsUpgrade",
+        "oa_store.IsBrought",
     ],
 }
 # more than this nobody should have to read
 LIMITS = {"Turn": 810, "IsLived": 1_335}
+
+# The path of durability: a crash history of one client, by the crates that define what is on the
+# disk, in a group and in a session. What these crates say of a single request is promise 1's, and
+# what many clients add is promise 3's: neither is followed from here.
+DURABLE = "oa_history.IsLived"
+DURABLE_CRATES = "disk journal store keeper groups server history".split()
+MANY_CLIENTS = [
+    "oa_history.ServesShared",
+    "oa_history.HasWrittenFrames",
+    "oa_server.shared_requests",
+    "oa_server.shared",
+]
+DURABLE_FILES, DURABLE_LINES = 12, 900
 
 PROMISE = re.compile(r"^(\d)\. (.*?)(?=^\d\. |^#|^\S|\Z)", re.MULTILINE | re.DOTALL)
 
@@ -87,6 +86,9 @@ HEAD = re.compile(rf"((?:(?:abbrev|unfoldable|pub|record|data) )*)({NAME}|{OPERA
 USE = re.compile(r"^(?:pub )?use\s+([\w.+]+)\.\{([^}]*)\}", re.MULTILINE | re.DOTALL)
 WHOLE = re.compile(rf"^use\s+([\w.]+) as ({NAME})$", re.MULTILINE)
 
+FILE_COLUMNS = "| File of the path of durability | Definitions | Lines |"
+FILE_TABLE = re.compile(rf"^{re.escape(FILE_COLUMNS)}\n(?:\|.*\n)*", re.MULTILINE)
+
 Definition = collections.namedtuple("Definition", "path lines")
 
 
@@ -94,19 +96,20 @@ class Book:
     """The definitions of all specs/, each by its module and its name; `laws` are those that are
     none, but are proved."""
 
-    def __init__(self):
+    def __init__(self, root=ROOT):
+        self.root = root
         self.definitions, self.imports, self.modules, self.laws, self.names = {}, {}, {}, set(), {}
-        for crate in sorted(os.listdir(f"{ROOT}/crates")):
-            for folder, _, names in os.walk(f"{ROOT}/crates/{crate}/specs"):
+        for crate in sorted(os.listdir(f"{root}/crates")):
+            for folder, _, names in os.walk(f"{root}/crates/{crate}/specs"):
                 for name in sorted(it for it in names if it.endswith(".antt")):
-                    self.read(os.path.relpath(f"{folder}/{name}", f"{ROOT}/crates"))
+                    self.read(os.path.relpath(f"{folder}/{name}", f"{root}/crates"))
         self.own = collections.defaultdict(dict)
         for key in self.definitions:
             self.own[key[0]][key[1]] = key
 
     def read(self, path):
         module = path[: -len(".antt")].replace("/", ".")
-        with open(f"{ROOT}/crates/{path}", encoding="utf-8") as file:
+        with open(f"{self.root}/crates/{path}", encoding="utf-8") as file:
             text = file.read()
         self.imports[module] = {}
         self.modules[module] = {
@@ -132,6 +135,8 @@ class Book:
                     self.definitions[current].lines.append(line)
             elif words.startswith("--"):
                 current, above = None, [*above, line]
+            elif words.startswith("pub mod "):
+                current, above = None, []
             elif words.split()[0] == "module":
                 current, above, depth = None, [], depth + 2
             elif words.split()[0] not in ("infixl", "infixr", "infix", "unfolding"):
@@ -185,28 +190,74 @@ class Book:
         further = None if key in self.definitions else self.imports.get(module, {}).get(name)
         return self.where(further) if further else key
 
-    def closure(self, roots):
-        """The definitions below these, each once, in the order of reading."""
+    def closure(self, roots, with_laws=False, without=()):
+        """The definitions below these, each once, in the order of reading; with the lemmas that
+        some descriptions of bytes carry, and what these name.
+        """
         found, waiting = {}, list(reversed(roots))
         while waiting:
             key = waiting.pop()
-            if key in self.definitions and key not in self.laws and key not in found:
+            if (
+                key in self.definitions
+                and (with_laws or key not in self.laws)
+                and key not in found
+                and key not in without
+            ):
                 found[key] = None
                 waiting += reversed(self.named_by(key))
         return list(found)
 
+    def roots(self, word):
+        """The definitions of an entry of SENTENCES: each is the only one of its name in its crate."""
+        found = []
+        for entry in [word] if isinstance(word, str) else word:
+            crate, _, name = entry.partition(".")
+            keys = [it for it in self.definitions if it[1] == name and it[0].split(".")[0] == crate]
+            if len(keys) != 1:
+                sys.exit(f"{len(keys)} definitions of {crate} are named {name}")
+            found += keys
+        return found
+
+    def all_roots(self):
+        return [it for words in SENTENCES.values() for word in words for it in self.roots(word)]
+
+    def needed(self, roots=None):
+        """Returns the definitions that belong into specs/promise/: those of all promises, and the
+        lemmas that these carry.
+        """
+        return self.closure(roots or self.all_roots(), with_laws=True)
+
+    def misplaced(self, roots=None):
+        """The definitions of specs/promise/ that no promise needs, and those outside that one
+        needs, each in a line.
+        """
+        needed, inside = set(self.needed(roots)), {
+            it for it in self.definitions if it[0].split(".")[2] == "promise"
+        }
+        return [
+            f"{'.'.join(it)}: no promise needs it, so it belongs outside of specs/promise/"
+            for it in sorted(inside - needed)
+        ] + [
+            f"{'.'.join(it)}: a promise needs it, so it belongs into specs/promise/"
+            for it in sorted(needed - inside)
+        ]
+
+    def durable(self):
+        """The definitions of the path of durability, in the order of reading."""
+        keys = self.closure(
+            self.roots(DURABLE), without={key for word in MANY_CLIENTS for key in self.roots(word)}
+        )
+        single = set(self.closure(self.roots(SENTENCES[1][0])))
+        return [
+            it
+            for it in keys
+            if it not in single and it[0].split(".")[0].removeprefix("oa_") in DURABLE_CRATES
+        ]
+
     def lines(self, keys):
-        return sum(not line.startswith("--") for it in keys for line in self.definitions[it].lines)
-
-
-def root_of(word):
-    module, _, name = word.rpartition(".")
-    return module, name
-
-
-def roots_of(word):
-    """The definitions of an entry of SENTENCES."""
-    return [root_of(it) for it in ([word] if isinstance(word, str) else word)]
+        return sum(
+            not line.lstrip().startswith("--") for it in keys for line in self.definitions[it].lines
+        )
 
 
 def promises(path):
@@ -224,7 +275,7 @@ def promises(path):
 def counts(book):
     rows = []
     for number, words in SENTENCES.items():
-        for roots in map(roots_of, words):
+        for roots in map(book.roots, words):
             keys = book.closure(roots)
             name = f"`{roots[0][1]}`" if len(roots) == 1 else "the clauses of `Disk`"
             rows.append(
@@ -251,7 +302,7 @@ def table(rows):
 
 
 def subject_table(book):
-    keys = book.closure(roots_of(SENTENCES[2][0]))
+    keys = book.closure(book.roots(SENTENCES[2][0]))
     parts = {
         it: [key for key in keys if key[0].split(".")[0].removeprefix("oa_") in crates.split()]
         for it, crates in SUBJECTS.items()
@@ -262,10 +313,29 @@ def subject_table(book):
     return "\n".join([SUBJECT_COLUMNS, "|---|---|---|", *rows]) + "\n"
 
 
+def file_table(book):
+    files = {}
+    for key in book.durable():
+        files.setdefault(book.definitions[key].path, []).append(key)
+    rows = [f"| `{path}` | {len(keys):,} | {book.lines(keys):,} |" for path, keys in files.items()]
+    keys = book.durable()
+    return (
+        "\n".join(
+            [
+                FILE_COLUMNS,
+                "|---|---|---|",
+                *rows,
+                f"| all {len(files)} files | {len(keys):,} | {book.lines(keys):,} |",
+            ]
+        )
+        + "\n"
+    )
+
+
 def write(book, folder):
     os.makedirs(folder, exist_ok=True)
     for number, words in SENTENCES.items():
-        keys = book.closure([root for it in words for root in roots_of(it)])
+        keys = book.closure([root for it in words for root in book.roots(it)])
         with open(f"{folder}/sentence-{number}.antt", "w", encoding="utf-8") as file:
             for key in keys:
                 definition = book.definitions[key]
@@ -275,27 +345,20 @@ def write(book, folder):
 
 def main(words):
     book = Book()
-    unknown = [
-        ".".join(it)
-        for some in SENTENCES.values()
-        for word in some
-        for it in roots_of(word)
-        if it not in book.definitions
-    ]
-    if unknown:
-        sys.exit(f"no definition is named {', '.join(unknown)}")
     rows = counts(book)
     with open(PAGE, encoding="utf-8") as file:
         page = file.read()
     if words == ["--write"]:
         with open(PAGE, "w", encoding="utf-8") as file:
-            file.write(
-                SUBJECT_TABLE.sub(
-                    subject_table(book), TABLE.sub(table(rows), page, count=1), count=1
-                )
-            )
+            for pattern, text in (
+                (TABLE, table(rows)),
+                (SUBJECT_TABLE, subject_table(book)),
+                (FILE_TABLE, file_table(book)),
+            ):
+                page = pattern.sub(text, page, count=1)
+            file.write(page)
     elif words == ["--check"]:
-        is_told = table(rows) in page and subject_table(book) in page
+        is_told = all(it in page for it in (table(rows), subject_table(book), file_table(book)))
         if not is_told:
             print(
                 "docs/internals/reading-the-proofs.md has other tables: python3 tools/spec.py "
@@ -306,7 +369,15 @@ def main(words):
             for _, name, many, *_ in rows
             if many > LIMITS.get(name.strip("`"), many)
         ]
-        print("\n".join(long), end="\n" if long else "")
+        path = book.durable()
+        files, lines = len({it[0] for it in path}), book.lines(path)
+        if files > DURABLE_FILES or lines > DURABLE_LINES:
+            long.append(
+                f"the path of durability: {files} files and {lines} lines, "
+                f"for {DURABLE_FILES} and {DURABLE_LINES}"
+            )
+        misplaced = book.misplaced()
+        print("\n".join([*long, *misplaced]), end="\n" if long or misplaced else "")
         told = promises(README)
         is_one_list = told == promises(PAGE) and {*told} == {*SENTENCES}
         if not is_one_list:
@@ -314,7 +385,7 @@ def main(words):
                 "README.md and docs/internals/reading-the-proofs.md have other promises, or other "
                 "numbers than this file"
             )
-        return 0 if is_told and is_one_list and not long else 1
+        return 0 if is_told and is_one_list and not long and not misplaced else 1
     elif len(words) == 1 and not words[0].startswith("-"):
         write(book, words[0])
     else:

@@ -6,9 +6,13 @@ import re
 import shutil
 import subprocess
 import sys
+import tempfile
 import unittest
 
 from tests.support.running import ROOT, Cases
+
+sys.path.insert(0, f"{ROOT}/tools")
+import spec
 
 COLUMNS = 100
 SPECS_COLUMNS = 120
@@ -135,6 +139,24 @@ class Docs(Cases):
         self.tell(
             "the definitions below each promise", done.returncode == 0, done.stdout + done.stderr
         )
+
+    def test_a_definition_in_the_wrong_folder(self):
+        """spec.py names a definition of specs/promise/ that no promise needs, and one outside that a promise needs; a lemma that one carries is needed."""
+        files = {
+            "promise/Sums": "use Rattle.low.specs.Parts.{added}\nuse Rattle.low.specs.promise.Laws.{law}\n\n"
+            "-- the promise\nabbrev pub total : List ℕ → ℕ\ntotal xs = added xs law\n\nabbrev pub spare : ℕ\nspare = 1\n",
+            "promise/Laws": "pub law : ⊤\nlaw = tt\n",
+            "Parts": "abbrev pub added : List ℕ → ⊤ → ℕ\nadded xs t = 0\n\nabbrev pub other : ℕ\nother = 2\n",
+        }
+        with tempfile.TemporaryDirectory() as root:
+            for name, text in files.items():
+                path = f"{root}/crates/low/specs/{name}.antt"
+                os.makedirs(os.path.dirname(path), exist_ok=True)
+                with open(path, "w", encoding="utf-8") as file:
+                    file.write(text)
+            found = spec.Book(root).misplaced([("low.specs.promise.Sums", "total")])
+        told = [(it.split(":")[0], "into" in it) for it in found]
+        self.tell("a spare one, and one that is missing", told == [("low.specs.promise.Sums.spare", False), ("low.specs.Parts.added", True)], found)
 
     def test_the_book_of_the_promises(self):
         done = subprocess.run(

@@ -208,7 +208,7 @@ class Book:
         return list(found)
 
     def roots(self, word):
-        """The definitions of an entry of SENTENCES: each is the only one of its name in its crate."""
+        """The definitions of an entry of SENTENCES, each the only one of its name in its crate."""
         found = []
         for entry in [word] if isinstance(word, str) else word:
             crate, _, name = entry.partition(".")

@@ -47,24 +47,11 @@ mapped t f (Some x) each = each x
 
 number_fits : (t : VarType) (z : ℤ) → IfSome (number_as t z) (FitsIn t)
 unfolding number_as
-number_fits types.I1 z = mapped types.I1 scalars.I1 _ (λ x. refl)
-number_fits types.I2 z = mapped types.I2 scalars.I2 _ (λ x. refl)
-number_fits types.I4 z = mapped types.I4 scalars.I4 _ (λ x. refl)
-number_fits types.I8 z = mapped types.I8 scalars.I8 _ (λ x. refl)
-number_fits types.Int z = mapped types.Int scalars.Int _ (λ x. refl)
-number_fits types.Ui1 z = mapped types.Ui1 scalars.Ui1 _ (λ x. refl)
-number_fits types.Ui2 z = mapped types.Ui2 scalars.Ui2 _ (λ x. refl)
-number_fits types.Ui4 z = mapped types.Ui4 scalars.Ui4 _ (λ x. refl)
-number_fits types.Ui8 z = mapped types.Ui8 scalars.Ui8 _ (λ x. refl)
-number_fits types.Uint z = mapped types.Uint scalars.Uint _ (λ x. refl)
-number_fits types.Error z = mapped types.Error scalars.Error _ (λ x. refl)
-number_fits types.Cy z = mapped types.Cy scalars.Cy _ (λ x. refl)
-number_fits types.Decimal z = mapped types.Decimal scalars.Decimal _ (λ x. refl)
-number_fits types.Variant z = mapped types.Variant scalars.I4 _ (λ x. refl)
 number_fits types.Empty z = tt
 number_fits types.Null z = tt
 number_fits types.Bool z = tt
 number_fits types.Bstr z = tt
+number_fits t z = mapped t _ _ (λ x. refl)
 
 short_text : (t : VarType) (b : Bool) (cs : List ℕ) → FitsIn t (scalars.Bstr (Some (wide cs))) → IfSome (if b then Some (scalars.Bstr (Some (wide cs))) else None) (FitsIn t)
 short_text t true cs fit = fit

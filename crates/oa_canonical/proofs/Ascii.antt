@@ -120,22 +120,7 @@ type_low : (t : VarType) → IsAscii (type_text t)
 unfolding type_text
 type_low types.Empty = IsAscii-nil
 type_low types.Null = IsAscii-nil
-type_low types.I1 = low (codes "char") refl
-type_low types.Ui1 = low (codes "unsigned char") refl
-type_low types.I2 = low (codes "short") refl
-type_low types.Ui2 = low (codes "unsigned short") refl
-type_low types.I4 = low (codes "long") refl
-type_low types.Ui4 = low (codes "unsigned long") refl
-type_low types.Int = low (codes "int") refl
-type_low types.Uint = low (codes "unsigned int") refl
-type_low types.I8 = low (codes "hyper") refl
-type_low types.Ui8 = low (codes "unsigned hyper") refl
-type_low types.Cy = low (codes "CURRENCY") refl
-type_low types.Bool = low (codes "VARIANT_BOOL") refl
-type_low types.Error = low (codes "SCODE") refl
-type_low types.Decimal = low (codes "DECIMAL") refl
-type_low types.Bstr = low (codes "BSTR") refl
-type_low types.Variant = low (codes "VARIANT") refl
+type_low t = low (type_text t) refl
 
 value_type_low : (t : ValueType) → IsAscii (value_type_text t)
 unfolding value_type_text

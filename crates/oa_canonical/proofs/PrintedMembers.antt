@@ -77,24 +77,16 @@ pub type_spelled : (in_array : Bool) (t : VarType) (b : ℕ) (x : List ℕ) → 
 unfolding type_text is_in run plain_type unsigned_type
 type_spelled in_array types.Empty b x h ends = absurd h
 type_spelled in_array types.Null b x h ends = absurd h
-type_spelled in_array types.I1 b x h ends = plain_spelled in_array types.I1 (codes "char") b x (refl, refl) ends refl (λ _. refl)
 type_spelled in_array types.Ui1 b x h ends = unsigned_spelled in_array types.Ui1 (codes "char") b x (refl, refl) ends refl (λ _. refl)
-type_spelled in_array types.I2 b x h ends = plain_spelled in_array types.I2 (codes "short") b x (refl, refl) ends refl (λ _. refl)
 type_spelled in_array types.Ui2 b x h ends = unsigned_spelled in_array types.Ui2 (codes "short") b x (refl, refl) ends refl (λ _. refl)
-type_spelled in_array types.I4 b x h ends = plain_spelled in_array types.I4 (codes "long") b x (refl, refl) ends refl (λ _. refl)
 type_spelled in_array types.Ui4 b x h ends = unsigned_spelled in_array types.Ui4 (codes "long") b x (refl, refl) ends refl (λ _. refl)
-type_spelled in_array types.Int b x h ends = plain_spelled in_array types.Int (codes "int") b x (refl, refl) ends refl (λ _. refl)
 type_spelled in_array types.Uint b x h ends = unsigned_spelled in_array types.Uint (codes "int") b x (refl, refl) ends refl (λ _. refl)
-type_spelled in_array types.I8 b x h ends = plain_spelled in_array types.I8 (codes "hyper") b x (refl, refl) ends refl (λ _. refl)
 type_spelled in_array types.Ui8 b x h ends = unsigned_spelled in_array types.Ui8 (codes "hyper") b x (refl, refl) ends refl (λ _. refl)
-type_spelled in_array types.Cy b x h ends = plain_spelled in_array types.Cy (codes "CURRENCY") b x (refl, refl) ends refl (λ _. refl)
-type_spelled in_array types.Bool b x h ends = plain_spelled in_array types.Bool (codes "VARIANT_BOOL") b x (refl, refl) ends refl (λ _. refl)
 type_spelled true types.Error b x h ends = absurd (clash h refl)
 type_spelled false types.Error b x h ends = plain_spelled false types.Error (codes "SCODE") b x (refl, refl) ends refl (λ e. absurd (clash e refl))
 type_spelled true types.Decimal b x h ends = absurd (clash h refl)
 type_spelled false types.Decimal b x h ends = plain_spelled false types.Decimal (codes "DECIMAL") b x (refl, refl) ends refl (λ e. absurd (clash e refl))
-type_spelled in_array types.Bstr b x h ends = plain_spelled in_array types.Bstr (codes "BSTR") b x (refl, refl) ends refl (λ _. refl)
-type_spelled in_array types.Variant b x h ends = plain_spelled in_array types.Variant (codes "VARIANT") b x (refl, refl) ends refl (λ _. refl)
+type_spelled in_array t b x h ends = plain_spelled in_array t (type_text t) b x (refl, refl) ends refl (λ _. refl)
 
 pub value_type_spelled : (t : ValueType) (x : List ℕ) → IsValueType t → Spells (value_type t) (value_type_text t ++ 32 ∷ x) (32 ∷ x)
 unfolding value_type value_type_text is_in run passes

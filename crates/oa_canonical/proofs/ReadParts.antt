@@ -279,42 +279,12 @@ type_has false text = plain_has text
 plain_is : (t : VarType) → HasWord t → IsType false t
 plain_is types.Empty h = h
 plain_is types.Null h = h
-plain_is types.I2 h = tt
-plain_is types.I4 h = tt
-plain_is types.Cy h = tt
-plain_is types.Bstr h = tt
-plain_is types.Error h = tt
-plain_is types.Bool h = tt
-plain_is types.Variant h = tt
-plain_is types.Decimal h = tt
-plain_is types.I1 h = tt
-plain_is types.Ui1 h = tt
-plain_is types.Ui2 h = tt
-plain_is types.Ui4 h = tt
-plain_is types.I8 h = tt
-plain_is types.Ui8 h = tt
-plain_is types.Int h = tt
-plain_is types.Uint h = tt
+plain_is t h = tt
 
 cell_is : (t : VarType) → HasWord t → is_some (sf_type_of t) ≡ true → IsType true t
 cell_is types.Empty h e = h
 cell_is types.Null h e = h
-cell_is types.I2 h e = e
-cell_is types.I4 h e = e
-cell_is types.Cy h e = e
-cell_is types.Bstr h e = e
-cell_is types.Error h e = e
-cell_is types.Bool h e = e
-cell_is types.Variant h e = e
-cell_is types.Decimal h e = e
-cell_is types.I1 h e = e
-cell_is types.Ui1 h e = e
-cell_is types.Ui2 h e = e
-cell_is types.Ui4 h e = e
-cell_is types.I8 h e = e
-cell_is types.Ui8 h e = e
-cell_is types.Int h e = e
-cell_is types.Uint h e = e
+cell_is t h e = e
 
 if_cell_is : (in_array : Bool) (o : Option VarType) (t : VarType) → IfHasWord o → if_cell in_array o ≡ Some t → IsType in_array t
 if_cell_is in_array None t h e = no_some t e

@@ -1,8 +1,11 @@
 -- The computed result is the coercion.
-use Rattle.std.specs.Prelude.{◌≡◌, ◌^◌, Bool, true, false, ℤ, pos, negsuc, cond, Result, Ok, Err, IfOk, IfErr}
-use Rattle.std.proofs.Common.{refl, sym, ap, subst, ◌∙◌, arith}
-use Rattle.std.proofs.lemmas.Bool.{cond_both, cond-true, lt-ltb, ltb-true, false≢true, true≢false}
-use Rattle.oa_model.specs.Integers.{in_range}
+use Rattle.std.specs.Prelude.{◌≡◌, ◌^◌, ℕ, nat_lt, FitsSigned, Bool, true, false, ℤ, pos, negsuc, cond, Result, Ok, Err, IfOk, IfErr}
+use Rattle.std.proofs.Common.{refl, sym, ap, subst, ◌∙◌}
+use mir.Val.{hbits}
+use Rattle.std.specs.Int.{Width}
+use Rattle.std.proofs.lemmas.Bool.{cond_both, cond-true, and_parts, lt-ltb, ltb-true, false≢true, true≢false}
+use Rattle.oa_model.specs.Integers.{in_range, bits_of}
+use Rattle.oa_model.specs.Types.{is_signed_type}
 use Rattle.oa_model.specs.declared.var_type.VarType.{VarType}
 use Rattle.oa_model.specs.declared.var_type.VarType.TheVariants as types
 use Rattle.oa_model.specs.declared.var_type.ValueType.{ValueType}
@@ -26,20 +29,19 @@ use Rattle.oa_coerce.proofs.Nearest.{one_nearest, computed_is_nearest}
 use Rattle.oa_coerce.proofs.Rules.{by_rule, made_back}
 use Rattle.oa_coerce.proofs.Lifted.{lifted, lowered}
 
+-- the range of a signed type is that of its width
+signed_ranged : (t : VarType) (w : Width) (z : ℤ) → is_signed_type t ≡ true → bits_of t ≡ hbits w → FitsSigned w z → in_range t z ≡ true
+signed_ranged t w (pos n) signed bits h = rw bits (lt-ltb n (2 ^ hbits w) h.sfits)
+signed_ranged t w (negsuc n) signed bits h = rw (signed, bits) (lt-ltb n (2 ^ hbits w) h.sfits)
+
+fits_signed : (t : VarType) (w : Width) (z : ℤ) → is_signed_type t ≡ true → bits_of t ≡ hbits w → in_range t z ≡ true → FitsSigned w z
+fits_signed t w (pos n) signed bits e = record { sfits = ltb-true n (2 ^ hbits w) (subst (λ (k : ℕ). nat_lt n (2 ^ k) ≡ true) bits e) }
+fits_signed t w (negsuc n) signed bits e =
+    let below = (and_parts (is_signed_type t) (nat_lt n (2 ^ bits_of t)) e).1 in
+    record { sfits = ltb-true n (2 ^ hbits w) (subst (λ (k : ℕ). nat_lt n (2 ^ k) ≡ true) bits below) }
+
 -- a scalar of an integer type, or of CY, has a number in the range of its type
 ranged : (m : Scalar) → counts_units (type_of m) ≡ true → IsScalar m → in_range (type_of m) (key_number m) ≡ true
-ranged (scalars.I1 (pos n)) u h = lt-ltb n (2 ^ 7) (omega (arith, h.sfits))
-ranged (scalars.I1 (negsuc n)) u h = lt-ltb n (2 ^ 7) (omega (arith, h.sfits))
-ranged (scalars.I2 (pos n)) u h = lt-ltb n (2 ^ 15) (omega (arith, h.sfits))
-ranged (scalars.I2 (negsuc n)) u h = lt-ltb n (2 ^ 15) (omega (arith, h.sfits))
-ranged (scalars.I4 (pos n)) u h = lt-ltb n (2 ^ 31) (omega (arith, h.sfits))
-ranged (scalars.I4 (negsuc n)) u h = lt-ltb n (2 ^ 31) (omega (arith, h.sfits))
-ranged (scalars.I8 (pos n)) u h = lt-ltb n (2 ^ 63) (omega (arith, h.sfits))
-ranged (scalars.I8 (negsuc n)) u h = lt-ltb n (2 ^ 63) (omega (arith, h.sfits))
-ranged (scalars.Int (pos n)) u h = lt-ltb n (2 ^ 31) (omega (arith, h.sfits))
-ranged (scalars.Int (negsuc n)) u h = lt-ltb n (2 ^ 31) (omega (arith, h.sfits))
-ranged (scalars.Cy (pos n)) u h = lt-ltb n (2 ^ 63) (omega (arith, h.sfits))
-ranged (scalars.Cy (negsuc n)) u h = lt-ltb n (2 ^ 63) (omega (arith, h.sfits))
 ranged (scalars.Ui1 n) u h = lt-ltb n (2 ^ 8) h
 ranged (scalars.Ui2 n) u h = lt-ltb n (2 ^ 16) h
 ranged (scalars.Ui4 n) u h = lt-ltb n (2 ^ 32) h
@@ -51,22 +53,11 @@ ranged (scalars.Bool b) u h = absurd (false≢true u)
 ranged (scalars.Error n) u h = absurd (false≢true u)
 ranged (scalars.Bstr t) u h = absurd (false≢true u)
 ranged (scalars.Decimal d) u h = absurd (false≢true u)
+ranged s u h = signed_ranged (type_of s) _ (key_number s) refl refl h
 
 -- and each number in the range of such a type is that of a scalar of it
 made_of : (to : VarType) (n : ℤ) → counts_units to ≡ true → in_range to n ≡ true
     → IsScalar (of_count to n) × (type_of (of_count to n) ≡ to) × (key_number (of_count to n) ≡ n)
-made_of types.I1 (pos n) u e = (record { sfits = ltb-true n (2 ^ 7) e }, refl, refl)
-made_of types.I1 (negsuc n) u e = (record { sfits = ltb-true n (2 ^ 7) e }, refl, refl)
-made_of types.I2 (pos n) u e = (record { sfits = ltb-true n (2 ^ 15) e }, refl, refl)
-made_of types.I2 (negsuc n) u e = (record { sfits = ltb-true n (2 ^ 15) e }, refl, refl)
-made_of types.I4 (pos n) u e = (record { sfits = ltb-true n (2 ^ 31) e }, refl, refl)
-made_of types.I4 (negsuc n) u e = (record { sfits = ltb-true n (2 ^ 31) e }, refl, refl)
-made_of types.I8 (pos n) u e = (record { sfits = ltb-true n (2 ^ 63) e }, refl, refl)
-made_of types.I8 (negsuc n) u e = (record { sfits = ltb-true n (2 ^ 63) e }, refl, refl)
-made_of types.Int (pos n) u e = (record { sfits = ltb-true n (2 ^ 31) e }, refl, refl)
-made_of types.Int (negsuc n) u e = (record { sfits = ltb-true n (2 ^ 31) e }, refl, refl)
-made_of types.Cy (pos n) u e = (record { sfits = ltb-true n (2 ^ 63) e }, refl, refl)
-made_of types.Cy (negsuc n) u e = (record { sfits = ltb-true n (2 ^ 63) e }, refl, refl)
 made_of types.Ui1 (pos n) u e = (ltb-true n (2 ^ 8) e, refl, refl)
 made_of types.Ui1 (negsuc n) u e = absurd (false≢true e)
 made_of types.Ui2 (pos n) u e = (ltb-true n (2 ^ 16) e, refl, refl)
@@ -84,6 +75,7 @@ made_of types.Error n u e = absurd (false≢true u)
 made_of types.Bstr n u e = absurd (false≢true u)
 made_of types.Decimal n u e = absurd (false≢true u)
 made_of types.Variant n u e = absurd (false≢true u)
+made_of t n u e = (fits_signed t _ n refl refl e, refl, refl)
 
 -- a number in range is made by Nearest
 in_range_is_made : (s : Scalar) (to : VarType) → counts_units to ≡ true → (n : ℤ) → n ≡ nearest_count (number_in s) (decimal_places to)

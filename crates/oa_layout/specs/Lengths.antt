@@ -3,7 +3,9 @@
 -- choice.)
 use Rattle.std.specs.Prelude.{ℕ, ◌+◌, ◌*◌, length}
 use Rattle.std.specs.List.{sum_by}
+use Rattle.std.specs.Option.{unwrap_or}
 use Rattle.oa_model.specs.Limits.{max_cells, max_dimensions, max_text_bytes}
+use Rattle.oa_model.specs.Types.{element_size_of}
 use Rattle.oa_model.specs.declared.var_type.VarType.{VarType}
 use Rattle.oa_model.specs.declared.var_type.VarType.TheVariants as types
 use Rattle.oa_bstr.specs.Text.{bytes_of}
@@ -12,26 +14,17 @@ use Rattle.oa_variant.specs.declared.scalar.Scalar.{Scalar}
 use Rattle.oa_variant.specs.declared.variant.Variant.{Variant}
 use Rattle.oa_variant.specs.declared.variant.Variant.TheVariants.{One, Array}
 
--- the content of a scalar of a type: of a text the number of its bytes, and the bytes; there is no scalar of VARIANT
+-- the content of a scalar of a type: of a text the number of its bytes, and the bytes; there is no scalar of VARIANT;
+-- of a number, as many bytes as an element of an array has
 unfoldable pub content_size : VarType → Scalar → ℕ
 content_size types.Empty s = 0
 content_size types.Null s = 0
-content_size types.I1 s = 1
-content_size types.I2 s = 2
-content_size types.I4 s = 4
-content_size types.I8 s = 8
-content_size types.Int s = 4
-content_size types.Cy s = 8
-content_size types.Ui1 s = 1
-content_size types.Ui2 s = 2
-content_size types.Ui4 s = 4
-content_size types.Ui8 s = 8
-content_size types.Uint s = 4
-content_size types.Error s = 4
 content_size types.Bool s = 1
 content_size types.Bstr s = 4 + length (bytes_of (text_of s))
 content_size types.Decimal s = 14
+content_size types.Error s = 4
 content_size types.Variant s = 0
+content_size t s = unwrap_or (element_size_of t) 0
 
 -- the number of the type, and the content
 unfoldable pub scalar_size : Scalar → ℕ

@@ -47,24 +47,11 @@ mapped t f (Some x) each = each x
 
 number_fits : (t : VarType) (z : ℤ) → IfSome (number_as t z) (FitsIn t)
 unfolding number_as
-number_fits types.I1 z = mapped types.I1 scalars.I1 _ (λ x. refl)
-number_fits types.I2 z = mapped types.I2 scalars.I2 _ (λ x. refl)
-number_fits types.I4 z = mapped types.I4 scalars.I4 _ (λ x. refl)
-number_fits types.I8 z = mapped types.I8 scalars.I8 _ (λ x. refl)
-number_fits types.Int z = mapped types.Int scalars.Int _ (λ x. refl)
-number_fits types.Ui1 z = mapped types.Ui1 scalars.Ui1 _ (λ x. refl)
-number_fits types.Ui2 z = mapped types.Ui2 scalars.Ui2 _ (λ x. refl)
-number_fits types.Ui4 z = mapped types.Ui4 scalars.Ui4 _ (λ x. refl)
-number_fits types.Ui8 z = mapped types.Ui8 scalars.Ui8 _ (λ x. refl)
-number_fits types.Uint z = mapped types.Uint scalars.Uint _ (λ x. refl)
-number_fits types.Error z = mapped types.Error scalars.Error _ (λ x. refl)
-number_fits types.Cy z = mapped types.Cy scalars.Cy _ (λ x. refl)
-number_fits types.Decimal z = mapped types.Decimal scalars.Decimal _ (λ x. refl)
-number_fits types.Variant z = mapped types.Variant scalars.I4 _ (λ x. refl)
 number_fits types.Empty z = tt
 number_fits types.Null z = tt
 number_fits types.Bool z = tt
 number_fits types.Bstr z = tt
+number_fits t z = mapped t _ _ (λ x. refl)
 
 short_text : (t : VarType) (b : Bool) (cs : List ℕ) → FitsIn t (scalars.Bstr (Some (wide cs))) → IfSome (if b then Some (scalars.Bstr (Some (wide cs))) else None) (FitsIn t)
 short_text t true cs fit = fit
@@ -73,42 +60,12 @@ short_text t false cs fit = tt
 text_fits : (t : VarType) (cs : List ℕ) → IfSome (text_as t cs) (FitsIn t)
 text_fits types.Bstr cs = short_text types.Bstr _ cs refl
 text_fits types.Variant cs = short_text types.Variant _ cs refl
-text_fits types.I1 cs = tt
-text_fits types.I2 cs = tt
-text_fits types.I4 cs = tt
-text_fits types.I8 cs = tt
-text_fits types.Int cs = tt
-text_fits types.Ui1 cs = tt
-text_fits types.Ui2 cs = tt
-text_fits types.Ui4 cs = tt
-text_fits types.Ui8 cs = tt
-text_fits types.Uint cs = tt
-text_fits types.Error cs = tt
-text_fits types.Cy cs = tt
-text_fits types.Decimal cs = tt
-text_fits types.Empty cs = tt
-text_fits types.Null cs = tt
-text_fits types.Bool cs = tt
+text_fits t cs = tt
 
 truth_fits : (t : VarType) (b : Bool) → IfSome (truth_as t b) (FitsIn t)
 truth_fits types.Bool b = refl
 truth_fits types.Variant b = refl
-truth_fits types.Bstr b = tt
-truth_fits types.I1 b = tt
-truth_fits types.I2 b = tt
-truth_fits types.I4 b = tt
-truth_fits types.I8 b = tt
-truth_fits types.Int b = tt
-truth_fits types.Ui1 b = tt
-truth_fits types.Ui2 b = tt
-truth_fits types.Ui4 b = tt
-truth_fits types.Ui8 b = tt
-truth_fits types.Uint b = tt
-truth_fits types.Error b = tt
-truth_fits types.Cy b = tt
-truth_fits types.Decimal b = tt
-truth_fits types.Empty b = tt
-truth_fits types.Null b = tt
+truth_fits t b = tt
 
 literal_fits : (t : VarType) (l : Literal) → IfSome (default_of (kinds.One t) l) (FitsIn t)
 literal_fits t (literals.Number z) = number_fits t z
@@ -121,23 +78,7 @@ own_fits t (Some l) = literal_fits t l
 
 zero_fits : (t : VarType) → FitsIn t (without_default t)
 zero_fits types.Variant = refl
-zero_fits types.Bstr = refl
-zero_fits types.I1 = refl
-zero_fits types.I2 = refl
-zero_fits types.I4 = refl
-zero_fits types.I8 = refl
-zero_fits types.Int = refl
-zero_fits types.Ui1 = refl
-zero_fits types.Ui2 = refl
-zero_fits types.Ui4 = refl
-zero_fits types.Ui8 = refl
-zero_fits types.Uint = refl
-zero_fits types.Error = refl
-zero_fits types.Cy = refl
-zero_fits types.Decimal = refl
-zero_fits types.Empty = refl
-zero_fits types.Null = refl
-zero_fits types.Bool = refl
+zero_fits t = refl
 
 either_fits : (t : VarType) (o : Option Scalar) → IfSome o (FitsIn t) → FitsIn t (unwrap_or o (without_default t))
 either_fits t None h = zero_fits t

@@ -149,43 +149,11 @@ are_same a b e = same_text a b (sym e)
 
 type_back : (t : VarType) → type_at (vt_of t) ≡ Some t
 type_back types.Empty = refl
-type_back types.Null = refl
-type_back types.I2 = refl
-type_back types.I4 = refl
-type_back types.Cy = refl
-type_back types.Bstr = refl
-type_back types.Error = refl
-type_back types.Bool = refl
-type_back types.Variant = refl
-type_back types.Decimal = refl
-type_back types.I1 = refl
-type_back types.Ui1 = refl
-type_back types.Ui2 = refl
-type_back types.Ui4 = refl
-type_back types.I8 = refl
-type_back types.Ui8 = refl
-type_back types.Int = refl
-type_back types.Uint = refl
+type_back t = refl
 
 vt_small : (t : VarType) → vt_of t ≤ 23
 vt_small types.Empty = omega arith
-vt_small types.Null = omega arith
-vt_small types.I2 = omega arith
-vt_small types.I4 = omega arith
-vt_small types.Cy = omega arith
-vt_small types.Bstr = omega arith
-vt_small types.Error = omega arith
-vt_small types.Bool = omega arith
-vt_small types.Variant = omega arith
-vt_small types.Decimal = omega arith
-vt_small types.I1 = omega arith
-vt_small types.Ui1 = omega arith
-vt_small types.Ui2 = omega arith
-vt_small types.Ui4 = omega arith
-vt_small types.I8 = omega arith
-vt_small types.Ui8 = omega arith
-vt_small types.Int = omega arith
-vt_small types.Uint = omega arith
+vt_small t = omega arith
 
 equal_numbers : (m n : ℕ) → nat_eq m n ≡ true → m ≡ n
 equal_numbers m n e = grind (arith, nat_tests, e)

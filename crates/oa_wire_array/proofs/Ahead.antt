@@ -1,15 +1,21 @@
 -- Elements without pointees need their bytes: if these are not there, nothing is read.
 use Rattle.std.proofs.Common.{◌≡◌, ℕ, zero, suc, ◌+◌, ◌*◌, ◌<◌, ◌≤◌, false, not, eqb, leb, List, ◌∷◌, length, Option, Some, None}
-use Rattle.std.proofs.Common.{refl, ap, arith}
+use Rattle.std.proofs.Common.{Bool, true, refl, ap, arith}
+use Rattle.std.specs.Prelude.{pos}
 use Rattle.std.proofs.lemmas.Bool.{leb-false}
 use Rattle.std.proofs.lemmas.Option.{none-some}
-use Rattle.std.specs.Int.{Width, w8, w16, w32, w64, cast_signed}
+use Rattle.std.specs.Int.{Width, cast_signed}
 use Rattle.oa_ndr.specs.Reading.{Cursor, Reading, and_then, bind, give, unit_at, many}
 use Rattle.oa_model.specs.declared.var_type.VarType.{VarType}
 use Rattle.oa_model.specs.declared.var_type.VarType.TheVariants as types
+use Rattle.oa_model.specs.Types.{is_signed_type}
+use Rattle.oa_variant.specs.Decimals.{zero_decimal}
+use Rattle.oa_variant.specs.Keys.{scalar_of}
+use Rattle.oa_wire_array.specs.Scalars.{width_of}
+use Rattle.oa_wire_array.proofs.Widths.{number_bytes}
 use Rattle.oa_variant.specs.declared.scalar.Scalar.{Scalar}
 use Rattle.oa_variant.specs.declared.scalar.Scalar.TheVariants as scalars
-use Rattle.oa_wire_array.specs.Reading.{signed_at, truth_at, arm_at}
+use Rattle.oa_wire_array.specs.Reading.{signed_at, truth_at, number_at, arm_at}
 use Rattle.oa_wire_array.specs.ArrayCanon.{plain_width}
 use Rattle.oa_wire_text.proofs.Memory.{unit_there}
 
@@ -38,6 +44,11 @@ signed_takes : (n : ℕ) (w : Width) → Takes_bytes n (signed_at n w)
 unfolding signed_at
 signed_takes n w = made_of n (unit_at n) (cast_signed w) (unit_takes n)
 
+number_takes : (signed : Bool) (n : ℕ) → Takes_bytes n (number_at signed n)
+unfolding number_at
+number_takes true n = signed_takes n (width_of n)
+number_takes false n = made_of n (unit_at n) pos (unit_takes n)
+
 -- n of them move past n times as many bytes.
 behind_first : {A : Type 0} (w n : ℕ) (read : Reading A) → Takes_bytes w read → Takes_bytes (n * w) (many read n) → Takes_bytes (suc n * w) (many read (suc n))
 unfolding many bind give
@@ -59,24 +70,14 @@ many_take {A} w read takes (suc n) s t xs e = behind_first w n read takes (many_
 -- each of the types with a width
 arm_takes : (t : VarType) → 0 < plain_width t → Takes_bytes (plain_width t) (arm_at t)
 unfolding arm_at truth_at
-arm_takes types.I1 some = made_of 1 (signed_at 1 w8) scalars.I1 (signed_takes 1 w8)
-arm_takes types.Ui1 some = made_of 1 (unit_at 1) scalars.Ui1 (unit_takes 1)
-arm_takes types.I2 some = made_of 2 (signed_at 2 w16) scalars.I2 (signed_takes 2 w16)
-arm_takes types.Ui2 some = made_of 2 (unit_at 2) scalars.Ui2 (unit_takes 2)
 arm_takes types.Bool some = made_of 2 (bind (unit_at 2) (λ x. give (not (eqb x 0)))) scalars.Bool (made_of 2 (unit_at 2) (λ x. not (eqb x 0)) (unit_takes 2))
-arm_takes types.I4 some = made_of 4 (signed_at 4 w32) scalars.I4 (signed_takes 4 w32)
-arm_takes types.Ui4 some = made_of 4 (unit_at 4) scalars.Ui4 (unit_takes 4)
-arm_takes types.Int some = made_of 4 (signed_at 4 w32) scalars.Int (signed_takes 4 w32)
-arm_takes types.Uint some = made_of 4 (unit_at 4) scalars.Uint (unit_takes 4)
-arm_takes types.I8 some = made_of 8 (signed_at 8 w64) scalars.I8 (signed_takes 8 w64)
-arm_takes types.Ui8 some = made_of 8 (unit_at 8) scalars.Ui8 (unit_takes 8)
-arm_takes types.Cy some = made_of 8 (signed_at 8 w64) scalars.Cy (signed_takes 8 w64)
 arm_takes types.Empty some = absurd (omega (arith, some))
 arm_takes types.Null some = absurd (omega (arith, some))
 arm_takes types.Error some = absurd (omega (arith, some))
 arm_takes types.Decimal some = absurd (omega (arith, some))
 arm_takes types.Bstr some = absurd (omega (arith, some))
 arm_takes types.Variant some = absurd (omega (arith, some))
+arm_takes t some = made_of (number_bytes t) (number_at (is_signed_type t) (number_bytes t)) (λ z. scalar_of t z None zero_decimal) (number_takes (is_signed_type t) (number_bytes t))
 
 -- If there are fewer bytes than the elements need, the elements are not read.
 pub no_cells : (t : VarType) (n : ℕ) (s : Cursor) → leb (n * plain_width t) (length s.rest) ≡ false → many (arm_at t) n s ≡ None

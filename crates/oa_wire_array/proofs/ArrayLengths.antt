@@ -1,6 +1,6 @@
 -- How many bytes are written.
-use Rattle.std.proofs.Common.{◌≡◌, ℕ, ◌+◌, ◌-◌, ◌*◌, ◌%◌, ◌<◌, ◌≤◌, ◌⊎◌, inl, inr, Bool, true, false, cond, eqb, List, [], ◌∷◌, ◌++◌}
-use Rattle.std.proofs.Common.{length, drop, get_or, replicate, Option, Some, None, All, is_some, refl, sym, ap, subst, ◌∙◌, arith}
+use Rattle.std.proofs.Common.{◌≡◌, ℕ, ◌+◌, ◌-◌, ◌*◌, ◌%◌, ◌<◌, ◌≤◌, inl, inr, Bool, true, false, cond, eqb, List, [], ◌∷◌, ◌++◌}
+use Rattle.std.proofs.Common.{ℤ, length, drop, get_or, replicate, Option, Some, None, All, is_some, refl, sym, ap, subst, ◌∙◌, arith}
 use Rattle.std.specs.List.{AllByRecursion}
 use Rattle.std.specs.Option.{unwrap_or}
 use Rattle.std.specs.Int.{w32, cast_unsigned}
@@ -10,22 +10,24 @@ use Rattle.byteorder.specs.Endian.{little_bytes}
 use Rattle.byteorder.specs.Numbers.{length-bytes_low_first}
 use Rattle.oa_ndr.specs.Forms.{padding}
 use Rattle.oa_ndr.specs.Writing.{put_align, put_unit, put_bytes, put_referent, put_all}
-use Rattle.oa_model.specs.Types.{vt_of, sf_type_of, element_size_of}
+use Rattle.oa_model.specs.Types.{vt_of, is_signed_type, sf_type_of, element_size_of}
 use Rattle.oa_model.specs.declared.bound.Bound.{Bound}
 use Rattle.oa_model.specs.declared.var_type.VarType.{VarType}
 use Rattle.oa_model.specs.declared.var_type.VarType.TheVariants as types
 use Rattle.oa_array.specs.Arrays.{ArrayValue}
 use Rattle.oa_variant.specs.Decimals.{DecimalValue}
+use Rattle.oa_variant.specs.Keys.{key_number}
 use Rattle.oa_variant.specs.Scalars.{type_of, FitsType}
 use Rattle.oa_variant.specs.declared.scalar.Scalar.{Scalar}
 use Rattle.oa_variant.specs.declared.scalar.Scalar.TheVariants as scalars
 use Rattle.oa_wire_text.specs.Texts.{units}
 use Rattle.oa_wire_array.specs.Scalars.{scalar_vt, sign_of}
 use Rattle.oa_wire_text.specs.Canon.{put_blob, put_bstr}
-use Rattle.oa_wire_array.specs.Canon.{put_decimal, put_arm, put_sized, put_scalar, scalar_len, cl_size}
+use Rattle.oa_wire_array.specs.Canon.{put_decimal, put_number, put_arm, put_sized, put_scalar, scalar_len, cl_size}
 use Rattle.oa_wire_array.specs.ArrayCanon.{put_bound, has_pointee, put_pointee, put_cell_referent, put_pointed, is_pointed, put_elements}
 use Rattle.oa_wire_array.specs.ArrayCanon.{features_of, put_shape, put_size}
 use Rattle.oa_wire_array.proofs.ArrayLaws.{Fits, by_recursion}
+use Rattle.oa_wire_array.proofs.Widths.{IsWidth, of_width, one, two, four, eight, width_by, number_bytes}
 
 -- ---- places
 
@@ -42,16 +44,6 @@ no_padding n p h = rw h refl
 
 unit_on : (n x : ℕ) (out : List ℕ) → length out % n ≡ 0 → length (put_unit n x out) ≡ length out + n
 unit_on n x out h = omega (arith, unit_len n x out, no_padding n (length out) h)
-
-abbrev IsWidth : ℕ → Type 0
-IsWidth w = (w ≡ 1) ⊎ (w ≡ 2) ⊎ (w ≡ 4) ⊎ (w ≡ 8)
-
--- A property of all four widths.
-of_width : (P : ℕ → Type 0) → P 1 → P 2 → P 4 → P 8 → (w : ℕ) → IsWidth w → P w
-of_width P a b c d w (inl e) = subst P (sym e) a
-of_width P a b c d w (inr (inl e)) = subst P (sym e) b
-of_width P a b c d w (inr (inr (inl e))) = subst P (sym e) c
-of_width P a b c d w (inr (inr (inr e))) = subst P (sym e) d
 
 stays : (p w : ℕ) → IsWidth w → p % w ≡ 0 → (p + w) % w ≡ 0
 stays p = of_width (λ w. p % w ≡ 0 → (p + w) % w ≡ 0) (λ h. omega (arith, h)) (λ h. omega (arith, h)) (λ h. omega (arith, h)) (λ h. omega (arith, h))
@@ -106,18 +98,6 @@ bytes_alike text = record { adds = λ a b e. omega (arith, length-append a text,
 nothing_alike : Alike (λ out. out) (λ out. out)
 nothing_alike = record { adds = λ a b e. omega arith }
 
-one : IsWidth 1
-one = inl refl
-
-two : IsWidth 2
-two = inr (inl refl)
-
-four : IsWidth 4
-four = inr (inr (inl refl))
-
-pub eight : IsWidth 8
-eight = inr (inr (inr refl))
-
 align_alike : Alike (put_align 8) (put_align 8)
 align_alike = record { adds = λ a b e. omega (arith, align_len 8 a, align_len 8 b, same_padding (length a) (length b) 8 eight e) }
 
@@ -135,24 +115,17 @@ decimal_alike d =
     then_alike align_alike (then_alike (unit_alike 2 0 0 two) (then_alike (unit_alike 1 d.scale d.scale one) (then_alike (unit_alike 1 (sign_of d.negative) (sign_of d.negative) one)
     (then_alike (unit_alike 4 _ _ four) (unit_alike 8 _ _ eight)))))
 
+number_alike : (signed : Bool) (n : ℕ) → IsWidth n → (z : ℤ) → Alike (put_number signed n z) (put_number signed n z)
+number_alike true n is z = unit_alike n _ _ is
+number_alike false n is z = unit_alike n _ _ is
+
 arm_alike : (v : Scalar) → Alike (put_arm v) (put_arm v)
 arm_alike scalars.Empty = nothing_alike
 arm_alike scalars.Null = nothing_alike
-arm_alike (scalars.I1 z) = unit_alike 1 _ _ one
-arm_alike (scalars.I2 z) = unit_alike 2 _ _ two
-arm_alike (scalars.I4 z) = unit_alike 4 _ _ four
-arm_alike (scalars.I8 z) = unit_alike 8 _ _ eight
-arm_alike (scalars.Int z) = unit_alike 4 _ _ four
-arm_alike (scalars.Ui1 z) = unit_alike 1 _ _ one
-arm_alike (scalars.Ui2 z) = unit_alike 2 _ _ two
-arm_alike (scalars.Ui4 z) = unit_alike 4 _ _ four
-arm_alike (scalars.Ui8 z) = unit_alike 8 _ _ eight
-arm_alike (scalars.Uint z) = unit_alike 4 _ _ four
-arm_alike (scalars.Cy z) = unit_alike 8 _ _ eight
-arm_alike (scalars.Bool z) = unit_alike 2 _ _ two
-arm_alike (scalars.Error z) = unit_alike 4 _ _ four
+arm_alike (scalars.Bool b) = unit_alike 2 _ _ two
 arm_alike (scalars.Bstr t) = bstr_alike t
 arm_alike (scalars.Decimal d) = decimal_alike d
+arm_alike v = number_alike (is_signed_type (type_of v)) (number_bytes (type_of v)) (width_by (number_bytes (type_of v)) refl) (key_number v)
 
 -- After the padding up to a multiple of 8.
 abbrev put_rest : ℕ → Scalar → List ℕ → List ℕ
@@ -210,24 +183,18 @@ some_width w = Some w
 width_is : (w k x : ℕ) (out : List ℕ) → some_width k ≡ Some w → length (put_unit k x out) ≡ length out + padding w (length out) + w
 width_is w k x out e = let same : k ≡ w = cc in subst (λ (n : ℕ). length (put_unit k x out) ≡ length out + padding n (length out) + n) same (unit_len k x out)
 
+number_width : (signed : Bool) (n w : ℕ) (z : ℤ) (out : List ℕ) → some_width n ≡ Some w → length (put_number signed n z out) ≡ length out + padding w (length out) + w
+number_width true n w z out e = width_is w n _ out e
+number_width false n w z out e = width_is w n _ out e
+
 plain_arm : (v : Scalar) (w : ℕ) → element_size_of (type_of v) ≡ Some w → is_pointed (type_of v) ≡ false → (out : List ℕ) → length (put_arm v out) ≡ length out + padding w (length out) + w
 plain_arm scalars.Empty w e h out = absurd cc
 plain_arm scalars.Null w e h out = absurd cc
-plain_arm (scalars.I1 z) w e h out = width_is w 1 _ out e
-plain_arm (scalars.I2 z) w e h out = width_is w 2 _ out e
-plain_arm (scalars.I4 z) w e h out = width_is w 4 _ out e
-plain_arm (scalars.I8 z) w e h out = width_is w 8 _ out e
-plain_arm (scalars.Int z) w e h out = width_is w 4 _ out e
-plain_arm (scalars.Ui1 z) w e h out = width_is w 1 _ out e
-plain_arm (scalars.Ui2 z) w e h out = width_is w 2 _ out e
-plain_arm (scalars.Ui4 z) w e h out = width_is w 4 _ out e
-plain_arm (scalars.Ui8 z) w e h out = width_is w 8 _ out e
-plain_arm (scalars.Uint z) w e h out = width_is w 4 _ out e
-plain_arm (scalars.Cy z) w e h out = width_is w 8 _ out e
-plain_arm (scalars.Bool z) w e h out = width_is w 2 _ out e
-plain_arm (scalars.Error z) w e h out = absurd cc
+plain_arm (scalars.Bool b) w e h out = width_is w 2 _ out e
+plain_arm (scalars.Error n) w e h out = absurd cc
 plain_arm (scalars.Bstr t) w e h out = absurd cc
 plain_arm (scalars.Decimal d) w e h out = absurd cc
+plain_arm v w e h out = number_width (is_signed_type (type_of v)) (number_bytes (type_of v)) w (key_number v) out e
 
 row : (t : VarType) (w : ℕ) → IsWidth w → element_size_of t ≡ Some w → is_pointed t ≡ false → (cells : List Scalar) → AllByRecursion (λ v. type_of v ≡ t) cells → (out : List ℕ) → length out % w ≡ 0
     → length (put_all put_arm cells out) ≡ length out + w * length cells
@@ -250,24 +217,13 @@ row_from t w is e h (v ∷ cells) all some out =
 
 -- the widths that there are
 pub size_is : (t : VarType) → is_some (sf_type_of t) ≡ true → is_pointed t ≡ false → (element_size_of t ≡ Some (unwrap_or (element_size_of t) 0)) × IsWidth (unwrap_or (element_size_of t) 0)
-size_is types.I1 h p = (refl, one)
-size_is types.Ui1 h p = (refl, one)
-size_is types.I2 h p = (refl, two)
-size_is types.Ui2 h p = (refl, two)
-size_is types.Bool h p = (refl, two)
-size_is types.I4 h p = (refl, four)
-size_is types.Ui4 h p = (refl, four)
-size_is types.Int h p = (refl, four)
-size_is types.Uint h p = (refl, four)
-size_is types.I8 h p = (refl, eight)
-size_is types.Ui8 h p = (refl, eight)
-size_is types.Cy h p = (refl, eight)
 size_is types.Bstr h p = absurd cc
 size_is types.Variant h p = absurd cc
 size_is types.Empty h p = absurd cc
 size_is types.Null h p = absurd cc
 size_is types.Error h p = absurd cc
 size_is types.Decimal h p = absurd cc
+size_is t h p = (refl, width_by (number_bytes t) refl)
 
 pub width_bounds : (w : ℕ) → IsWidth w → (0 < w) × (w ≤ 8)
 width_bounds = of_width (λ w. (0 < w) × (w ≤ 8)) (omega arith, omega arith) (omega arith, omega arith) (omega arith, omega arith) (omega arith, omega arith)

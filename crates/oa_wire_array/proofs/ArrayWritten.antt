@@ -38,22 +38,7 @@ referents_write t (v ∷ cells) = then_writes (referent_writes (has_pointee t v)
 text_writes : (v : Scalar) → type_of v ≡ types.Bstr → IsScalar v → Writes (cell_pointee types.Bstr (has_pointee types.Bstr v) v) (put_pointee types.Bstr v)
 text_writes (scalars.Bstr None) e h = made_writes None refl (given_writes refl)
 text_writes (scalars.Bstr (Some text)) e h = made_writes (Some text) refl (blob_writes (Some text) h)
-text_writes scalars.Empty e h = absurd cc
-text_writes scalars.Null e h = absurd cc
-text_writes (scalars.I1 x) e h = absurd cc
-text_writes (scalars.I2 x) e h = absurd cc
-text_writes (scalars.I4 x) e h = absurd cc
-text_writes (scalars.I8 x) e h = absurd cc
-text_writes (scalars.Int x) e h = absurd cc
-text_writes (scalars.Ui1 x) e h = absurd cc
-text_writes (scalars.Ui2 x) e h = absurd cc
-text_writes (scalars.Ui4 x) e h = absurd cc
-text_writes (scalars.Ui8 x) e h = absurd cc
-text_writes (scalars.Uint x) e h = absurd cc
-text_writes (scalars.Cy x) e h = absurd cc
-text_writes (scalars.Bool x) e h = absurd cc
-text_writes (scalars.Error x) e h = absurd cc
-text_writes (scalars.Decimal x) e h = absurd cc
+text_writes v e h = absurd cc
 
 -- An element of its type that satisfies the invariant of scalars.
 abbrev IsCell : VarType → Scalar → Type 0
@@ -96,24 +81,11 @@ dimensions_writes a is cells bounds =
 
 -- the sfType that is written
 sf_is : (t : VarType) → is_some (sf_type_of t) ≡ true → (sf_type_of t ≡ Some (unwrap_or (sf_type_of t) 0)) × (unwrap_or (sf_type_of t) 0 < 256 ^ 4)
-sf_is types.I1 h = (refl, omega arith)
-sf_is types.Ui1 h = (refl, omega arith)
-sf_is types.I2 h = (refl, omega arith)
-sf_is types.Ui2 h = (refl, omega arith)
-sf_is types.Bool h = (refl, omega arith)
-sf_is types.I4 h = (refl, omega arith)
-sf_is types.Ui4 h = (refl, omega arith)
-sf_is types.Int h = (refl, omega arith)
-sf_is types.Uint h = (refl, omega arith)
-sf_is types.I8 h = (refl, omega arith)
-sf_is types.Ui8 h = (refl, omega arith)
-sf_is types.Cy h = (refl, omega arith)
-sf_is types.Bstr h = (refl, omega arith)
-sf_is types.Variant h = (refl, omega arith)
 sf_is types.Empty h = absurd cc
 sf_is types.Null h = absurd cc
 sf_is types.Error h = absurd cc
 sf_is types.Decimal h = absurd cc
+sf_is t h = (refl, omega arith)
 
 pub array_writes : (a : ArrayValue Scalar) → IsArray FitsType a → All IsScalar a.cells → All IsBound a.bounds → Writes (array (with_locks a 0)) (put_array a)
 unfolding put_array

@@ -12,7 +12,8 @@ use Rattle.oa_ndr.proofs.Laws.{unit_reads, align_reads}
 use Rattle.oa_wire_array.specs.Scalars.{own_vt}
 use Rattle.oa_wire_array.specs.Canon.{put_head}
 use Rattle.oa_wire_text.specs.Reading.{from_multiple}
-use Rattle.oa_wire_array.proofs.ArrayLengths.{align_len, lands, no_padding, eight}
+use Rattle.oa_wire_array.proofs.ArrayLengths.{align_len, lands, no_padding}
+use Rattle.oa_wire_array.proofs.Widths.{eight}
 
 -- The cursor is k bytes after another one.
 abbrev Behind : Cursor → ℕ → Cursor → Type 0

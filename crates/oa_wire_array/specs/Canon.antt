@@ -1,14 +1,19 @@
 -- The canonical encoding of scalars: the content of ignored parts, and the choices between encodings (this project's
 -- choice).
-use Rattle.std.specs.Prelude.{ℕ, ◌+◌, ◌/◌, ◌%◌, ◌^◌, Bool, if◌then◌else◌, List, [], length}
-use Rattle.std.specs.Int.{w8, w16, w32, w64, cast_unsigned}
+use Rattle.std.specs.Prelude.{ℕ, ℤ, ◌+◌, ◌/◌, ◌%◌, ◌^◌, unsigned_abs, Bool, true, false, if◌then◌else◌}
+use Rattle.std.specs.Prelude.{List, [], length}
+use Rattle.std.specs.Int.{cast_unsigned}
+use Rattle.std.specs.Option.{unwrap_or}
 use Rattle.oa_model.specs.Limits.{max_text_bytes}
+use Rattle.oa_model.specs.Types.{is_signed_type, element_size_of}
 use Rattle.oa_ndr.specs.Writing.{put_align, put_unit}
 use Rattle.oa_variant.specs.Decimals.{DecimalValue}
+use Rattle.oa_variant.specs.Keys.{key_number}
+use Rattle.oa_variant.specs.Scalars.{type_of}
 use Rattle.oa_variant.specs.declared.scalar.Scalar.{Scalar}
 use Rattle.oa_variant.specs.declared.scalar.Scalar.TheVariants as scalars
 use Rattle.oa_wire_text.specs.Canon.{◌|>◌, put_bstr}
-use Rattle.oa_wire_array.specs.Scalars.{scalar_vt, sign_of}
+use Rattle.oa_wire_array.specs.Scalars.{scalar_vt, sign_of, width_of}
 
 -- Appends a VARIANT_BOOL.
 abbrev pub put_truth : Bool → List ℕ → List ℕ
@@ -20,25 +25,20 @@ put_decimal d out =
     out |> put_align 8 |> put_unit 2 0 |> put_unit 1 d.scale |> put_unit 1 (sign_of d.negative)
     |> put_unit 4 (d.magnitude / 2 ^ 64) |> put_unit 8 (d.magnitude % 2 ^ 64)
 
+-- Appends a number in n bytes, signed or not.
+abbrev pub put_number : Bool → ℕ → ℤ → List ℕ → List ℕ
+put_number true n z out = out |> put_unit n (cast_unsigned (width_of n) z)
+put_number false n z out = out |> put_unit n (unsigned_abs z)
+
 -- Appends the arm of a scalar.
 abbrev pub put_arm : Scalar → List ℕ → List ℕ
 put_arm scalars.Empty out = out
 put_arm scalars.Null out = out
-put_arm (scalars.I1 z) out = out |> put_unit 1 (cast_unsigned w8 z)
-put_arm (scalars.I2 z) out = out |> put_unit 2 (cast_unsigned w16 z)
-put_arm (scalars.I4 z) out = out |> put_unit 4 (cast_unsigned w32 z)
-put_arm (scalars.I8 z) out = out |> put_unit 8 (cast_unsigned w64 z)
-put_arm (scalars.Int z) out = out |> put_unit 4 (cast_unsigned w32 z)
-put_arm (scalars.Ui1 n) out = out |> put_unit 1 n
-put_arm (scalars.Ui2 n) out = out |> put_unit 2 n
-put_arm (scalars.Ui4 n) out = out |> put_unit 4 n
-put_arm (scalars.Ui8 n) out = out |> put_unit 8 n
-put_arm (scalars.Uint n) out = out |> put_unit 4 n
-put_arm (scalars.Cy z) out = out |> put_unit 8 (cast_unsigned w64 z)
 put_arm (scalars.Bool b) out = out |> put_truth b
-put_arm (scalars.Error n) out = out |> put_unit 4 n
 put_arm (scalars.Bstr t) out = out |> put_bstr t
 put_arm (scalars.Decimal d) out = out |> put_decimal d
+put_arm v out =
+    out |> put_number (is_signed_type (type_of v)) (unwrap_or (element_size_of (type_of v)) 4) (key_number v)
 
 -- Appends clSize, rpcReserved, vt and three reserved numbers.
 abbrev pub put_head : ℕ → ℕ → List ℕ → List ℕ

@@ -1,11 +1,14 @@
 -- The encoding of a scalar: wireVARIANT (MS-OAUT section 2.2.29) with the arm of its type. The alignment is that of NDR
 -- (C706 14.2.2). That CURRENCY, DECIMAL and wireVARIANT begin at a multiple of 8 is this project's choice.
 use Rattle.std.specs.Prelude.{◌≡◌, ℕ, ℤ, ◌+◌, ◌*◌, ◌^◌, ◌≤◌, ◌==◌, Bool, true, false, not, List, length, drop}
+use Rattle.std.specs.Prelude.{unsigned_abs, if◌then◌else◌}
+use Rattle.std.specs.Option.{unwrap_or}
 use Rattle.byteorder.specs.Endian.{little_number}
 use Rattle.std.specs.Int.{Width, w8, w16, w32, w64, cast_signed}
 use Rattle.oa_ndr.specs.Forms.{Form, ◌▸◌, nothing, align, ignored, unit, with, given}
-use Rattle.oa_model.specs.Types.{vt_of}
+use Rattle.oa_model.specs.Types.{vt_of, is_signed_type, element_size_of}
 use Rattle.oa_variant.specs.Decimals.{DecimalValue}
+use Rattle.oa_variant.specs.Keys.{key_number}
 use Rattle.oa_variant.specs.Scalars.{type_of}
 use Rattle.oa_variant.specs.declared.scalar.Scalar.{Scalar}
 use Rattle.oa_variant.specs.declared.scalar.Scalar.TheVariants as scalars
@@ -33,25 +36,24 @@ decimal d =
     align 8 ▸ ignored 2 ▸ unit 1 d.scale ▸ sign d.negative
     ▸ with (unit 4) (λ high. with (unit 8) (λ low. given ((d.scale ≤ 28) × (d.magnitude ≡ high * 2 ^ 64 + low))))
 
--- The arm of the scalar's type.
+-- The width of a number of this many bytes.
+abbrev pub width_of : ℕ → Width
+width_of n = if n == 1 then w8 else if n == 2 then w16 else if n == 8 then w64 else w32
+
+-- A number in n bytes, signed or not.
+abbrev pub number : Bool → ℕ → ℤ → Form
+number true n z = signed_unit n (width_of n) z
+number false n z = unit n (unsigned_abs z)
+
+-- The arm of the scalar's type. A number has as many bytes as an element of an array of its type; ERROR, which no
+-- array has, is one of 4 bytes.
 abbrev pub arm : Scalar → Form
 arm scalars.Empty = nothing
 arm scalars.Null = nothing
-arm (scalars.I1 z) = signed_unit 1 w8 z
-arm (scalars.I2 z) = signed_unit 2 w16 z
-arm (scalars.I4 z) = signed_unit 4 w32 z
-arm (scalars.I8 z) = signed_unit 8 w64 z
-arm (scalars.Int z) = signed_unit 4 w32 z
-arm (scalars.Ui1 n) = unit 1 n
-arm (scalars.Ui2 n) = unit 2 n
-arm (scalars.Ui4 n) = unit 4 n
-arm (scalars.Ui8 n) = unit 8 n
-arm (scalars.Uint n) = unit 4 n
-arm (scalars.Cy z) = signed_unit 8 w64 z
 arm (scalars.Bool b) = truth b
-arm (scalars.Error n) = unit 4 n
 arm (scalars.Bstr t) = bstr t
 arm (scalars.Decimal d) = decimal d
+arm v = number (is_signed_type (type_of v)) (unwrap_or (element_size_of (type_of v)) 4) (key_number v)
 
 -- The number of a scalar's type.
 abbrev pub scalar_vt : Scalar → ℕ

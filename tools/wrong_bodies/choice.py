@@ -18,6 +18,8 @@ PARTS = 8
 SOURCES = ("src", "specs", "proofs")
 FOLDERS = (*SOURCES, "wrong-bodies")
 TRIED = "tools/wrong_bodies/TRIED"
+# two commits that differ in names and layout alone: a verdict over the first holds of the second
+RENAMED = "tools/wrong_bodies/RENAMED"
 HEAD = (
     "# CRATE COMMIT DAY COUNT SECONDS: the commit over which all wrong bodies of the crate were "
     "tried, how many were refused, and how long it took. tools/wrong_bodies writes it."
@@ -100,35 +102,70 @@ def code_of(text):
     return [*code, *text[at:].split()]
 
 
-def says_the_same(root, commit, path):
-    """Returns whether a file of code, definitions or proofs is the one of a commit but for
-    comments, and for the lines that it is laid out in."""
-    says = {".antt": said_by, ".rt": code_of}.get(os.path.splitext(path)[1])
-    before = git(root, "show", f"{commit}:{path}") if says else None
-    if before is None or not os.path.isfile(f"{root}/{path}"):
-        return False
-    with open(f"{root}/{path}", encoding="utf-8") as it:
-        return says(before) == says(it.read())
-
-
-def changed_crates(root, commit, folders=FOLDERS):
-    """Returns the crates whose folders differ, committed or not, from a commit, or None if it is
-    not in the history."""
-    if git(root, "merge-base", "--is-ancestor", commit, "HEAD") is None:
+def text_at(root, commit, path):
+    """Returns the text of a file at a commit, or as it is now if the commit is None; None if there
+    is no such file."""
+    if commit is not None:
+        return git(root, "show", f"{commit}:{path}")
+    if not os.path.isfile(f"{root}/{path}"):
         return None
-    paths = (git(root, "diff", "--name-only", "-z", commit, "--", "crates") or "") + (
-        git(root, "ls-files", "-z", "--others", "--exclude-standard", "crates") or ""
-    )
+    with open(f"{root}/{path}", encoding="utf-8") as it:
+        return it.read()
+
+
+def says_the_same(root, commit, path, until=None):
+    """Returns whether a file of code, definitions or proofs is the one of a commit but for
+    comments, and for the lines that it is laid out in: as it is now, or at another commit."""
+    says = {".antt": said_by, ".rt": code_of}.get(os.path.splitext(path)[1])
+    before = text_at(root, commit, path) if says else None
+    after = None if before is None else text_at(root, until, path)
+    return after is not None and says(before) == says(after)
+
+
+def changed_crates(root, commit, folders=FOLDERS, until=None):
+    """Returns the crates whose folders differ from a commit, or None if it is not in the history:
+    as they are now, committed or not, or at a later commit."""
+    if git(root, "merge-base", "--is-ancestor", commit, until or "HEAD") is None:
+        return None
+    paths = git(root, "diff", "--name-only", "-z", commit, *filter(None, [until]), "--", "crates")
+    if until is None:
+        others = git(root, "ls-files", "-z", "--others", "--exclude-standard", "crates")
+        paths = (paths or "") + (others or "")
     found = {}
-    for path in filter(None, paths.split("\0")):
+    for path in filter(None, (paths or "").split("\0")):
         parts = path.split("/")
         if len(parts) > 3 and parts[2] in folders:
             found.setdefault(parts[1], []).append(path)
     return {
         name
         for name, its in found.items()
-        if not all(says_the_same(root, commit, it) for it in its)
+        if not all(says_the_same(root, commit, it, until) for it in its)
     }
+
+
+def read_renaming(root):
+    """Returns the two commits of the last renaming, and the new names of crates by their old ones;
+    None if there is no such file."""
+    if not os.path.isfile(f"{root}/{RENAMED}"):
+        return None
+    with open(f"{root}/{RENAMED}", encoding="utf-8") as it:
+        lines = [line.split() for line in it if not line.startswith("#")]
+    pairs = [line for line in lines if len(line) == 2]
+    return (*pairs[0], dict(pairs[1:])) if pairs else None
+
+
+def changed_but_for_names(root, commit, folders=FOLDERS):
+    """Returns what `changed_crates` does; of a commit before the last renaming, the crates that had
+    changed before it, or have changed since then."""
+    renaming = read_renaming(root)
+    if renaming is None:
+        return changed_crates(root, commit, folders)
+    before, after, names = renaming
+    earlier = changed_crates(root, commit, folders, before)
+    later = changed_crates(root, after, folders)
+    if earlier is None or later is None:
+        return changed_crates(root, commit, folders)
+    return {names.get(it, it) for it in earlier} | later
 
 
 class Choice:
@@ -143,7 +180,7 @@ class Choice:
         if not is_for_gate:
             return
         self.changed_since = functools.cache(
-            lambda commit, folders: changed_crates(root, commit, folders)
+            lambda commit, folders: changed_but_for_names(root, commit, folders)
         )
         head = git(root, "rev-parse", "HEAD")
         if head is None:

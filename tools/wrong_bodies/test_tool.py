@@ -19,7 +19,16 @@ ROOT = os.path.dirname(os.path.dirname(os.path.dirname(os.path.abspath(__file__)
 TOOL = os.path.join(ROOT, "tools", "wrong_bodies")
 sys.dont_write_bytecode = True
 sys.path.insert(0, os.path.join(ROOT, "tools"))
-from wrong_bodies.choice import PARTS, SOURCES, TRIED, Choice, parts_of, read_tried, write_tried
+from wrong_bodies.choice import (
+    PARTS,
+    RENAMED,
+    SOURCES,
+    TRIED,
+    Choice,
+    parts_of,
+    read_tried,
+    write_tried,
+)
 from wrong_bodies.said import Said, says_of_clause
 from wrong_bodies.sources import Function
 
@@ -550,6 +559,41 @@ def choices(root):
         git(root, "clean", "-qfd", "crates")
 
 
+def renaming(root):
+    """Checks that verdicts over a commit before a renaming hold after it, if only names changed."""
+    older = git(root, "rev-parse", "HEAD")
+    git(root, "mv", "crates/above", "crates/upper")
+    write(f"{root}/crates/steps/src/lib.rt", SOURCE.replace("three", "four"))
+    newer = commit(root, "other names")
+    tried_over(root, steps=older, upper=older)
+    renamed = ["steps/one", "upper/one"]
+    tell(
+        "names alone changed, but nothing says so",
+        Choice(root, renamed, True).whole == {"steps", "upper"},
+    )
+    for name, text, whole in (
+        ("it is in the file", f"# a comment\n{older} {newer}\nabove upper\n", set()),
+        ("without the crate's new name", f"{older} {newer}\n", set()),
+        ("of commits of another history", f"{'1' * 40} {newer}\nabove upper\n", {"steps", "upper"}),
+    ):
+        write(f"{root}/{RENAMED}", text)
+        choice = Choice(root, renamed, True)
+        tell(f"a renaming, {name}", choice.whole == whole, choice.why)
+    write(f"{root}/{RENAMED}", f"{older} {newer}\nabove upper\n")
+    write(f"{root}/crates/upper/src/lib.rt", ABOVE + "\nconst CHANGED_SINCE: u32 = 3;\n")
+    commit(root, "a change after it")
+    choice = Choice(root, renamed, True)
+    tell("a crate that changed after a renaming", choice.whole == {"upper"}, choice.why)
+    write(f"{root}/crates/steps/src/lib.rt", SOURCE + "\nconst CHANGED_BEFORE: u32 = 3;\n")
+    before = commit(root, "a change before it")
+    write(f"{root}/crates/steps/src/lib.rt", SOURCE + "\nconst RENAMED_NOW: u32 = 3;\n")
+    after = commit(root, "another renaming")
+    tried_over(root, steps=newer, upper=before)
+    write(f"{root}/{RENAMED}", f"{before} {after}\n")
+    choice = Choice(root, renamed, True)
+    tell("a crate that changed before a renaming", choice.whole == {"steps"}, choice.why)
+
+
 def main():
     with tempfile.TemporaryDirectory(prefix="wrong-bodies-test-") as root:
         git(root, "init", "-q")
@@ -605,6 +649,7 @@ def main():
             "--gate",
         )
         choices(root)
+        renaming(root)
     answers()
     print(f"{counts[True]} passed, {counts[False]} failed")
     return 1 if counts[False] else 0

@@ -72,7 +72,7 @@ def opened_before(line):
 
 
 def cost(line, at, stack):
-    """What a break in place of the space at a place costs, or None if there is to be none. In an implicit argument it costs much."""
+    """Returns the cost of a break in place of the space there, or None if there is to be none. One in an implicit argument costs much."""
     before, after = line[:at].split()[-1] if line[:at].split() else "", line[at + 1 :].split(" ")[0]
     if not before or not after or "{text" in stack:
         return None

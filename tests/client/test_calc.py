@@ -65,6 +65,40 @@ def has_uno():
     "libreoffice-calc, libreoffice-script-provider-python or python3-uno is not there",
 )
 class Calc(ClientCases):
+    def driven(self, room):
+        """What the driver says of the office with the document in a folder."""
+        with open(f"{room}/driver.py", "w") as file:
+            file.write(DRIVER)
+        pipe = f"oaut{os.getpid()}"
+        words = [
+            SOFFICE,
+            "--headless",
+            "--norestore",
+            "--nologo",
+            f"--accept=pipe,name={pipe};urp;",
+            f"-env:UserInstallation=file://{room}/profile",
+        ]
+        # (the office has a Python of its own, which finds its library by the path)
+        office = subprocess.Popen(
+            words,
+            env={"PATH": "/usr/bin:/bin", "HOME": room, "PYTHONPATH": PACKAGE},
+            stdout=subprocess.DEVNULL,
+            stderr=subprocess.DEVNULL,
+            start_new_session=True,
+        )
+        try:
+            done = subprocess.run(
+                [PYTHON, f"{room}/driver.py", pipe, f"file://{room}/objects.ods"],
+                capture_output=True,
+                text=True,
+                timeout=800,
+            )
+        finally:
+            if office.poll() is None:
+                os.killpg(office.pid, 9)
+                office.wait()
+        return done
+
     def test_a_table_of_objects(self):
         spec = importlib.util.spec_from_file_location(
             "document", f"{ROOT}/examples/calc/document.py"
@@ -81,36 +115,7 @@ class Calc(ClientCases):
             document.make(
                 f"{room}/objects.ods", program=PROGRAM, store=store, library=FULL, coclass="Item"
             )
-            with open(f"{room}/driver.py", "w") as file:
-                file.write(DRIVER)
-            pipe = f"oaut{os.getpid()}"
-            words = [
-                SOFFICE,
-                "--headless",
-                "--norestore",
-                "--nologo",
-                f"--accept=pipe,name={pipe};urp;",
-                f"-env:UserInstallation=file://{room}/profile",
-            ]
-            # (the office has a Python of its own, which finds its library by the path)
-            office = subprocess.Popen(
-                words,
-                env={"PATH": "/usr/bin:/bin", "HOME": room, "PYTHONPATH": PACKAGE},
-                stdout=subprocess.DEVNULL,
-                stderr=subprocess.DEVNULL,
-                start_new_session=True,
-            )
-            try:
-                done = subprocess.run(
-                    [PYTHON, f"{room}/driver.py", pipe, f"file://{room}/objects.ods"],
-                    capture_output=True,
-                    text=True,
-                    timeout=800,
-                )
-            finally:
-                if office.poll() is None:
-                    os.killpg(office.pid, 9)
-                    office.wait()
+            done = self.driven(room)
             told = [eval(line) for line in done.stdout.splitlines()]
             self.tell("the driver", done.returncode == 0 and len(told) == 4, done.stderr[-2_000:])
             heads = ["object", "Count", "Name", "Price"]

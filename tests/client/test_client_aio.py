@@ -39,6 +39,23 @@ class Awaited(ClientCases):
                     [await grid.lock(), await grid.unlock(), await item.dispids("Cell", "Key")],
                     [1, 0, [9, 1]],
                 )
+                self.same(
+                    "objects",
+                    [(it.number, it.coclass, it == item) for it in await server.objects()],
+                    [(1, "Item", True)],
+                )
+                self.same(
+                    "rows", (await server.to_rows("Item", "Count"))[0], {"number": 1, "Count": 7}
+                )
+                await item.release()
+            self.same("it ends", "ended" in repr(server), True)
+
+        self.runs(act)
+
+    def test_what_is_refused(self):
+        async def act():
+            async with aio.play(FULL, program=PROGRAM) as server:
+                item = await server.create("Item")
                 for name, asked, kind, says in (
                     (
                         "a refusal",
@@ -76,14 +93,6 @@ class Awaited(ClientCases):
                         self.tell(name, False, "no exception")
                     except kind as error:
                         self.same(name, (type(error), str(error)), (kind, says))
-                self.same(
-                    "objects",
-                    [(it.number, it.coclass, it == item) for it in await server.objects()],
-                    [(1, "Item", True)],
-                )
-                self.same(
-                    "rows", (await server.to_rows("Item", "Count"))[0], {"number": 1, "Count": 7}
-                )
                 await item.release()
             self.same("it ends", "ended" in repr(server), True)
 

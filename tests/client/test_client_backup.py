@@ -105,6 +105,12 @@ def made(room, form=2, name="it.store", events=EVENTS):
     return path
 
 
+def object_with(**cell):
+    """The part of a dump with an object that has this cell."""
+    cells = [{"interface": str(FACE), "dispid": 1, **cell}]
+    return {"objects": [{"number": 1, "coclass": str(CLASS), "cells": cells}]}
+
+
 def held(path):
     with open(path, "rb") as file:
         return stores.dump(file.read())
@@ -174,6 +180,11 @@ class Backup(ClientCases):
                     "exact": True,
                 }
                 self.same(f"format {form}, counted", dumps.counted(path), wanted)
+
+    def test_info_of_the_command(self):
+        with tempfile.TemporaryDirectory() as room:
+            path = made(room, 1, "1.store")
+            found, wanted = files.info(path), dumps.counted(path)
             self.same(
                 "in words",
                 command("info", path)[:1] + tuple(command("info", path)[1].splitlines()[:2]),
@@ -330,64 +341,9 @@ class Backup(ClientCases):
                     "a coclass that is no GUID",
                     {"objects": [{"number": 1, "coclass": "x", "cells": []}]},
                 ),
-                (
-                    "a type that is none",
-                    {
-                        "objects": [
-                            {
-                                "number": 1,
-                                "coclass": str(CLASS),
-                                "cells": [
-                                    {
-                                        "interface": str(FACE),
-                                        "dispid": 1,
-                                        "type": "DATE",
-                                        "value": 1,
-                                    }
-                                ],
-                            }
-                        ]
-                    },
-                ),
-                (
-                    "a number too large",
-                    {
-                        "objects": [
-                            {
-                                "number": 1,
-                                "coclass": str(CLASS),
-                                "cells": [
-                                    {
-                                        "interface": str(FACE),
-                                        "dispid": 1,
-                                        "type": "I2",
-                                        "value": 70_000,
-                                    }
-                                ],
-                            }
-                        ]
-                    },
-                ),
-                (
-                    "cells too few",
-                    {
-                        "objects": [
-                            {
-                                "number": 1,
-                                "coclass": str(CLASS),
-                                "cells": [
-                                    {
-                                        "interface": str(FACE),
-                                        "dispid": 1,
-                                        "array": "I2",
-                                        "bounds": [[2, 0]],
-                                        "cells": [1],
-                                    }
-                                ],
-                            }
-                        ]
-                    },
-                ),
+                ("a type that is none", object_with(type="DATE", value=1)),
+                ("a number too large", object_with(type="I2", value=70_000)),
+                ("cells too few", object_with(array="I2", bounds=[[2, 0]], cells=[1])),
             ):
                 self.raises(
                     name, oaut.Unusable, lambda: dumps.restore({**told, **change}, f"{room}/new")

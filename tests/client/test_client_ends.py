@@ -128,7 +128,7 @@ class Ends(ClientCases):
         server.close()
         self.raises("a session that was closed", oaut.SessionEnded, lambda: server.create("Item"))
 
-    def test_what_is_refused_at_the_start(self):
+    def test_libraries_that_are_refused_at_the_start(self):
         with library_of("properties: long Count;") as library:
             end = self.raises(
                 "a library that is refused",
@@ -155,6 +155,8 @@ class Ends(ClientCases):
             fault="oaut: cannot read /",
             cause="Is a directory",
         )
+
+    def test_programs_that_do_not_start(self):
         for program in (
             "/none/oaut",
             "no-such-oaut",

@@ -176,29 +176,34 @@ class Package(ClientCases):
         ):
             self.same(name, of, limit(name))
 
+    def installed(self, room):
+        """The Python of a fresh environment with the package."""
+        venv.create(f"{room}/venv", with_pip=True)
+        python = f"{room}/venv/bin/python"
+        shutil.copytree(PACKAGE, f"{room}/source", ignore=shutil.ignore_patterns("__pycache__"))
+        done = subprocess.run(
+            [
+                python,
+                "-m",
+                "pip",
+                "install",
+                "--quiet",
+                "--no-index",
+                "--disable-pip-version-check",
+                f"{room}/source",
+            ],
+            capture_output=True,
+            text=True,
+        )
+        self.same("it is installed", (done.returncode, done.stderr), (0, ""))
+        return python
+
     @unittest.skipIf(os.environ.get("OAUT_INSTALLED"), "the cases run over an installed package")
     def test_it_installs_without_a_network(self):
         """Into a fresh environment, from an index that is none; the cases that need no program, or
         those of the program, pass there."""
         with tempfile.TemporaryDirectory() as room:
-            venv.create(f"{room}/venv", with_pip=True)
-            python = f"{room}/venv/bin/python"
-            shutil.copytree(PACKAGE, f"{room}/source", ignore=shutil.ignore_patterns("__pycache__"))
-            done = subprocess.run(
-                [
-                    python,
-                    "-m",
-                    "pip",
-                    "install",
-                    "--quiet",
-                    "--no-index",
-                    "--disable-pip-version-check",
-                    f"{room}/source",
-                ],
-                capture_output=True,
-                text=True,
-            )
-            self.same("it is installed", (done.returncode, done.stderr), (0, ""))
+            python = self.installed(room)
             words = ["-c", "import oaut; print(oaut.__version__, oaut.I4(7), oaut.__file__)"]
             done = subprocess.run(
                 [python, *words], cwd=room, env={"PATH": ""}, capture_output=True, text=True

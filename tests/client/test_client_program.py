@@ -164,7 +164,7 @@ class Program(ClientCases):
             )
             self.raises("no array", oaut.TypeMismatch, lambda: setattr(item, "Grid", 7), index=0)
 
-    def test_objects_and_refusals(self):
+    def test_objects(self):
         with play(FULL) as server:
             item = server.create("Item")
             self.same(
@@ -187,6 +187,11 @@ class Program(ClientCases):
                 lambda: item.dispids("Cell", "none"),
             )
             self.same("its fields", oaut.read_ids(unknown.fields), [9, -1])
+
+    def test_refusals(self):
+        with play(FULL) as server:
+            item = server.create("Item")
+            item.Count = 7
             self.raises("a method", oaut.NotImplementedHere, lambda: item.Clear())
             try:
                 item.Clear()
@@ -202,6 +207,28 @@ class Program(ClientCases):
                 index=0,
                 argument="the new value",
             )
+            bad_type = struct.pack("<IIHHHHIId", 4, 0, 5, 0, 0, 0, 5, 0, 0.5)
+            self.raises(
+                "the program's DISP_E_BADVARTYPE",
+                oaut.BadVarType,
+                lambda: setattr(item, "Any", Field(bad_type)),
+                index=0,
+            )
+            self.raises(
+                "the program's bad stub data of a field",
+                oaut.BadStub,
+                lambda: setattr(item, "Any", Field(HI[:-1])),
+            )
+            item = server.create("Item")
+            self.same(
+                "a refused request left no trace",
+                [item.Count, server.object(1, "Item").Count],
+                [I4(0), I4(7)],
+            )
+
+    def test_requests_that_are_refused(self):
+        with play(FULL) as server:
+            server.create("Item")
             # what no attribute asks for, and its code
             wrong_riid = bytearray(oaut.ask_invoke(1, 1, 2, (), ()))
             wrong_riid[28] = 1
@@ -224,24 +251,6 @@ class Program(ClientCases):
                     lambda: server.ask(request, bytes),
                     code=kind.code,
                 )
-            bad_type = struct.pack("<IIHHHHIId", 4, 0, 5, 0, 0, 0, 5, 0, 0.5)
-            self.raises(
-                "the program's DISP_E_BADVARTYPE",
-                oaut.BadVarType,
-                lambda: setattr(item, "Any", Field(bad_type)),
-                index=0,
-            )
-            self.raises(
-                "the program's bad stub data of a field",
-                oaut.BadStub,
-                lambda: setattr(item, "Any", Field(HI[:-1])),
-            )
-            item = server.create("Item")
-            self.same(
-                "a refused request left no trace",
-                [item.Count, server.object(1, "Item").Count],
-                [I4(0), I4(7)],
-            )
 
     def test_batches(self):
         with play(FULL) as server:
@@ -267,6 +276,10 @@ class Program(ClientCases):
                 [it.value.number for it in made],
                 list(range(made[0].value.number, made[0].value.number + 12)),
             )
+
+    def test_refusals_in_a_batch(self):
+        with play(FULL) as server:
+            item = server.create("Item")
             try:
                 with server.batch(4) as batch:
                     item.Count = 1
@@ -295,6 +308,11 @@ class Program(ClientCases):
                     raise KeyError("own")
             except KeyError:
                 self.same("a block that raises sends nothing", item.Count, I4(1))
+
+    def test_large_batches(self):
+        with play(FULL) as server:
+            item = server.create("Item")
+            laters = []
             # 24 MB each way, far above what a pipe holds, while both sides write
             with server.batch():
                 for number in range(48):
@@ -305,6 +323,10 @@ class Program(ClientCases):
                 [laters[-48 + it].value == chr(97 + it % 26) * 131_072 for it in range(48)],
                 [True] * 48,
             )
+
+    def test_the_trace(self):
+        with play(FULL) as server:
+            item = server.create("Item")
             traced = []
             server.trace = lambda side, body: traced.append((side, len(body)))
             item.Count
@@ -446,11 +468,9 @@ class Program(ClientCases):
                     "release some",
                 )
 
-    def test_conversion_parameters_elements_locks(self):
+    def test_conversion(self):
         with play(FULL) as server:
             item = server.create("Item")
-            item.Grid = Array(I2, [(2, -1), (3, 5)], range(1, 7))
-
             for given, kept in (
                 (Currency("2.5"), 2),
                 (Currency("3.5"), 4),
@@ -472,6 +492,10 @@ class Program(ClientCases):
             self.same("the value stays", item.Count, I4(6))
             item.Flag = 3
             self.same("a number as a BOOL", item.Flag, True)
+
+    def test_parameters(self):
+        with play(FULL) as server:
+            item = server.create("Item")
             item.Cell.put("x", Row=5, Key="k")
             self.same(
                 "a cell by its key",
@@ -520,6 +544,11 @@ class Program(ClientCases):
                 lambda: server.ask(request, bytes),
                 index=0,
             )
+
+    def test_elements(self):
+        with play(FULL) as server:
+            item = server.create("Item")
+            item.Grid = Array(I2, [(2, -1), (3, 5)], range(1, 7))
             self.same("elements", [item.Grid[-1, 5], item.Grid[0, 7]], [I2(1), I2(6)])
             self.raises("an index outside", oaut.BadIndex, lambda: item.Grid[1, 7])
             self.raises("an index too few", oaut.BadIndex, lambda: item.Grid.__setitem__(0, 1))
@@ -541,6 +570,10 @@ class Program(ClientCases):
                 later = item.Grid[0, 5]
                 item.Grid[0, 5] = 40
             self.same("elements in a batch", [later.value, item.Grid[0, 5]], [I2(4), I2(40)])
+
+    def test_redimensions_and_locks(self):
+        with play(FULL) as server:
+            item = server.create("Item")
             item.Grid = Array(I2, [(2, -1), (3, 5)], range(1, 7))
             item.Grid.redim(3, 10)
             self.same(
@@ -555,6 +588,10 @@ class Program(ClientCases):
             )
             self.same("the last lock", item.Grid.unlock(), 0)
             self.raises("no lock is left", oaut.Unexpected, lambda: item.Grid.unlock())
+
+    def test_an_object_that_was_released(self):
+        with play(FULL) as server:
+            item = server.create("Item")
             self.same(
                 "the live objects",
                 [(it.number, it.coclass) for it in server.objects()],

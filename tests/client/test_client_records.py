@@ -133,6 +133,8 @@ class Records(ClientCases):
             lambda: item_of(scripted(answer(SEVEN[:-2]))).Count,
         )
         self.raises("fields too few", oaut.ProtocolError, lambda: item_of(scripted(DONE)).Count)
+
+    def test_streams_that_are_cut_off(self):
         for cut in range(1, 20):
             whole = oaut.Raw.pack([b"\1\0\0\0" + DONE])
             short = oaut.connect(io.BytesIO(whole[:cut]), Kept(), "raw", 1)

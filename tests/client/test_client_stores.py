@@ -1,4 +1,5 @@
 """The client against the program, with a store: what it keeps, and what runs out or fails."""
+import contextlib
 import os
 import random
 import shutil
@@ -15,8 +16,40 @@ TEXT = "a" * 131_072
 STRACE = shutil.which("strace")
 
 
+def sizes_of_groups():
+    """Those that the program takes."""
+    return [
+        it
+        for it in (1, 3, 64, 1_024)
+        if subprocess.run(
+            [PROGRAM, "serve", "none", "none", "--group", str(it)], capture_output=True
+        ).returncode
+        != 2
+    ]
+
+
+@contextlib.contextmanager
+def kept(case):
+    """A store with an object, by its path, and what serves it."""
+    with tempfile.TemporaryDirectory() as room:
+        path = f"{room}/it.store"
+        serve = lambda **how: oaut.serve(path, FULL, program=PROGRAM, **how)
+        oaut.make_store(path, FULL, program=PROGRAM)
+        with serve() as server:
+            case.same("a new store has no objects", server.objects(), [])
+            item = server.create("Item")
+            item.Count = 7
+            item.Grid = Array(I2, [(2, -1), (3, 5)], range(1, 7))
+            item.Cell[5, "k"] = "x"
+            item.Grid.lock()
+            case.raises(
+                "a put that is refused", oaut.Overflow, lambda: setattr(item, "Count", 2**31)
+            )
+        yield path, serve
+
+
 class Stores(ClientCases):
-    def test_what_a_store_keeps(self):
+    def test_what_is_not_there(self):
         with tempfile.TemporaryDirectory() as room:
             STORE = f"{room}/it.store"
             serve = lambda **how: oaut.serve(STORE, FULL, program=PROGRAM, **how)
@@ -36,26 +69,10 @@ class Stores(ClientCases):
                 fault="oaut: cannot read /none.idl",
                 cause="No such file or directory",
             )
-            oaut.make_store(STORE, FULL, program=PROGRAM)
-            with serve() as server:
-                self.same("a new store has no objects", server.objects(), [])
-                item = server.create("Item")
-                item.Count = 7
-                item.Grid = Array(I2, [(2, -1), (3, 5)], range(1, 7))
-                item.Cell[5, "k"] = "x"
-                item.Grid.lock()
-                self.raises(
-                    "a put that is refused", oaut.Overflow, lambda: setattr(item, "Count", 2**31)
-                )
-            taken = [
-                it
-                for it in (1, 3, 64, 1_024)
-                if subprocess.run(
-                    [PROGRAM, "serve", "none", "none", "--group", str(it)], capture_output=True
-                ).returncode
-                != 2
-            ]
-            for group in (None, *taken):
+
+    def test_what_a_store_keeps(self):
+        with kept(self) as (_, serve):
+            for group in (None, *sizes_of_groups()):
                 for framing in ("raw", "lines"):
                     with serve(group=group, framing=framing) as server:
                         (item,) = server.objects()
@@ -84,9 +101,12 @@ class Stores(ClientCases):
                             "a" * 131_072,
                         )
                         item.Count = 7
-            for group in taken:
-                # batches of every length beside groups of every length: each request is answered
-                # before the next exchange, and gets see the puts before them
+
+    def test_batches_beside_groups(self):
+        """Batches of every length beside groups of every length: each request is answered before
+        the next exchange, and gets see the puts before them."""
+        with kept(self) as (_, serve):
+            for group in sizes_of_groups():
                 draw = random.Random(group)
                 with serve(group=group) as server:
                     (item,) = server.objects()
@@ -126,10 +146,10 @@ class Stores(ClientCases):
                         [item.Count, item.Name],
                         [I4(last), name],
                     )
-                    item.Name = "a" * 131_072
-                    item.Grid = Array(I2, [(2, -1), (3, 5)], range(1, 7))
-                    item.Count = 7
-            server = serve(group=taken[-1])
+
+    def test_a_server_that_is_killed(self):
+        with kept(self) as (_, serve):
+            server = serve(group=sizes_of_groups()[-1])
             item = server.object(1, "Item")
             item.Count = 8
             os.kill(server._connection.child.pid, signal.SIGKILL)
@@ -146,6 +166,9 @@ class Stores(ClientCases):
                 self.same(
                     "a number is not used again after a stop", server.create("Item").number, 2
                 )
+
+    def test_another_library(self):
+        with kept(self) as (STORE, _):
             self.raises(
                 "another library",
                 oaut.LibraryDiffers,
@@ -153,6 +176,12 @@ class Stores(ClientCases):
                 status=3,
                 fault="oaut: library differs",
             )
+
+    def test_a_store_that_is_damaged(self):
+        with kept(self) as (STORE, serve):
+            with serve() as server:
+                for _ in range(200):
+                    server.object(1, "Item").Name = "a" * 131_072
             with open(STORE, "r+b") as file:
                 # the bank in use: the texts above have filled one, and perhaps several
                 file.seek(4_096)

@@ -195,6 +195,8 @@ class Talking(ClientCases):
                     ),
                 ),
             )
+
+    def test_a_prompt_over_a_store(self):
         with tempfile.TemporaryDirectory() as room:
             oaut.make_store(f"{room}/it.store", FULL, program=PROGRAM)
             over = ["--store", f"{room}/it.store", "--program", PROGRAM]
@@ -215,6 +217,8 @@ class Talking(ClientCases):
             and err.endswith("talk takes LIB, --store STORE or --connect ADDRESS\n"),
             (status, out, err),
         )
+
+    def test_commands_that_are_none(self):
         for line in (
             "nothing",
             "get 5 Count",

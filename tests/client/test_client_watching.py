@@ -51,6 +51,114 @@ def sends(*lines, ends=True):
             thread.join(SECONDS)
 
 
+# a line of a watch, and one with an argument
+CHANGE = {
+    "seq": 4,
+    "kind": "put",
+    "object": 3,
+    "class": str(ITEM.guid),
+    "member": 1,
+    "bytes": 24,
+    "type": 3,
+    "value": 7,
+}
+CELL = {**CHANGE, "member": 9, "type": 8, "value": "v"}
+# lines by what they are, with the attributes of what comes of them
+LINES = [
+    (
+        "a put",
+        CHANGE,
+        {
+            "number": 4,
+            "kind": "put",
+            "object": 3,
+            "coclass": "Item",
+            "interface": "DItem",
+            "member": "Count",
+            "value": 7,
+            "size": 24,
+        },
+    ),
+    (
+        "a null text",
+        {**CHANGE, "member": 2, "type": 8, "value": None},
+        {"member": "Name", "value": None},
+    ),
+    (
+        "a text with half a character",
+        {**CHANGE, "member": 2, "type": 8, "value": "a\ud800"},
+        {"value": "a\ud800"},
+    ),
+    (
+        "without its value",
+        {it: CHANGE[it] for it in CHANGE if it not in ("type", "value")},
+        {"value": oaut.MISSING, "size": 24},
+    ),
+    ("EMPTY", {**CHANGE, "type": 0, "value": None}, {"value": oaut.EMPTY}),
+    ("NULL", {**CHANGE, "type": 1, "value": None}, {"value": None}),
+    ("a boolean", {**CHANGE, "type": 11, "value": True}, {"value": True}),
+    (
+        "a number of 64 bits",
+        {**CHANGE, "type": 21, "value": (1 << 64) - 1},
+        {"value": (1 << 64) - 1},
+    ),
+    (
+        "a DECIMAL",
+        {**CHANGE, "type": 14, "wire": oaut.spell(decimal.Decimal("1.5")).hex()},
+        {"value": decimal.Decimal("1.5")},
+    ),
+    (
+        "arguments",
+        {**CELL, "key": [{"type": 3, "value": 5}, {"type": 8, "value": "k"}]},
+        {"member": "Cell", "key": (5, "k"), "value": "v"},
+    ),
+    (
+        "a named one",
+        {**CELL, "key": [{"name": 1, "type": 8, "value": "k"}, {"type": 3, "value": 5}]},
+        {"key": (5, "k")},
+    ),
+    (
+        "named ones alone",
+        {**CELL, "key": [{"name": 1, "type": 8, "value": "k"}]},
+        {"key": (oaut.MISSING, "k")},
+    ),
+    (
+        "a long one",
+        {**CELL, "key": [{"bytes": 5000}, {"type": 8, "value": "k"}]},
+        {"key": (oaut.MISSING, "k")},
+    ),
+    (
+        "an element",
+        {**CHANGE, "kind": "element", "member": 8, "index": [0, -5], "type": 2},
+        {"kind": "element", "indices": (0, -5), "value": 7},
+    ),
+    (
+        "a redimension",
+        {**CHANGE, "kind": "redimension", "member": 8, "elements": 5, "lower": -1},
+        {"kind": "redimension", "bound": (-1, 5)},
+    ),
+    (
+        "a release",
+        {"seq": 4, "kind": "release", "object": 3, "class": str(ITEM.guid)},
+        {"kind": "release", "member": None, "value": oaut.MISSING},
+    ),
+    (
+        "a library",
+        {"seq": 4, "kind": "library", "bytes": 3, "text": "abc"},
+        {"kind": "library", "value": "abc", "size": 3, "object": None},
+    ),
+    ("a gap", {"gap": 9, "next": 13}, {"kind": "gap", "number": 13, "missed": 9}),
+    ("a restart", {"restart": 2, "next": 5}, {"kind": "restart", "number": 5}),
+    (
+        "an unknown coclass",
+        {**CHANGE, "class": "0" * 8 + "-0000-0000-0000-" + "0" * 12},
+        {"member": "1"},
+    ),
+    ("an unknown member", {**CHANGE, "member": 77}, {"member": "77", "coclass": "Item"}),
+    ("a field of later", {**CHANGE, "colour": "red"}, {"number": 4}),
+]
+
+
 class MadeUp(Cases):
     def test_what_is_asked(self):
         from oaut.watching import Told
@@ -82,114 +190,10 @@ class MadeUp(Cases):
     def test_lines(self):
         from oaut.watching import Told, Watch
 
-        change = {
-            "seq": 4,
-            "kind": "put",
-            "object": 3,
-            "class": str(ITEM.guid),
-            "member": 1,
-            "bytes": 24,
-            "type": 3,
-            "value": 7,
-        }
-        cell = {**change, "member": 9, "type": 8, "value": "v"}
-        rows = [
-            (
-                "a put",
-                change,
-                {
-                    "number": 4,
-                    "kind": "put",
-                    "object": 3,
-                    "coclass": "Item",
-                    "interface": "DItem",
-                    "member": "Count",
-                    "value": 7,
-                    "size": 24,
-                },
-            ),
-            (
-                "a null text",
-                {**change, "member": 2, "type": 8, "value": None},
-                {"member": "Name", "value": None},
-            ),
-            (
-                "a text with half a character",
-                {**change, "member": 2, "type": 8, "value": "a\ud800"},
-                {"value": "a\ud800"},
-            ),
-            (
-                "without its value",
-                {it: change[it] for it in change if it not in ("type", "value")},
-                {"value": oaut.MISSING, "size": 24},
-            ),
-            ("EMPTY", {**change, "type": 0, "value": None}, {"value": oaut.EMPTY}),
-            ("NULL", {**change, "type": 1, "value": None}, {"value": None}),
-            ("a boolean", {**change, "type": 11, "value": True}, {"value": True}),
-            (
-                "a number of 64 bits",
-                {**change, "type": 21, "value": (1 << 64) - 1},
-                {"value": (1 << 64) - 1},
-            ),
-            (
-                "a DECIMAL",
-                {**change, "type": 14, "wire": oaut.spell(decimal.Decimal("1.5")).hex()},
-                {"value": decimal.Decimal("1.5")},
-            ),
-            (
-                "arguments",
-                {**cell, "key": [{"type": 3, "value": 5}, {"type": 8, "value": "k"}]},
-                {"member": "Cell", "key": (5, "k"), "value": "v"},
-            ),
-            (
-                "a named one",
-                {**cell, "key": [{"name": 1, "type": 8, "value": "k"}, {"type": 3, "value": 5}]},
-                {"key": (5, "k")},
-            ),
-            (
-                "named ones alone",
-                {**cell, "key": [{"name": 1, "type": 8, "value": "k"}]},
-                {"key": (oaut.MISSING, "k")},
-            ),
-            (
-                "a long one",
-                {**cell, "key": [{"bytes": 5000}, {"type": 8, "value": "k"}]},
-                {"key": (oaut.MISSING, "k")},
-            ),
-            (
-                "an element",
-                {**change, "kind": "element", "member": 8, "index": [0, -5], "type": 2},
-                {"kind": "element", "indices": (0, -5), "value": 7},
-            ),
-            (
-                "a redimension",
-                {**change, "kind": "redimension", "member": 8, "elements": 5, "lower": -1},
-                {"kind": "redimension", "bound": (-1, 5)},
-            ),
-            (
-                "a release",
-                {"seq": 4, "kind": "release", "object": 3, "class": str(ITEM.guid)},
-                {"kind": "release", "member": None, "value": oaut.MISSING},
-            ),
-            (
-                "a library",
-                {"seq": 4, "kind": "library", "bytes": 3, "text": "abc"},
-                {"kind": "library", "value": "abc", "size": 3, "object": None},
-            ),
-            ("a gap", {"gap": 9, "next": 13}, {"kind": "gap", "number": 13, "missed": 9}),
-            ("a restart", {"restart": 2, "next": 5}, {"kind": "restart", "number": 5}),
-            (
-                "an unknown coclass",
-                {**change, "class": "0" * 8 + "-0000-0000-0000-" + "0" * 12},
-                {"member": "1"},
-            ),
-            ("an unknown member", {**change, "member": 77}, {"member": "77", "coclass": "Item"}),
-            ("a field of later", {**change, "colour": "red"}, {"number": 4}),
-        ]
-        with sends(FIRST, *(it for _, it, _ in rows)) as (path, asked):
+        with sends(FIRST, *(it for _, it, _ in LINES)) as (path, asked):
             with Watch(path, Told(LIBRARY, None, None, True), SECONDS) as watch:
                 self.tell("it begins", (watch.epoch, watch.begins) == ("5", 4))
-                for name, _, due in rows:
+                for name, _, due in LINES:
                     got = next(watch)
                     self.tell(name, {it: getattr(got, it) for it in due} == due, (got, due))
                 with self.assertRaises(oaut.SessionEnded):

@@ -315,12 +315,7 @@ class Text(ClientCases):
         )
         self.tell("what is not read", last.endswith("not read: `*` instead of `(`"), last)
 
-    def test_limits(self):
-        many = "".join(
-            f"[id({it}), propget] HRESULT a{it}([in] long i, [out, retval] long *x); [id({it}), "
-            f"propput] HRESULT a{it}([in] long i, [in] long x);"
-            for it in range(300)
-        )
+    def test_second_members_and_items(self):
         made = read(
             self.room, library(interface("I", 2, "[id(1)] HRESULT a(); [id(1)] HRESULT b();"))
         )
@@ -341,6 +336,13 @@ class Text(ClientCases):
             "interface J: a second item of its GUID",
         ]
         self.same("a name and a GUID twice", made.lines, lines)
+
+    def test_limits_of_members(self):
+        many = "".join(
+            f"[id({it}), propget] HRESULT a{it}([in] long i, [out, retval] long *x); [id({it}), "
+            f"propput] HRESULT a{it}([in] long i, [in] long x);"
+            for it in range(300)
+        )
         made = read(self.room, library(interface("I", 2, many)))
         self.same(
             "512 members of an interface",
@@ -357,6 +359,8 @@ class Text(ClientCases):
             len(members_of(read(self.room, library(interface("I", 2, pairs))).text)),
             512,
         )
+
+    def test_limits_of_a_library(self):
         items = "".join(
             f"[dual, uuid({GUID[:-2]}{it:04x})] interface I{it:03} : IDispatch {{ [id(1)] HRESULT "
             f"{'n' * 60}{it:03}(); }};"

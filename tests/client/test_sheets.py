@@ -119,6 +119,25 @@ class InLibreOffice(Cases):
                 os.killpg(running.pid, signal.SIGKILL)
                 running.wait()
 
+    def steps(self, document, port):
+        """What is done in the office, in this order."""
+        said = "get=Range.A7:A7"
+        return [
+            *(f"open={document}", "get=Range.A1:C5"),
+            *("set=Start.B2=127.0.0.1:1", "run=put_range", said),
+            *(f"set=Start.B2=127.0.0.1:{port}", "run=get_range", said),
+            *("run=put_range", said, "set=Range.B2=7", "run=get_range", said, "get=Range.E1:G5"),
+            *("set=Range.B2=1e300", "run=put_range", said),
+            *(
+                "set=Range.B2=-1234567890.5",
+                "set=Range.C5=",
+                "run=put_range",
+                said,
+                "run=get_range",
+                "get=Range.E1:G5",
+            ),
+        ]
+
     def test_a_range_is_put_and_read_back(self):
         with tempfile.TemporaryDirectory() as room:
             _, document = sheets.both(room, 1_700_000_000)
@@ -129,31 +148,8 @@ class InLibreOffice(Cases):
             )
             server = Server()
             server.words = [PROGRAM, "serve", f"{room}/it.store", LIBRARY]
-            said = "get=Range.A7:A7"
             try:
-                shown = self.uses(
-                    room,
-                    *(f"open={document}", "get=Range.A1:C5"),
-                    *("set=Start.B2=127.0.0.1:1", "run=put_range", said),
-                    *(f"set=Start.B2=127.0.0.1:{server.port}", "run=get_range", said),
-                    *(
-                        "run=put_range",
-                        said,
-                        "set=Range.B2=7",
-                        "run=get_range",
-                        said,
-                        "get=Range.E1:G5",
-                    ),
-                    *("set=Range.B2=1e300", "run=put_range", said),
-                    *(
-                        "set=Range.B2=-1234567890.5",
-                        "set=Range.C5=",
-                        "run=put_range",
-                        said,
-                        "run=get_range",
-                        "get=Range.E1:G5",
-                    ),
-                )
+                shown = self.uses(room, *self.steps(document, server.port))
             finally:
                 server.close()
             wanted = [

@@ -31,7 +31,7 @@ from tests.support.running import FULL_TEXT, PROGRAM
 class Served(ClientCases):
     """What the page's server answers, without a browser."""
 
-    def test_who_is_let_in(self):
+    def test_who_may_read(self):
         with tempfile.TemporaryDirectory() as room, Page(
             store_with(f"{room}/it.store", OBJECTS), "--write"
         ) as page:
@@ -40,8 +40,6 @@ class Served(ClientCases):
                 "/api/rows?coclass=Item",
                 {"Authorization": f"Bearer {TOKEN}"},
             )
-            put = {"object": "1", "member": "Count", "words": "8"}
-            json_type = {"Content_Type": "application/json"}
             for name, status, method, path, body, headers in (
                 ("the page's own question", 200, "GET", rows, None, {**token, "Origin": own}),
                 ("without a token", 403, "GET", rows, None, {}),
@@ -71,6 +69,29 @@ class Served(ClientCases):
                     None,
                     {**token, "Origin": "http://evil.example"},
                 ),
+                ("another path", 404, "GET", "/api/../etc/passwd", None, token),
+            ):
+                answer = page.ask(method, path, body, **headers)
+                self.same(name, answer.status, status)
+                policy = answer.headers.get("Content-Security-Policy", "")
+                self.tell(
+                    f"{name}: its policy",
+                    policy.startswith("default-src 'none'") and "unsafe" not in policy,
+                    policy,
+                )
+
+    def test_who_may_change(self):
+        with tempfile.TemporaryDirectory() as room, Page(
+            store_with(f"{room}/it.store", OBJECTS), "--write"
+        ) as page:
+            own, rows, token = (
+                f"http://{page.host}",
+                "/api/rows?coclass=Item",
+                {"Authorization": f"Bearer {TOKEN}"},
+            )
+            put = {"object": "1", "member": "Count", "words": "8"}
+            json_type = {"Content_Type": "application/json"}
+            for name, status, method, path, body, headers in (
                 (
                     "a change from another page",
                     403,
@@ -491,7 +512,7 @@ class Served(ClientCases):
 class Seen(Browsed):
     """What a person sees."""
 
-    def test_a_store(self):
+    def test_the_tree_and_the_text(self):
         with tempfile.TemporaryDirectory() as room, Page(
             store_with(f"{room}/it.store", OBJECTS), "--write"
         ) as page:
@@ -514,6 +535,13 @@ class Seen(Browsed):
                 "document.querySelector('pre .at')?.textContent",
                 "[id(8)] SAFEARRAY(short) Grid;",
             )
+            self.clean("status of 409")
+
+    def test_objects_by_the_keyboard(self):
+        with tempfile.TemporaryDirectory() as room, Page(
+            store_with(f"{room}/it.store", OBJECTS), "--write"
+        ) as page:
+            self.opened(page)
             self.do("click", "#tab-objects")
             self.seen(
                 "texts are texts",
@@ -539,6 +567,21 @@ class Seen(Browsed):
                 "[...document.querySelectorAll('tbody tr')].some(it => "
                 "it.textContent.startsWith('5k1x'))",
             )
+            self.same("no script of a text has run", self.look("document.title"), "it.store · oaut")
+            self.same(
+                "no element of a text",
+                self.look("document.querySelectorAll('img, main script').length"),
+                0,
+            )
+            self.clean("status of 409")
+
+    def test_changes_and_cells(self):
+        with tempfile.TemporaryDirectory() as room, Page(
+            store_with(f"{room}/it.store", OBJECTS), "--write"
+        ) as page:
+            self.opened(page)
+            self.do("click", "#tab-objects")
+            self.press(".lines .row")
             self.changes()
             self.press("button", "Show cells")
             grid = (
@@ -546,17 +589,10 @@ class Seen(Browsed):
                 "=> one.textContent).join(' ')).join('|')"
             )
             self.seen("a grid with its indices", grid, " 5 6 7|-1 1 2 3|0 4 5 6")
-            self.same("no script of a text has run", self.look("document.title"), "it.store · oaut")
-            self.same(
-                "no element of a text",
-                self.look("document.querySelectorAll('img, main script').length"),
-                0,
-            )
             self.looks()
             self.clean("status of 409")
 
-    def test_cells_keys_and_objects(self):
-        """What --write lets a person do beside changing a value."""
+    def test_an_object_is_made_and_released(self):
         with tempfile.TemporaryDirectory() as room, Page(
             store_with(f"{room}/it.store", OBJECTS), "--write"
         ) as page:
@@ -580,6 +616,13 @@ class Seen(Browsed):
                 "document.querySelector('#said').textContent",
                 "Item 4 is released",
             )
+            self.clean("status of 409")
+
+    def test_a_key_is_added(self):
+        with tempfile.TemporaryDirectory() as room, Page(
+            store_with(f"{room}/it.store", OBJECTS), "--write"
+        ) as page:
+            self.opened(page)
             self.press(".lines .row")
             self.press("button.add[aria-label='add a key of Cell']")
             adder = (
@@ -602,6 +645,14 @@ class Seen(Browsed):
                 "[...document.querySelectorAll('tbody tr')].some(it => "
                 "it.textContent.startsWith('6new1y'))",
             )
+            self.clean("status of 409")
+
+    def test_a_cell_is_changed(self):
+        with tempfile.TemporaryDirectory() as room, Page(
+            store_with(f"{room}/it.store", OBJECTS), "--write"
+        ) as page:
+            self.opened(page)
+            self.press(".lines .row")
             self.press("button", "Show cells")
             cell = "document.querySelector('table.grid tbody').rows[1].cells[2]"
             self.seen("a cell", f"{cell}?.textContent", "5")
@@ -782,9 +833,8 @@ class Seen(Browsed):
             self.clean()
 
     @left_out("cc")
-    def test_a_session_that_others_have_too(self):
-        """Beside another client of a gateway: what that one puts is seen with the next reading, and
-        nothing is asked while nobody looks."""
+    def test_what_another_client_puts(self):
+        """Beside another client of a gateway: what that one puts is seen with the next reading."""
         with tempfile.TemporaryDirectory() as room:
             store_with(f"{room}/it.store", OBJECTS)
             with Gateway(room=room, sockets=("listen", "control", "metrics")) as gateway:
@@ -832,6 +882,23 @@ class Seen(Browsed):
                         self.tell(
                             "by the first reading that begins behind the put", count <= 2, count
                         )
+                self.clean()
+                gateway.end()
+
+    @left_out("cc")
+    def test_what_another_client_adds(self):
+        with tempfile.TemporaryDirectory() as room:
+            store_with(f"{room}/it.store", OBJECTS)
+            with Gateway(room=room, sockets=("listen", "control", "metrics")) as gateway:
+                with Page(
+                    "--connect",
+                    f"{room}/listen",
+                    "--metrics",
+                    f"oaut+unix://{room}/metrics",
+                    f"{room}/it.store",
+                ) as page, gateway.session() as other:
+                    self.opened(page)
+                    item = other.object(1, "Item")
                     item.Cell[6, "new"] = "y"
                     self.press(".lines .row")
                     self.seen(
@@ -846,6 +913,23 @@ class Seen(Browsed):
                         "document.querySelectorAll('.lines .row').length",
                         4,
                     )
+                self.clean()
+                gateway.end()
+
+    @left_out("cc")
+    def test_charts_of_a_gateway(self):
+        with tempfile.TemporaryDirectory() as room:
+            store_with(f"{room}/it.store", OBJECTS)
+            with Gateway(room=room, sockets=("listen", "control", "metrics")) as gateway:
+                with Page(
+                    "--connect",
+                    f"{room}/listen",
+                    "--metrics",
+                    f"oaut+unix://{room}/metrics",
+                    f"{room}/it.store",
+                ) as page, gateway.session() as other:
+                    self.opened(page)
+                    item = other.object(1, "Item")
                     self.press("#tab-status")
                     self.seen(
                         "charts of the gateway",
@@ -866,6 +950,22 @@ class Seen(Browsed):
                         "a chart of requests",
                         f"[...document.querySelectorAll('figure svg')].some(it => {most})",
                     )
+                self.clean()
+                gateway.end()
+
+    @left_out("cc")
+    def test_nothing_is_asked_while_nobody_looks(self):
+        with tempfile.TemporaryDirectory() as room:
+            store_with(f"{room}/it.store", OBJECTS)
+            with Gateway(room=room, sockets=("listen", "control", "metrics")) as gateway:
+                with Page(
+                    "--connect",
+                    f"{room}/listen",
+                    "--metrics",
+                    f"oaut+unix://{room}/metrics",
+                    f"{room}/it.store",
+                ) as page, gateway.session() as other:
+                    self.opened(page)
                     self.press("#tab-objects")
                     self.press("#pause")
 

@@ -609,6 +609,22 @@ class Registration(UnderWine):
         ):
             output = self.wine.run("cscript", "//nologo", "prices.vbs", "tea", marks, "1")[1]
             self.tell(f"prices.vbs, {marks} marks cost 1", output == wanted, output)
+        self.bridge.register("Desk", "/u")
+
+    def test_what_the_file_of_the_example_enters(self):
+        self.addCleanup(self.bridge.settle)
+        self.bridge.new_store(f"{COM}/example/sheet.idl")
+        lines = (
+            text(f"{COM}/example/sheet.reg")
+            .replace("REGEDIT4", "")
+            .replace('"localhost"', '"127.0.0.1"')
+            .replace('"8765"', f'"{self.server.port}"')
+        )
+        self.bridge.enter(
+            lines.replace(
+                "C:\\\\oaut\\\\oautcom.dll", windows(self.bridge.dll).replace("\\", "\\\\")
+            )
+        )
         entered = [
             self.wine.run("reg", "query", f"HKCR\\CLSID\\{{{it}}}", "/s")[1]
             for it in (

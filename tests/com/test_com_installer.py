@@ -328,15 +328,10 @@ class Start(UnderWine):
                     )
                 )
         lines = {command: output.splitlines() for command, _, output in said}
+        desk = "Desk localhost:8765"
         tool = [
             f"64\\oautreg {it}"
-            for it in (
-                "test localhost:8765",
-                "add Desk localhost:8765",
-                "list",
-                "repair Desk",
-                "remove Desk",
-            )
+            for it in ("test localhost:8765", f"add {desk}", "list", "repair Desk", "remove Desk")
         ]
         script = "cscript //nologo example\\sheet.vbs Monday tea 3"
         self.same("its commands", [it[0] for it in said], [*tool[:3], script, *tool[3:]])

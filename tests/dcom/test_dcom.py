@@ -252,25 +252,44 @@ class Wine(Scripted):
     """Wine's IDispatch proxy. It aligns to 8 what Windows, as impacket shows, aligns to 4: the
     switch is for this test."""
 
+    def compiled(self, compiler, bits, room):
+        words = [
+            compiler,
+            "-O1",
+            "-w",
+            "-o",
+            f"{room}/client.exe",
+            f"{os.path.dirname(__file__)}/wine_client.c",
+        ]
+        done = subprocess.run(
+            [*words, "-loleaut32", "-lole32", "-lrpcrt4", "-luuid"], capture_output=True, text=True
+        )
+        self.tell(f"{bits} bits: it is compiled", done.returncode == 0, done.stderr)
+
+    def is_read_sealed(self, bits, served, capture):
+        if not capture.why_not:
+            fields = "dcerpc.pkt_type", "dcerpc.opnum", "_ws.expert.message"
+            signed, sealed = (
+                capture.told(
+                    (served.port,),
+                    f"dcerpc.auth_type == 10 && dcerpc.auth_level == {it} && dcerpc.pkt_type "
+                    "< 3",
+                    *fields,
+                )
+                for it in (5, 6)
+            )
+            self.tell(
+                "tshark reads sealed calls as it reads the same ones that are signed",
+                signed == sealed and len(sealed) > 60,
+                (len(signed), len(sealed)),
+            )
+
     def proxy(self, compiler, bits):
         from tests.com.under_wine import Wine as Folder
 
         with contextlib.ExitStack() as stack:
             room = stack.enter_context(tempfile.TemporaryDirectory())
-            words = [
-                compiler,
-                "-O1",
-                "-w",
-                "-o",
-                f"{room}/client.exe",
-                f"{os.path.dirname(__file__)}/wine_client.c",
-            ]
-            done = subprocess.run(
-                [*words, "-loleaut32", "-lole32", "-lrpcrt4", "-luuid"],
-                capture_output=True,
-                text=True,
-            )
-            self.tell(f"{bits} bits: it is compiled", done.returncode == 0, done.stderr)
+            self.compiled(compiler, bits, room)
             wine = Folder(room)
             stack.callback(wine.close)
             served = stack.enter_context(Served(OAUT_DCOM_ALIGN_8="1"))
@@ -311,22 +330,7 @@ class Wine(Scripted):
                     (status, len(rows), said[-500:]),
                 )
             capture.end()
-            if not capture.why_not:
-                fields = "dcerpc.pkt_type", "dcerpc.opnum", "_ws.expert.message"
-                signed, sealed = (
-                    capture.told(
-                        (served.port,),
-                        f"dcerpc.auth_type == 10 && dcerpc.auth_level == {it} && dcerpc.pkt_type "
-                        "< 3",
-                        *fields,
-                    )
-                    for it in (5, 6)
-                )
-                self.tell(
-                    "tshark reads sealed calls as it reads the same ones that are signed",
-                    signed == sealed and len(sealed) > 60,
-                    (len(signed), len(sealed)),
-                )
+            self.is_read_sealed(bits, served, capture)
 
     @left_out("x86_64-w64-mingw32-gcc")
     def test_proxy_of_64_bits(self):

@@ -82,6 +82,32 @@ class Ends(Scripted):
     def again(self, served, *words, least=1):
         self.script("again", *words, env=served.settings(), least=least)
 
+    def with_more(self):
+        """A library with an interface, a coclass and a member more, whose new interface comes before
+        the others."""
+        with open(f"{ROOT}/examples/full.idl") as file:
+            text = file.read()
+        guid = "11223344-5566-7788-99AA-BBCCDDEEFF0"
+        more = (
+            f"  [uuid({guid}0)]\n  dispinterface DMore {{\n    properties:\n"
+            f"      [id(1)] long Count;\n    methods:\n  }};\n\n"
+        )
+        text = text.replace(f"  [uuid({guid}2)]", f"{more}  [uuid({guid}2)]").replace(
+            "    methods:\n      [id(9)",
+            "      [id(11)] SAFEARRAY(long) Rows;\n    methods:\n      [id(9)",
+        )
+        text = text.replace(
+            "    [default] dispinterface DItem;\n",
+            "    [default] dispinterface DItem;\n    dispinterface DMore;\n",
+        )
+        end = text.rindex("};")
+        text = (
+            text[:end]
+            + f"\n  [uuid({guid}9)]\n  coclass Other {{\n    [default] dispinterface DMore;\n"
+            f"  }};\n" + text[end:]
+        )
+        return text
+
     def test_references_outlive_this_program_and_a_library(self):
         with Served() as served:
             store = f"{served.folder}/as.store"  # it stands for the store's file
@@ -97,29 +123,7 @@ class Ends(Scripted):
             served.kill()
             served.start("--store", store)
             self.again(served, "same", *made, least=3)
-            # a library with an interface, a coclass and a member more, whose new interface stands
-            # before the others
-            with open(f"{ROOT}/examples/full.idl") as file:
-                text = file.read()
-            guid = "11223344-5566-7788-99AA-BBCCDDEEFF0"
-            more = (
-                f"  [uuid({guid}0)]\n  dispinterface DMore {{\n    properties:\n"
-                f"      [id(1)] long Count;\n    methods:\n  }};\n\n"
-            )
-            text = text.replace(f"  [uuid({guid}2)]", f"{more}  [uuid({guid}2)]").replace(
-                "    methods:\n      [id(9)",
-                "      [id(11)] SAFEARRAY(long) Rows;\n    methods:\n      [id(9)",
-            )
-            text = text.replace(
-                "    [default] dispinterface DItem;\n",
-                "    [default] dispinterface DItem;\n    dispinterface DMore;\n",
-            )
-            end = text.rindex("};")
-            text = (
-                text[:end]
-                + f"\n  [uuid({guid}9)]\n  coclass Other {{\n    [default] dispinterface DMore;\n"
-                f"  }};\n" + text[end:]
-            )
+            text = self.with_more()
             with open(f"{served.folder}/more.idl", "w") as file:
                 file.write(text)
             with served.gateway.session() as session:
@@ -266,18 +270,13 @@ class Ends(Scripted):
                 child.terminate()
                 child.communicate()
 
-    def test_options(self):
+    def test_options_that_are_refused(self):
         with Served() as served:
             wrong = f"{served.folder}/wrong"
             with open(os.open(wrong, os.O_CREAT | os.O_WRONLY, 0o644), "w") as file:
                 file.write(served.hash("joe"))
             os.chmod(wrong, 0o644)
-            own, sock = [
-                "--gateway",
-                served.socket,
-                "--users",
-                served.users,
-            ], f"{served.folder}/no.sock"
+            own = ["--gateway", served.socket, "--users", served.users]
             rows = (
                 ("nothing", [], 2),
                 ("an unknown option", [*own, "--colour"], 2),
@@ -314,6 +313,9 @@ class Ends(Scripted):
                     (status, out, len(lines)) == (wanted, "", 1) and said.startswith("oaut-dcom: "),
                     (status, out, said),
                 )
+
+    def test_help_and_version(self):
+        with Served() as served:
             status, out, said = served.run("--help")
             self.tell("--help", status == 0 and "oaut-dcom hash USER" in out and not said, said)
             self.tell("--version", served.run("--version") == (0, "oaut-dcom 0\n", ""))
@@ -326,6 +328,9 @@ class Ends(Scripted):
                 - {"--help", "--version", "--server", "--remove"},
                 named,
             )
+
+    def test_reg(self):
+        with Served() as served:
             status, out, said = served.run(
                 "reg", "--gateway", served.socket, "--server", "store.oaut.test", "--name", "Demo"
             )
@@ -360,6 +365,10 @@ class Ends(Scripted):
                 left == [] and "=" not in gone.replace("HKEY", ""),
                 left,
             )
+
+    def test_a_gateway_that_is_not_there(self):
+        with Served() as served:
+            sock = f"{served.folder}/no.sock"
             started = time.monotonic()
             status, _, said = served.run("--gateway", sock, "--users", served.users)
             self.tell(

@@ -404,6 +404,14 @@ class AgentCases(Cases):
                     ARGUMENTS,
                     "no store /nowhere/it.store",
                 ),
+            ]
+            for name, action, given, status, says in rows:
+                self.does(name, agent.act(action, timeout=7, **given), status, says)
+                agent.act("stop")
+
+    def test_starts_that_are_refused(self):
+        with Agent() as agent:
+            rows = [
                 (
                     "an option that is none",
                     "start",

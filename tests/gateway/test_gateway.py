@@ -387,12 +387,19 @@ class Sharing(GatewayCases):
                 item.Grid.unlock()
                 with self.subTest("one of two is left"), self.assertRaises(oaut.ArrayIsLocked):
                     same.Grid = [4]
-                number = item.number
             self.eventually(
                 "its locks are given back as it goes",
                 lambda: setattr(same, "Grid", [4]),
                 oaut.ArrayIsLocked,
             )
+
+    def test_locks_whose_client_has_gone(self):
+        with self.gateway.session() as two:
+            with self.gateway.session() as one:
+                item = one.create("Item")
+                item.Grid = [1, 2, 3]
+                same = two.object(item.number, "Item")
+                number = item.number
             # locks that are with the server as their client goes
             for turn in range(60):
                 with self.gateway.dial() as sock:
@@ -426,6 +433,14 @@ class Sharing(GatewayCases):
             self.eventually(
                 "and none of these is left", lambda: setattr(same, "Grid", [6]), oaut.ArrayIsLocked
             )
+
+    def test_an_unlock_that_is_refused(self):
+        with self.gateway.session() as two:
+            with self.gateway.session() as one:
+                item = one.create("Item")
+                item.Grid = [1, 2, 3]
+                same = two.object(item.number, "Item")
+                number = item.number
             # an UNLOCK that the server refuses (its riid is not zero), whose client has gone when
             # that comes
             refused = bytearray(locking(2, oaut.UNLOCK, number))
@@ -1043,7 +1058,7 @@ class Stops(Cases):
 
 @needs_cc
 class Watching(Cases):
-    def test_backup(self):
+    def test_a_backup_under_load(self):
         with Gateway() as gateway:
             with gateway.session() as server:
                 numbers = [server.create("Item").number for _ in range(4)]
@@ -1101,6 +1116,9 @@ class Watching(Cases):
                 stop.set()
                 for it in threads:
                     it.join()
+
+    def test_one_backup_at_a_time(self):
+        with Gateway() as gateway:
             with gateway.dial("control") as one, gateway.dial("control") as two:
                 one.sendall(b"hold\n")
                 self.tell("a backup that holds", hear(one, 5) == b"held\n")
@@ -1116,6 +1134,9 @@ class Watching(Cases):
                     one.close()
                     waits.settimeout(SECONDS)
                     self.tell("it has hung up", hear(waits, 20) == record(NO_REQUEST))
+
+    def test_backups_that_cannot_be_made(self):
+        with Gateway() as gateway:
             done = subprocess.run(
                 [built()[0], "backup", f"{gateway.room}/control", "/nowhere/copy"],
                 capture_output=True,
@@ -1179,6 +1200,31 @@ class Watching(Cases):
                     found.get(f"oaut_gateway_{name}") == value,
                     found.get(f"oaut_gateway_{name}"),
                 )
+            self.tell(
+                "another path",
+                gateway.ask(b"GET / HTTP/1.1\r\n\r\n", "metrics", ends=False).startswith(
+                    b"HTTP/1.0 404"
+                ),
+            )
+            self.tell("status tells the same", set(gateway.counters()) >= set(found), "")
+
+    def test_each_of_the_metrics_has_a_type(self):
+        with Gateway() as gateway:
+            with gateway.session() as server:
+                item = server.create("Item")
+                item.Count = 1
+                with contextlib.suppress(oaut.TypeMismatch):
+                    item.Count = "x"
+                got = gateway.ask(
+                    b"GET /metrics HTTP/1.1\r\nHost: x\r\n\r\n", "metrics", ends=False
+                ).decode()
+            head, _, text = got.partition("\r\n\r\n")
+            found = {
+                name: float(value)
+                for name, value in (
+                    line.rsplit(" ", 1) for line in text.splitlines() if not line.startswith("#")
+                )
+            }
             told = [line.split()[2] for line in text.splitlines() if line.startswith("# TYPE")]
             self.tell(
                 "each is told once, and each has a type",
@@ -1197,12 +1243,24 @@ class Watching(Cases):
                 and buckets[-1] == found["oaut_gateway_commit_seconds_count"] > 0,
                 buckets,
             )
-            self.tell(
-                "another path",
-                gateway.ask(b"GET / HTTP/1.1\r\n\r\n", "metrics", ends=False).startswith(
-                    b"HTTP/1.0 404"
-                ),
-            )
+
+    def test_the_dashboard(self):
+        with Gateway() as gateway:
+            with gateway.session() as server:
+                item = server.create("Item")
+                item.Count = 1
+                with contextlib.suppress(oaut.TypeMismatch):
+                    item.Count = "x"
+                got = gateway.ask(
+                    b"GET /metrics HTTP/1.1\r\nHost: x\r\n\r\n", "metrics", ends=False
+                ).decode()
+            head, _, text = got.partition("\r\n\r\n")
+            found = {
+                name: float(value)
+                for name, value in (
+                    line.rsplit(" ", 1) for line in text.splitlines() if not line.startswith("#")
+                )
+            }
             dashboard = json.load(open(f"{ROOT}/dist/grafana.json"))
             asked = {
                 it
@@ -1214,7 +1272,6 @@ class Watching(Cases):
             self.tell(
                 "the dashboard asks for what is told", asked and asked <= there, asked - there
             )
-            self.tell("status tells the same", set(gateway.counters()) >= set(found), "")
 
     def test_systemd(self):
         """Sockets that are handed over, and what is told to who starts it."""
@@ -1279,6 +1336,52 @@ class Watching(Cases):
 
 @needs_cc
 class Noise(Cases):
+    def spoiled(self, dice, name, bodies):
+        """Some of these bodies, or of a socket's texts, of which some bytes are others."""
+        texts = [
+            b"status\n",
+            b"hold\n",
+            b"free\n",
+            b"store\n",
+            b"GET /metrics HTTP/1.1\r\n\r\n",
+            b"GET / HTTP/1.1\r\n\r\n",
+            b"\n",
+            b"\r\n\r\n",
+        ]
+        some = dice.choices(bodies, k=dice.randrange(1, 9))
+        data = (
+            b"".join(dice.choices(texts, k=2))
+            if name in ("control", "metrics")
+            else b"".join(it.hex().encode() + b"\n" for it in some)
+            if name == "listen-hex"
+            else records(some)
+        )
+        data = bytearray(data)
+        for _ in range(dice.choice([0, 0, 1, 3])):
+            data[dice.randrange(len(data))] = dice.choice(
+                [0, 10, 13, 0x30, 255, dice.randrange(256)]
+            )
+        return data
+
+    def is_served(self, gateway, number):
+        """Whether a client gets its turn behind those that have gone, whose locks are given back."""
+        served, until = False, time.monotonic() + SECONDS
+        # until who has gone has left its place, and its locks are given back
+        while not served and time.monotonic() < until:
+            with contextlib.suppress(
+                oaut.SessionEnded, oaut.ArrayIsLocked
+            ), gateway.session() as server:
+                item = server.object(number, "Item")
+                try:
+                    item.Grid = [3]
+                except oaut.Disconnected:
+                    # (by a spoiled request, a lock that became a release)
+                    number = server.create("Item").number
+                    continue
+                served = list(item.Grid) == [3]
+            time.sleep(0.01)
+        return served
+
     def test_random_bytes(self):
         """Spoiled requests at every socket, in pieces, by who hangs up in some way; beside them a
         client that is served. OAUT_NOISE says for how many seconds, OAUT_SOCKETS at which
@@ -1303,32 +1406,10 @@ class Noise(Cases):
                 locking(2, oaut.UNLOCK, number),
                 struct.pack("<IHH", 3, 11, 0),
             ]
-            texts = [
-                b"status\n",
-                b"hold\n",
-                b"free\n",
-                b"store\n",
-                b"GET /metrics HTTP/1.1\r\n\r\n",
-                b"GET / HTTP/1.1\r\n\r\n",
-                b"\n",
-                b"\r\n\r\n",
-            ]
             begun, sent, socks = time.monotonic(), 0, []
             while time.monotonic() < begun + seconds or sent <= 10:
                 name = dice.choice(names)
-                some = dice.choices(bodies, k=dice.randrange(1, 9))
-                data = (
-                    b"".join(dice.choices(texts, k=2))
-                    if name in ("control", "metrics")
-                    else b"".join(it.hex().encode() + b"\n" for it in some)
-                    if name == "listen-hex"
-                    else records(some)
-                )
-                data = bytearray(data)
-                for _ in range(dice.choice([0, 0, 1, 3])):
-                    data[dice.randrange(len(data))] = dice.choice(
-                        [0, 10, 13, 0x30, 255, dice.randrange(256)]
-                    )
+                data = self.spoiled(dice, name, bodies)
                 with contextlib.suppress(OSError):
                     sock = gateway.dial(name)
                     socks.append(sock)
@@ -1349,21 +1430,7 @@ class Noise(Cases):
                     sock.close()
             for it in socks:
                 it.close()
-            served, until = False, time.monotonic() + SECONDS
-            # until who has gone has left its place, and its locks are given back
-            while not served and time.monotonic() < until:
-                with contextlib.suppress(
-                    oaut.SessionEnded, oaut.ArrayIsLocked
-                ), gateway.session() as server:
-                    item = server.object(number, "Item")
-                    try:
-                        item.Grid = [3]
-                    except oaut.Disconnected:
-                        # (by a spoiled request, a lock that became a release)
-                        number = server.create("Item").number
-                        continue
-                    served = list(item.Grid) == [3]
-                time.sleep(0.01)
+            served = self.is_served(gateway, number)
             self.tell("a client is served behind it", served and sent > 10, (served, sent))
             status, said = gateway.end()
             self.tell(
@@ -1382,7 +1449,7 @@ def told_of(*words, **how):
 
 @needs_cc
 class CommandLine(Cases):
-    def test_words(self):
+    def test_words_that_are_refused(self):
         rows = [
             ("no words", [], "one STORE"),
             ("two stores", ["--listen", "./s", "a", "b"], "one STORE"),
@@ -1413,6 +1480,20 @@ class CommandLine(Cases):
                 ["--listen", "./s", "--metrics", "0.0.0.0:9718", "a.store"],
                 "not of the loopback",
             ),
+        ]
+        for what, words, says in rows:
+            status, out, err = told_of(*words)
+            self.tell(
+                what,
+                (status, out) == (2, "")
+                and err.startswith("oaut-gateway: ")
+                and says in err
+                and err.count("\n") == 1,
+                (status, out, err),
+            )
+
+    def test_values_that_are_refused(self):
+        rows = [
             (
                 "a control socket of TCP",
                 ["--listen", "./s", "--control", "127.0.0.1:9719", "a.store"],
@@ -1454,6 +1535,8 @@ class CommandLine(Cases):
                 and err.count("\n") == 1,
                 (status, out, err),
             )
+
+    def test_help_and_version(self):
         status, out, err = told_of("--help")
         with open(f"{ROOT}/docs/operations/gateway.md") as file:
             page = file.read()
@@ -1578,6 +1661,22 @@ class CommandLine(Cases):
 class Behind(Cases):
     """What stands before the gateway, as docs/operations/gateway.md has it."""
 
+    def asked(self, room, port, name):
+        """What the gateway answers to a client with the certificate of this name, or without one."""
+        import ssl
+
+        context = ssl.create_default_context(cafile=f"{room}/server.pem")
+        context.check_hostname = False
+        if name:
+            context.load_cert_chain(f"{room}/{name}.pem", f"{room}/{name}.key")
+        with socket.create_connection(("127.0.0.1", port), SECONDS) as plain:
+            try:
+                with context.wrap_socket(plain) as sock:
+                    sock.sendall(record(NONE))
+                    return hear(sock, 20)
+            except OSError:
+                return b""
+
     @left_out("stunnel", "openssl")
     def test_tls_with_certificates(self):
         with Gateway() as gateway:
@@ -1609,21 +1708,6 @@ class Behind(Cases):
             )
             try:
 
-                def asked(name):
-                    import ssl
-
-                    context = ssl.create_default_context(cafile=f"{room}/server.pem")
-                    context.check_hostname = False
-                    if name:
-                        context.load_cert_chain(f"{room}/{name}.pem", f"{room}/{name}.key")
-                    with socket.create_connection(("127.0.0.1", port), SECONDS) as plain:
-                        try:
-                            with context.wrap_socket(plain) as sock:
-                                sock.sendall(record(NONE))
-                                return hear(sock, 20)
-                        except OSError:
-                            return b""
-
                 def reached():
                     with contextlib.suppress(OSError), socket.create_connection(
                         ("127.0.0.1", port), SECONDS
@@ -1632,9 +1716,12 @@ class Behind(Cases):
                     return False
 
                 Gateway.wait_for(reached, "stunnel does not listen")
-                self.tell("a client with its certificate", asked("client") == record(NO_REQUEST))
-                self.tell("one with another certificate", asked("stranger") == b"")
-                self.tell("one without", asked(None) == b"")
+                for what, name, due in (
+                    ("a client with its certificate", "client", record(NO_REQUEST)),
+                    ("one with another certificate", "stranger", b""),
+                    ("one without", None, b""),
+                ):
+                    self.tell(what, self.asked(room, port, name) == due)
             finally:
                 tunnel.terminate()
                 tunnel.wait()

@@ -501,6 +501,16 @@ class Readers(Cases):
 
 @needs_cc
 class Holds(Cases):
+    def opens_to(self, room, before, after):
+        status, out, err = run_in(room, ["dump", "copy"])
+        counted = re.search(rb" 1 - (0300\w{8})\n", out)
+        value = int.from_bytes(bytes.fromhex(counted[1].decode())[2:], "little") if counted else -1
+        self.tell(
+            "it opens to what was acknowledged before",
+            status == 0 and before <= value <= after,
+            (err[-200:], before, value, after),
+        )
+
     def test_a_backup_of_large_banks(self):
         """The clients wait for what was added in the last moment, not for the store's size."""
         with tempfile.TemporaryDirectory(dir="/var/tmp") as room:
@@ -553,19 +563,34 @@ class Holds(Cases):
                     stop.set()
                     thread.join()
                 _, before, after = said[-1]
-                status, out, err = run_in(room, ["dump", "copy"])
-                counted = re.search(rb" 1 - (0300\w{8})\n", out)
-                value = (
-                    int.from_bytes(bytes.fromhex(counted[1].decode())[2:], "little")
-                    if counted
-                    else -1
-                )
-                self.tell(
-                    "it opens to what was acknowledged before",
-                    status == 0 and before <= value <= after,
-                    (err[-200:], before, value, after),
-                )
+                self.opens_to(room, before, after)
                 self.tell("its end", gateway.end()[0] == 0)
+
+    def is_copied(self, gateway, turn):
+        done = subprocess.run(
+            [gateway.binary, "backup", f"{gateway.room}/control", f"{gateway.room}/copy"],
+            capture_output=True,
+            text=True,
+            timeout=SECONDS,
+        )
+        self.tell(f"a backup, {turn}", done.returncode == 0 and "held for" in done.stdout, done)
+
+    def copy_opens(self, gateway, turn, numbers, before, after):
+        status, out, err = run_in(gateway.room, ["dump", "copy"])
+        counts = [
+            int.from_bytes(bytes.fromhex(it.decode())[2:], "little")
+            for it in re.findall(rb" 1 - (0300\w{8})\n", out)
+        ]
+        well = (
+            status == 0
+            and len(counts) == 4
+            and all(before[number] <= it <= after[number] for number, it in zip(numbers, counts))
+        )
+        self.tell(
+            f"it opens to what was acknowledged before, {turn}",
+            well,
+            (status, err[-300:], before, counts, after),
+        )
 
     def test_a_backup_while_banks_change(self):
         """Texts of 100 KB fill a bank within a moment, and another library selects the other one
@@ -613,41 +638,9 @@ class Holds(Cases):
                 for turn in range(8):
                     Gateway.wait_for(lambda: min(acknowledged.values()) > 0, "nothing is put")
                     before = dict(acknowledged)
-                    done = subprocess.run(
-                        [
-                            gateway.binary,
-                            "backup",
-                            f"{gateway.room}/control",
-                            f"{gateway.room}/copy",
-                        ],
-                        capture_output=True,
-                        text=True,
-                        timeout=SECONDS,
-                    )
+                    self.is_copied(gateway, turn)
                     after = dict(sent)
-                    self.tell(
-                        f"a backup, {turn}",
-                        done.returncode == 0 and "held for" in done.stdout,
-                        done,
-                    )
-                    status, out, err = run_in(gateway.room, ["dump", "copy"])
-                    counts = [
-                        int.from_bytes(bytes.fromhex(it.decode())[2:], "little")
-                        for it in re.findall(rb" 1 - (0300\w{8})\n", out)
-                    ]
-                    well = (
-                        status == 0
-                        and len(counts) == 4
-                        and all(
-                            before[number] <= it <= after[number]
-                            for number, it in zip(numbers, counts)
-                        )
-                    )
-                    self.tell(
-                        f"it opens to what was acknowledged before, {turn}",
-                        well,
-                        (status, err[-300:], before, counts, after),
-                    )
+                    self.copy_opens(gateway, turn, numbers, before, after)
             finally:
                 stop.set()
                 for it in threads:

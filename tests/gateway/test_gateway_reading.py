@@ -51,14 +51,8 @@ class Reading(Cases):
             file.write(LIBRARY)
         return file.name
 
-    def test_each_opcode(self):
-        one = oaut.ask_create(worked.ITEM)
-        begin = [
-            one,
-            worked.put(worked.COUNT, worked.scalar(3, 7)),
-            worked.put(worked.GRID, worked.GRID_1_TO_6),
-        ]
-        reading = {
+    def reads(self):
+        return {
             "GETIDS": oaut.ask_ids(1, ["Count"]),
             "a get": worked.get(worked.COUNT),
             "a get with METHOD too": worked.get(worked.COUNT, flags=oaut.PROPERTYGET | oaut.METHOD),
@@ -70,7 +64,10 @@ class Reading(Cases):
             "END": struct.pack("<HH", 12, 0),
             "a get that is cut": worked.get(worked.COUNT)[:30],
         }
-        changing = {
+
+    def changes(self):
+        one = oaut.ask_create(worked.ITEM)
+        return {
             "CREATE": one,
             "RELEASE": oaut.ask_release(1),
             "a put": worked.put(worked.COUNT, worked.scalar(3, 8)),
@@ -96,6 +93,15 @@ class Reading(Cases):
             "an opcode that there is none of": struct.pack("<HH", 99, 0),
             "the opcode 0 with a reserved number": struct.pack("<HH", 0, 0xFFFF),
         }
+
+    def test_each_opcode(self):
+        one = oaut.ask_create(worked.ITEM)
+        begin = [
+            one,
+            worked.put(worked.COUNT, worked.scalar(3, 7)),
+            worked.put(worked.GRID, worked.GRID_1_TO_6),
+        ]
+        reading, changing = self.reads(), self.changes()
         with self.gateway.dial() as writer, self.gateway.dial("listen-read") as reader:
             replies(writer, tagged(begin))
             asked = tagged(reading.values())

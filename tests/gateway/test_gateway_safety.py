@@ -136,6 +136,8 @@ class Names(Cases):
                         if it.endswith(".target")
                     }
                     self.tell("and so is what it leads to", targets == after, after)
+
+    def test_the_store_is_no_socket(self):
         with Gateway(sockets=(), starts=False) as gateway:
             before = os.lstat(gateway.store)
             gateway.words[-1:-1] = ["--listen", gateway.store]
@@ -359,6 +361,18 @@ def backup(gateway, file):
 
 @needs_cc
 class Backups(Cases):
+    def refuses(self, gateway, what, path, says):
+        before = kind_of(path.rstrip("/"))
+        status, out, err = backup(gateway, path)
+        well = (
+            (status, out) == (1, "")
+            and err.startswith(f"oaut-gateway: cannot write {path}: ")
+            and says in err
+            and err.count("\n") == 1
+        )
+        self.tell(what, well, (status, out, err))
+        self.tell(f"{what} is left alone", kind_of(path.rstrip("/")) == before)
+
     def test_where_a_copy_is_refused(self):
         """The store that is served, by whatever name, and what is no file of this user."""
         with Gateway() as gateway, Gateway() as other:
@@ -387,24 +401,8 @@ class Backups(Cases):
                 ("a socket", f"{room}/listen", "not a regular file"),
                 ("a store that another gateway serves", other.store, "in use by another process"),
             ]
-            if not os.geteuid():
-                with open(f"{room}/theirs", "w") as file:
-                    file.write("a thesis")
-                os.chown(f"{room}/theirs", 1234, 1234)
-                rows.append(
-                    ("another user's file", f"{room}/theirs", "the file belongs to another user")
-                )
             for what, path, says in rows:
-                before = kind_of(path.rstrip("/"))
-                status, out, err = backup(gateway, path)
-                well = (
-                    (status, out) == (1, "")
-                    and err.startswith(f"oaut-gateway: cannot write {path}: ")
-                    and says in err
-                    and err.count("\n") == 1
-                )
-                self.tell(what, well, (status, out, err))
-                self.tell(f"{what} is left alone", kind_of(path.rstrip("/")) == before)
+                self.refuses(gateway, what, path, says)
             names = {
                 "hard",
                 "soft",
@@ -432,6 +430,17 @@ class Backups(Cases):
                     server.object(item.number, "Item").Count == 2,
                 )
             self.tell("its second end", gateway.end()[0] == 0)
+
+    def test_a_copy_over_another_users_file(self):
+        if os.geteuid():
+            self.skipTest("not the superuser")
+        with Gateway() as gateway:
+            room = gateway.room
+            with open(f"{room}/theirs", "w") as file:
+                file.write("a thesis")
+            os.chown(f"{room}/theirs", 1234, 1234)
+            says = "the file belongs to another user"
+            self.refuses(gateway, "another user's file", f"{room}/theirs", says)
 
     def test_two_at_once(self):
         """To one file: each that says that it has made a copy has made a whole one."""

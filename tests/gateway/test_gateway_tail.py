@@ -350,6 +350,14 @@ class Tailing(Cases):
             )
             if "--refused" in words:
                 self.tell("nothing else", "S_OK" not in out, out[:600])
+
+    def test_words_that_are_refused(self):
+        gateway = self.begun()
+        environment = {
+            **os.environ,
+            "PYTHONPATH": f"{ROOT}/clients/python",
+            "PATH": f"{os.path.dirname(sys.executable)}:{os.environ['PATH']}",
+        }
         for words, says in ((["--opcode", "none"], "no request"), (["--code", "none"], "no code")):
             done = subprocess.run(
                 [gateway.binary, "tail", "/nothing", *words],

@@ -297,16 +297,8 @@ class Commands(Cases):
         with tempfile.TemporaryDirectory(prefix="a b%é") as room:
             port = free_port()
             url = "oaut+unix://" + urllib.parse.quote(room)
-            words = [
-                "--listen",
-                f"{url}/listen",
-                "--alone",
-                f"{url}/a%6Cone",
-                "--metrics",
-                f"{url}/metrics",
-                "--control",
-                f"{url}/control",
-            ]
+            words = ["--listen", f"{url}/listen", "--alone", f"{url}/a%6Cone"]
+            words += ["--metrics", f"{url}/metrics", "--control", f"{url}/control"]
             with Gateway(
                 *words, "--listen", f"oaut://127.0.0.1:{port}", room=room, sockets=()
             ) as gateway:

@@ -104,8 +104,8 @@ class Watching(Cases):
         """The lines of requests, whose replies these are."""
         return [line for line in (told.line(0, *it) for it in zip(tagged(requests), got)) if line]
 
-    def test_each_kind(self):
-        requests = [
+    def requests_of_each_kind(self):
+        return [
             oaut.ask_create(worked.ITEM),
             oaut.ask_list(),
             worked.put(worked.COUNT, worked.scalar(3, -7)),
@@ -158,6 +158,9 @@ class Watching(Cases):
             struct.pack("<HH", 12, 0),
             worked.replace(worked.WIDER),
         ]
+
+    def test_each_kind(self):
+        requests = self.requests_of_each_kind()
         gateway = self.begun()
         with Watch(gateway) as shown, Watch(gateway, "") as plain, gateway.dial() as writer:
             self.tell(
@@ -633,9 +636,8 @@ class Watching(Cases):
         found = least(10, lambda: self.traced(0.03).count("epoll_") / 30)
         self.tell("it wakes now and then", found < 10, found)
 
-    def test_those_who_share(self):
-        """Clients with the same filter, which read in other pieces and at another pace, get the
-        same lines; those with another filter get theirs."""
+    def draws(self):
+        """Puts of texts of any length, and of numbers, of which the last is -1."""
         dice = random.Random(int(os.environ.get("OAUT_SEED") or 0))
         text = lambda count: worked.text(b"\n\0" * count)  # (six signs each)
         requests = [oaut.ask_create(worked.ITEM)]
@@ -645,6 +647,12 @@ class Watching(Cases):
             )
             requests += [worked.put(worked.COUNT, worked.scalar(3, it))] * dice.randrange(3)
         requests.append(worked.put(worked.COUNT, worked.scalar(3, -1)))
+        return requests
+
+    def test_those_who_share(self):
+        """Clients with the same filter, which read in other pieces and at another pace, get the
+        same lines; those with another filter get theirs."""
+        requests = self.draws()
         filters = ("values", "", "values member=1", "values object=1", "object=2") * 3
         gateway = self.begun()
         with contextlib.ExitStack() as stack:
@@ -892,7 +900,7 @@ class Watching(Cases):
 
     def test_keys_that_nobody_takes(self):
         """At most two clients get keys at once, whether they take them or not, and no other client
-        waits; lines that are none are refused."""
+        waits."""
         line = f"keys object=1 interface={worked.FIRST_ONE} member={worked.CELL}\n".encode()
         gateway = self.begun()
         with gateway.dial() as sock, contextlib.ExitStack() as stack:
@@ -934,6 +942,31 @@ class Watching(Cases):
                 and got.endswith(b'"\n'),
                 got[:100],
             )
+        self.ended(gateway)
+
+    def test_lines_that_ask_for_keys(self):
+        """Lines that are none are refused."""
+        gateway = self.begun()
+        with gateway.dial() as sock:
+            puts = [
+                worked.put(
+                    worked.CELL,
+                    worked.text(b"v\0"),
+                    more=[worked.text(b"a\0" * (2_000 + it)), worked.scalar(3, 5)],
+                )
+                for it in range(500)
+            ]
+            got = replies(sock, tagged([oaut.ask_create(worked.ITEM), *puts]))
+            self.tell("they are put", all(it[4:8] == bytes(4) for it in got))
+
+            def told(words):
+                """What comes to a line, once one of the two has gone."""
+                ask = lambda: gateway.ask(f"keys {words}\n".encode(), "watch", ends=False)
+                return Gateway.wait_for(
+                    lambda: (got := ask()) != b'{"busy":2}\n' and got,
+                    "the place of one that has gone is not free",
+                )
+
             self.tell(
                 "the greatest number of an object",
                 told(f"object={(1 << 32) - 1} interface={worked.FIRST_ONE} member=1")

@@ -334,6 +334,11 @@ class Packed(Cases):
             (done.returncode, told) == (0, wanted),
             (done.returncode, said, done.stderr),
         )
+
+    @unittest.skipUnless(HAS_ROOT, "no dpkg-deb, or not the superuser who makes a clean root")
+    def test_the_files_of_the_package(self):
+        done = packed()
+        said = done.stdout.splitlines()
         if done.returncode == 0:
             told = subprocess.run(
                 ["dpkg-deb", "--contents", said[1]], capture_output=True, text=True
@@ -361,6 +366,17 @@ class Packed(Cases):
                 "usr/share/bash-completion/completions/oaut-gateway",
             ):
                 self.tell(f"the package has {path}", f" ./{path}\n" in told, told)
+            self.tell(
+                "no file of the example has the name of one of README's",
+                "etc/oaut/items" not in told,
+                told,
+            )
+
+    @unittest.skipUnless(HAS_ROOT, "no dpkg-deb, or not the superuser who makes a clean root")
+    def test_what_the_package_depends_on(self):
+        done = packed()
+        said = done.stdout.splitlines()
+        if done.returncode == 0:
             depends = subprocess.run(
                 ["dpkg-deb", "--field", said[1], "Depends"], capture_output=True, text=True
             ).stdout
@@ -390,11 +406,12 @@ class Packed(Cases):
             ).stdout
             for it in ("python3 (>= 3.9)", "python3-aiohttp (>= 3.8)", "python3-pycryptodome"):
                 self.tell(f"it recommends {it}", it in recommended.strip().split(", "), recommended)
-            self.tell(
-                "no file of the example has the name of one of README's",
-                "etc/oaut/items" not in told,
-                told,
-            )
+
+    @unittest.skipUnless(HAS_ROOT, "no dpkg-deb, or not the superuser who makes a clean root")
+    def test_the_metadata_of_the_client(self):
+        done = packed()
+        said = done.stdout.splitlines()
+        if done.returncode == 0:
             with tempfile.TemporaryDirectory() as room:
                 subprocess.run(["dpkg-deb", "-x", said[1], room], check=True)
                 (found,) = importlib.metadata.distributions(
@@ -575,6 +592,9 @@ class Beside(Cases):
             )
             for words in (f"{name}{', python3-oaut' if name == 'oaut-tools' else ''} - ", *texts):
                 self.tell(f"{name}: it says {words}", words in " ".join(plain.split()))
+
+    @unittest.skipIf(shutil.which("groff") is None, "groff is not there")
+    def test_the_manual_is_searched(self):
         if shutil.which("mandb") is None:
             print("mandb is not there: no manual is searched")
             return
@@ -680,6 +700,9 @@ class Beside(Cases):
                 (sorted(done.stdout.split()), done.stderr) == (sorted(wanted), ""),
                 (done.stdout, done.stderr),
             )
+
+    @unittest.skipIf(shutil.which("bash") is None, "bash is not there")
+    def test_each_command_is_completed(self):
         with open(f"{ROOT}/dist/oaut.bash") as file:
             told = file.read()
         with open(f"{ROOT}/docs/reference/program.md") as file:

@@ -343,11 +343,9 @@ class Image(Cases):
             )
             self.tell("the tools run", tools == f"oaut {version}", tools)
 
-    def test_volumes(self):
-        """An empty one without a library; one that a store is made on; and the same with another
-        library."""
+    def test_a_volume_without_a_library(self):
         path, _, _ = image()
-        with Podman() as podman, tempfile.TemporaryDirectory() as room:
+        with Podman() as podman:
             podman.told("load", "--input", path)
             name = podman.told("images", "--format", "{{.Repository}}:{{.Tag}}")
             done = podman.run("run", "--rm", "--read-only", "--volume", "none:/data", name)
@@ -357,6 +355,13 @@ class Image(Cases):
                 == (2, True),
                 (done.returncode, done.stderr),
             )
+
+    def test_volumes(self):
+        """One that a store is made on, and the same with another library."""
+        path, _, _ = image()
+        with Podman() as podman, tempfile.TemporaryDirectory() as room:
+            podman.told("load", "--input", path)
+            name = podman.told("images", "--format", "{{.Repository}}:{{.Tag}}")
             for turn, source in enumerate(("full", "arrays")):
                 os.makedirs(f"{room}/etc", exist_ok=True)
                 with open(f"{ROOT}/examples/{source}.idl") as file, open(

@@ -133,15 +133,9 @@ class CheckpointCalls(Served):
                     answer,
                 )
 
-        each_fails(self, words("--hex", "--group", "3"), files, checkpoint_fails, given=asked)
-        each_fails(
-            self,
-            words("--hex", "--group", "3"),
-            files,
-            checkpoint_killed,
-            "signal=KILL",
-            given=asked,
-        )
+        serve = words("--hex", "--group", "3")
+        each_fails(self, serve, files, checkpoint_fails, given=asked)
+        each_fails(self, serve, files, checkpoint_killed, "signal=KILL", given=asked)
 
     def test_the_largest_checkpoint(self):
         # a table of 15,728,640 bytes in a bank whose library has 279: 15 cells of texts, each of 28

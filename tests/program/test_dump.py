@@ -311,16 +311,8 @@ class Dump(Dumped):
         self.dumps(f"{name} is {text}", disk, 3, "", fault(text))
         self.read_by_the_reader(name, disk, text)
 
-    def test_stores_that_are_damaged(self):
-        created_and_put = CREATED_1 + put_text(4)
+    def test_damaged_heads(self):
         for form, made, disk in ((1, store.formatted_before, OLD), (2, store.formatted, TWO)):
-            body = BODIES[form]
-            snapshot, gate, gate_2, gate_3 = (
-                body + SNAPSHOT,
-                body + GATE,
-                body + GATE_2,
-                body + GATE + 5 + len(created_and_put),
-            )
             for name, damaged, text in (
                 ("a disk of zeros", bytes(len(disk)), "not a store"),
                 ("a file of 100 bytes", disk[:100], "not a store"),
@@ -353,6 +345,26 @@ class Dump(Dumped):
                 ("a snapshot beyond the bank", changed(disk, 8208, 0, 0, 0, 2), "damaged at 8192"),
                 ("another size of a bank", changed(disk, 8212, 1), "damaged at 8192"),
                 ("a byte behind the sizes", changed(disk, 8223, 1), "damaged at 8192"),
+            ):
+                self.is_refused(f"format {form}: {name}", damaged, text)
+        for size in (0, 20_971_519, 20_971_521, 1_073_741_825, 4_294_967_295):
+            self.is_refused(
+                f"format 2: banks of {size} bytes",
+                changed(TWO, 8212, *struct.pack("<I", size)),
+                "damaged at 8192",
+            )
+
+    def test_damaged_snapshots_and_groups(self):
+        created_and_put = CREATED_1 + put_text(4)
+        for form, made, disk in ((1, store.formatted_before, OLD), (2, store.formatted, TWO)):
+            body = BODIES[form]
+            snapshot, gate, gate_2, gate_3 = (
+                body + SNAPSHOT,
+                body + GATE,
+                body + GATE_2,
+                body + GATE + 5 + len(created_and_put),
+            )
+            for name, damaged, text in (
                 (
                     "a snapshot whose next number is 0",
                     changed(disk, snapshot, 0, 0, 0, 0),
@@ -394,12 +406,6 @@ class Dump(Dumped):
                 ("a value of the type 7", changed(disk, gate_2 + 32, 7), f"damaged at {gate_2}"),
             ):
                 self.is_refused(f"format {form}: {name}", damaged, text)
-        for size in (0, 20_971_519, 20_971_521, 1_073_741_825, 4_294_967_295):
-            self.is_refused(
-                f"format 2: banks of {size} bytes",
-                changed(TWO, 8212, *struct.pack("<I", size)),
-                "damaged at 8192",
-            )
 
     def test_places_of_damage_in_format_1(self):
         # the same places as numbers

@@ -46,7 +46,7 @@ def laid_over(disk, bank=store.BANK):
 
 
 class Format(Cases):
-    def test_what_format_leaves(self):
+    def test_a_new_file(self):
         self.leaves(
             "format: a file that is not there",
             FORMAT,
@@ -76,6 +76,8 @@ class Format(Cases):
             {"it.store": bytes(store.formatted(FULL_TEXT))},
         )
         self.tell("a store where nothing is said has 75,505,664 bytes", len(NEW) == SIZE)
+
+    def test_files_that_are_there(self):
         full = bytes(store.formatted(FULL_TEXT))
         self.leaves(
             "format: a store begins anew",
@@ -165,6 +167,8 @@ class Format(Cases):
                 (status, out, err.startswith(b"error: ")) == (2, b"", True),
                 (status, out, err),
             )
+
+    def test_the_largest_banks(self):
         with tempfile.TemporaryDirectory() as room:
             fill(room, {"lib.idl": SMALL})
             size = 33_562_624 + 2 * 1_073_741_824

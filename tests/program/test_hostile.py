@@ -354,6 +354,16 @@ class Stores(Cases):
                     file,
                     f"damaged at {snapshot + 8}",
                 )
+
+    def test_lengths_of_an_image(self):
+        """Lengths of what is not there, in little memory: the place is told."""
+        with tempfile.TemporaryDirectory(dir=fast_folder()) as room:
+            file, layout = StoreFile(f"{room}/it.store", store.formatted(TEXT)), layout_of(
+                store.formatted(TEXT)
+            )
+            fill(room, {"lib.idl": LIBRARY})
+            form, library, body, bank = layout["image"][1]
+            snapshot, head = body + len(library), layout["image"][0]
             for what, place, at in (
                 ("bytes of a library", head + 12, head),
                 ("bytes of a snapshot", head + 16, head),

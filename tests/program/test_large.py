@@ -116,6 +116,30 @@ class Large(Cases):
                 (found.format, found.chosen, "".join(store.lines(found))) == (2, 1, ONE),
             )
 
+    def laid(self, room, head, last):
+        """Writes the store; returns where its groups begin, and the lengths of its library and table."""
+        library = run_in(room, ["check", "lib.idl"])[1]
+        table = 8 + HUGE * (4 + len(head) + full.LONGEST)
+        body = store.body_of(2, 1, store.MOST_BANK)
+        with open(f"{room}/it.store", "wb") as file:
+            file.truncate(store.length_of(store.MOST_BANK))
+            for at, bytes_there in (
+                (0, b"\1"),
+                (store.SELECTOR, b"\1"),
+                (store.HEADS[1], store.head_image(2, len(library), table, store.MOST_BANK)),
+                (body, library),
+            ):
+                file.seek(at)
+                file.write(bytes_there)
+            file.write(struct.pack("<II", HUGE + 1, HUGE))
+            for number in range(1, HUGE + 1):
+                file.write(struct.pack("<I", number) + head)
+                file.seek(full.LONGEST, os.SEEK_CUR)
+            gate = file.tell()
+            file.seek(-full.LONGEST, os.SEEK_CUR)
+            file.write(last)
+        return gate, body + len(library) + table
+
     @unittest.skipUnless(
         MEMORY > 6 << 30, "less than 6 GiB of memory: no table of a gigabyte is read"
     )
@@ -131,29 +155,10 @@ class Large(Cases):
         last = b"\x61" * full.LONGEST
         with tempfile.TemporaryDirectory() as room:
             fill(room, {"lib.idl": full.library(1, "long")})
-            library = run_in(room, ["check", "lib.idl"])[1]
-            table = 8 + HUGE * (4 + len(head) + full.LONGEST)
-            body = store.body_of(2, 1, store.MOST_BANK)
-            with open(f"{room}/it.store", "wb") as file:
-                file.truncate(store.length_of(store.MOST_BANK))
-                for at, bytes_there in (
-                    (0, b"\1"),
-                    (store.SELECTOR, b"\1"),
-                    (store.HEADS[1], store.head_image(2, len(library), table, store.MOST_BANK)),
-                    (body, library),
-                ):
-                    file.seek(at)
-                    file.write(bytes_there)
-                file.write(struct.pack("<II", HUGE + 1, HUGE))
-                for number in range(1, HUGE + 1):
-                    file.write(struct.pack("<I", number) + head)
-                    file.seek(full.LONGEST, os.SEEK_CUR)
-                gate = file.tell()
-                file.seek(-full.LONGEST, os.SEEK_CUR)
-                file.write(last)
+            gate, due = self.laid(room, head, last)
             self.tell(
                 "behind the second gigabyte: where the groups begin",
-                gate == body + len(library) + table and 2**31 < gate - full.LONGEST,
+                gate == due and 2**31 < gate - full.LONGEST,
             )
             asked = wire.get(1, HUGE, full.LAST) + wire.put(
                 2, HUGE, full.LAST, wire.scalar(wire.BSTR, b"ab")

@@ -202,7 +202,7 @@ class Libraries(Played):
             "limit name",
         )
 
-    def test_libraries_that_are_refused(self):
+    def test_limits_of_a_library(self):
         self.refused(
             "an interface too many",
             library_with(b"".join(interface(b"2", name=b"D%d" % it) for it in range(257))),
@@ -224,6 +224,22 @@ class Libraries(Played):
             ),
             "limit members",
         )
+        self.refused(
+            "a parameter too many",
+            library_with(
+                interface(
+                    b"2",
+                    body=b"methods: [id(1)] void Go("
+                    + b", ".join(b"long P%d" % it for it in range(17))
+                    + b");",
+                )
+                + coclass(b"3")
+            ),
+            "limit params",
+        )
+        self.refused("a canonical text above the limit", long_when_printed(), "limit text")
+
+    def test_names_and_numbers_that_come_twice(self):
         self.refused(
             "a name twice",
             library_with(
@@ -255,6 +271,13 @@ class Libraries(Played):
             ),
             "duplicate name a",
         )
+        self.refused(
+            "a GUID twice",
+            library_with(interface(b"2") + coclass(b"1")),
+            "duplicate guid 11223344-5566-7788-99aa-bbccddeeff01",
+        )
+
+    def test_members_that_are_refused(self):
         self.refused(
             "a get and a put of two types",
             library_with(
@@ -299,25 +322,6 @@ class Libraries(Played):
             "an id that is none",
             SMALL.replace(b"id(1)", b"id(-1)"),
             f"syntax at byte {SMALL.index(b'id(1)') + 4}",
-        )
-        self.refused(
-            "a parameter too many",
-            library_with(
-                interface(
-                    b"2",
-                    body=b"methods: [id(1)] void Go("
-                    + b", ".join(b"long P%d" % it for it in range(17))
-                    + b");",
-                )
-                + coclass(b"3")
-            ),
-            "limit params",
-        )
-        self.refused("a canonical text above the limit", long_when_printed(), "limit text")
-        self.refused(
-            "a GUID twice",
-            library_with(interface(b"2") + coclass(b"1")),
-            "duplicate guid 11223344-5566-7788-99aa-bbccddeeff01",
         )
         self.refused(
             "an interface that is not there",

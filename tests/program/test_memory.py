@@ -160,8 +160,24 @@ class Memory(Cases):
 
 
 class Stack(Cases):
-    def test_the_largest_inputs_in_a_small_stack(self):
+    def fits(self, name, words, given, files, status):
         """Nothing in it is as deep as an input is long or nested."""
+        with tempfile.TemporaryDirectory(dir=fast_folder()) as room:
+            fill(room, files)
+            got = run_in(
+                room,
+                words,
+                given,
+                before=lambda: resource.setrlimit(resource.RLIMIT_STACK, (STACK, STACK)),
+                under=("env", "-i"),
+            )
+        self.tell(
+            f"{name}, in a stack of {STACK >> 10} KiB",
+            got[0] == status,
+            (got[0], got[1][:80], got[2][:200]),
+        )
+
+    def test_libraries_in_a_small_stack(self):
         interface = (
             b"[uuid(11223344-5566-7788-99aa-bbccddeeff02)] dispinterface F { properties: [id(1)] "
             b"SAFEARRAY(VARIANT) A; [id(2)] BSTR B; %s methods: }"
@@ -172,25 +188,6 @@ class Stack(Cases):
             b"F; } }" % (interface % more)
         )
         long = library(b"".join(b"[id(%d)] VARIANT T%d; " % (it, it) for it in range(3, 500)))
-        values = [
-            wire.array(wire.VARIANT, [(65_536, 0)], [(wire.I4, 5)] * 65_536),
-            wire.array(wire.VARIANT, [(1, 0)] * 16, [(wire.I4, 5)]),
-        ]
-        puts = (
-            b"".join(wire.put(2, 1, 1, it) + wire.get(3, 1, 1) for it in values)
-            + wire.put(4, 1, 2, wire.scalar(wire.BSTR, bytes(2**20)))
-            + wire.get(5, 1, 2)
-        )
-        objects = (CREATE + b"\n") * 1_000 + wire.live_objects(1)
-        bodies = [struct.pack("<I", tag) + it for tag, it in enumerate(DUE_ASKED + worked.REPLACED)]
-        due = oaut.Raw.pack(bodies)
-        # (of a client each)
-        frames = lambda bodies: join(
-            [(it, oaut.Raw.pack([body])) for it, body in enumerate(bodies)]
-        )
-        values_of_clients = frames(
-            [bytes.fromhex(it.decode()) for it in (CREATE + b"\n" + puts).split()]
-        ) + join([(7, bytes(3))])
         for name, words, given, files, status in (
             (
                 "a library of 262,144 bytes",
@@ -213,6 +210,30 @@ class Stack(Cases):
                 {"lib.idl": library(b"[id(3)] void M(" + b"[" * 200_000)},
                 2,
             ),
+        ):
+            self.fits(name, words, given, files, status)
+
+    def test_sessions_in_a_small_stack(self):
+        interface = (
+            b"[uuid(11223344-5566-7788-99aa-bbccddeeff02)] dispinterface F { properties: [id(1)] "
+            b"SAFEARRAY(VARIANT) A; [id(2)] BSTR B; %s methods: }"
+        )
+        library = (
+            lambda more: b"[uuid(11223344-5566-7788-99aa-bbccddeeff01)] library D { %s "
+            b"[uuid(11223344-5566-7788-99aa-bbccddeeff03)] coclass C { [default] dispinterface "
+            b"F; } }" % (interface % more)
+        )
+        values = [
+            wire.array(wire.VARIANT, [(65_536, 0)], [(wire.I4, 5)] * 65_536),
+            wire.array(wire.VARIANT, [(1, 0)] * 16, [(wire.I4, 5)]),
+        ]
+        puts = (
+            b"".join(wire.put(2, 1, 1, it) + wire.get(3, 1, 1) for it in values)
+            + wire.put(4, 1, 2, wire.scalar(wire.BSTR, bytes(2**20)))
+            + wire.get(5, 1, 2)
+        )
+        objects = (CREATE + b"\n") * 1_000 + wire.live_objects(1)
+        for name, words, given, files, status in (
             (
                 "the largest values",
                 ["play", "--hex", "lib.idl"],
@@ -228,18 +249,59 @@ class Stack(Cases):
                 0,
             ),
             ("objects", ["play", "--hex", "lib.idl"], objects, {"lib.idl": SMALL}, 0),
-            (
-                "a checkpoint, and REPLACE LIBRARY",
-                ["serve", "--group", "1024", "it.store", "lib.idl"],
-                due,
-                {"lib.idl": LIBRARY, "it.store": nearly_full()},
-                0,
-            ),
+        ):
+            self.fits(name, words, given, files, status)
+
+    def test_sessions_of_many_clients_in_a_small_stack(self):
+        interface = (
+            b"[uuid(11223344-5566-7788-99aa-bbccddeeff02)] dispinterface F { properties: [id(1)] "
+            b"SAFEARRAY(VARIANT) A; [id(2)] BSTR B; %s methods: }"
+        )
+        library = (
+            lambda more: b"[uuid(11223344-5566-7788-99aa-bbccddeeff01)] library D { %s "
+            b"[uuid(11223344-5566-7788-99aa-bbccddeeff03)] coclass C { [default] dispinterface "
+            b"F; } }" % (interface % more)
+        )
+        values = [
+            wire.array(wire.VARIANT, [(65_536, 0)], [(wire.I4, 5)] * 65_536),
+            wire.array(wire.VARIANT, [(1, 0)] * 16, [(wire.I4, 5)]),
+        ]
+        puts = (
+            b"".join(wire.put(2, 1, 1, it) + wire.get(3, 1, 1) for it in values)
+            + wire.put(4, 1, 2, wire.scalar(wire.BSTR, bytes(2**20)))
+            + wire.get(5, 1, 2)
+        )
+        # (of a client each)
+        frames = lambda bodies: join(
+            [(it, oaut.Raw.pack([body])) for it, body in enumerate(bodies)]
+        )
+        values_of_clients = frames(
+            [bytes.fromhex(it.decode()) for it in (CREATE + b"\n" + puts).split()]
+        ) + join([(7, bytes(3))])
+        for name, words, given, files, status in (
             (
                 "the largest values of many clients",
                 ["play", "--shared", "lib.idl"],
                 values_of_clients,
                 {"lib.idl": library(b"")},
+                0,
+            ),
+        ):
+            self.fits(name, words, given, files, status)
+
+    def test_stores_in_a_small_stack(self):
+        bodies = [struct.pack("<I", tag) + it for tag, it in enumerate(DUE_ASKED + worked.REPLACED)]
+        due = oaut.Raw.pack(bodies)
+        # (of a client each)
+        frames = lambda bodies: join(
+            [(it, oaut.Raw.pack([body])) for it, body in enumerate(bodies)]
+        )
+        for name, words, given, files, status in (
+            (
+                "a checkpoint, and REPLACE LIBRARY",
+                ["serve", "--group", "1024", "it.store", "lib.idl"],
+                due,
+                {"lib.idl": LIBRARY, "it.store": nearly_full()},
                 0,
             ),
             (
@@ -253,20 +315,7 @@ class Stack(Cases):
             ("a new store", ["format", "it.store", "lib.idl"], b"", {"lib.idl": SMALL}, 0),
             ("upgrade", ["upgrade", "it.store"], b"", {"it.store": OLD}, 0),
         ):
-            with tempfile.TemporaryDirectory(dir=fast_folder()) as room:
-                fill(room, files)
-                got = run_in(
-                    room,
-                    words,
-                    given,
-                    before=lambda: resource.setrlimit(resource.RLIMIT_STACK, (STACK, STACK)),
-                    under=("env", "-i"),
-                )
-            self.tell(
-                f"{name}, in a stack of {STACK >> 10} KiB",
-                got[0] == status,
-                (got[0], got[1][:80], got[2][:200]),
-            )
+            self.fits(name, words, given, files, status)
 
 
 @unittest.skipUnless(COMPILER, "cc is not there: no call of the allocator is looked at")

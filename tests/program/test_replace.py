@@ -375,6 +375,8 @@ class OverAStore(Served):
     def test_places_in_groups(self):
         # opcode 12 first, last, twice, behind gets, and refused, in each size of groups: of each
         # session what it leaves, and the groups that its events stand in
+        # opcode 12 first, last, twice, behind gets, and refused, in each size of groups: of each
+        # session what it leaves, and the groups that its events stand in
         new = wire.replacement(1, FULL)
         a, b, c = (put(tag, value) for tag, value in ((2, 8), (3, 9), (4, 10)))
         bad, refused = wire.replacement(6, b"library"), wire.replacement(
@@ -400,6 +402,49 @@ class OverAStore(Served):
                 ],
             ),
             ("alone", [(new, ok(1, FULL_TEXT))]),
+        ):
+            for size in (1, 3, 1_024):
+                for how, framed in (("--hex", lambda it: it), (None, records)):
+                    disk, events = bytearray(TWO), []
+                    for line, (_, what) in parts:
+                        alone = line in (new, bad, refused)
+                        if isinstance(what, int):
+                            events.append(put_of(what))
+                        if events and (alone or len(events) == size):
+                            disk, events = store.add(disk, b"".join(events)), []
+                        if alone and what:
+                            disk = store.settled(disk, what)
+                    if events:
+                        disk = store.add(disk, b"".join(events))
+                    given, replies = (
+                        b"".join(it) for it in zip(*((line, reply) for line, (reply, _) in parts))
+                    )
+                    self.serves(
+                        f"replace: {name}, groups of {size}{'' if how else ', records'}",
+                        framed(given),
+                        0,
+                        framed(replies),
+                        b"",
+                        TWO,
+                        disk,
+                        *([how] if how else []),
+                        "--group",
+                        str(size),
+                    )
+
+    def test_refusals_in_groups(self):
+        # opcode 12 first, last, twice, behind gets, and refused, in each size of groups: of each
+        # session what it leaves, and the groups that its events stand in
+        # opcode 12 first, last, twice, behind gets, and refused, in each size of groups: of each
+        # session what it leaves, and the groups that its events stand in
+        new = wire.replacement(1, FULL)
+        a, b, c = (put(tag, value) for tag, value in ((2, 8), (3, 9), (4, 10)))
+        bad, refused = wire.replacement(6, b"library"), wire.replacement(
+            9, SMALL.replace(b"[id(1)]", b"[id(2)]")
+        )
+        loss = (wire.lost(9, FACE, 1), None)
+        ok = lambda tag, text=None: (wire.reply(tag), text)
+        for name, parts in (
             (
                 "refused as stub",
                 [(a, ok(2, 8)), (bad, (wire.reply(6, BAD_STUB), None)), (b, ok(3, 9))],

@@ -59,6 +59,8 @@ class Lines(Played):
             b"",
         )
         self.play("an empty line before all", b"\n01", 0, b"", b"")
+
+    def test_digits(self):
         self.play(
             "half a byte behind a body without a tag",
             b"01\n0\n",
@@ -85,6 +87,8 @@ class Lines(Played):
             "a blank is no digit", b" " + CREATE + b"\n", 4, b"", b"oaut: bad hex on line 1\n"
         )
         self.play("a CR that ends no line", b"01\r02\n", 4, b"", b"oaut: bad hex on line 1\n")
+
+    def test_lengths_of_lines(self):
         self.play(
             "a line at its limit",
             b"0" * LINE_LIMIT + b"\n" + CREATE + b"\n",
@@ -113,6 +117,8 @@ class Lines(Played):
             STUB + b"\n",
             b"oaut: record too long\n",
         )
+
+    def test_lengths_of_replies(self):
         # a buffer of the output has 8,192 bytes; there are replies of 33 bytes, and of 49
         for length in (8_189, 8_190, 8_191, 8_192, 8_193, 30_000):
             stubs = next(it for it in range(49) if (length - 33 * it) % 49 == 0)

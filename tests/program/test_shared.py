@@ -313,9 +313,8 @@ class Frames(SharedSessions):
             tells(5, (5, created(2, 1)), 5),
         )
 
-    def test_a_record_that_stands_whole_in_its_frame(self):
-        """It is answered from where it stands, but not behind a part of another, behind its
-        client's end, or where it is not all there."""
+    def test_a_record_in_parts(self):
+        """It is answered once it is all there, also with a frame of another between its parts."""
         first, told_ = asks((7, create(1))), tells((7, created(1, 1)))
         body, next_ = record(puts(2, 1, 5)), record(gets(3, 1))
         for cut in (1, 3, 4, 5, len(body) - 1):
@@ -335,6 +334,12 @@ class Frames(SharedSessions):
                 0,
                 out,
             )
+
+    def test_a_record_that_stands_whole_in_its_frame(self):
+        """It is answered from where it stands, but not behind a part of another, or behind its
+        client's end."""
+        first, told_ = asks((7, create(1))), tells((7, created(1, 1)))
+        body, next_ = record(puts(2, 1, 5)), record(gets(3, 1))
         given = (
             first
             + join([(7, body + next_), (7, body + next_[:9]), (7, next_[9:])])

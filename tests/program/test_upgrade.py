@@ -196,7 +196,7 @@ class Upgrade(Cases):
                 blocks,
             )
 
-    def test_what_is_refused(self):
+    def test_files_that_are_refused(self):
         self.refuses("a store of format 2", TWO, 3, "already format 2")
         self.refuses(
             "a store of format 2, and larger banks",
@@ -220,6 +220,8 @@ class Upgrade(Cases):
         self.refuses("a damaged snapshot", changed(OLD, 8503, 0, 0, 0, 0), 3, "damaged at 8503")
         self.refuses("a damaged group", changed(OLD, 8516, 9), 3, "damaged at 8511")
         self.refuses("a store of format 2 that lacks its last byte", TWO[:-1], 3, "damaged at 8192")
+
+    def test_files_that_cannot_be_read_or_written(self):
         self.case(
             "upgrade: a file that is not there",
             UPGRADE,
@@ -256,13 +258,6 @@ class Upgrade(Cases):
             {"it.store": bytes(store.upgraded(OLD))},
             before=files_of(SIZE),
         )
-        for bank in ("20971519", "1073741825", "+20971520", "x", ""):
-            status, out, err = run([*UPGRADE, f"--bank={bank}"], files={"it.store": OLD})
-            self.tell(
-                f"upgrade: banks of {bank!r} bytes are refused",
-                (status, out, err.startswith(b"error: ")) == (2, b"", True),
-                (status, out, err),
-            )
         with open("/dev/full", "wb") as full:
             self.leaves(
                 "upgrade: standard output takes nothing",
@@ -273,6 +268,15 @@ class Upgrade(Cases):
                 {"it.store": OLD},
                 {"it.store": bytes(store.upgraded(OLD))},
                 stdout=full,
+            )
+
+    def test_banks_that_are_refused(self):
+        for bank in ("20971519", "1073741825", "+20971520", "x", ""):
+            status, out, err = run([*UPGRADE, f"--bank={bank}"], files={"it.store": OLD})
+            self.tell(
+                f"upgrade: banks of {bank!r} bytes are refused",
+                (status, out, err.startswith(b"error: ")) == (2, b"", True),
+                (status, out, err),
             )
 
     def test_a_table_that_a_bank_does_not_take(self):

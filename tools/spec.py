@@ -20,23 +20,28 @@ PAGE = f"{ROOT}/docs/internals/reading-the-proofs.md"
 
 README = f"{ROOT}/README.md"
 
-# the definitions of each promise of README, each with its crate; those of a disk count as one
-DISK = tuple(f"oa_disk.{it}" for it in ("WritesUnsynced", "Syncs", "TakesTime", "FailsAs"))
+# the definitions of each promise of README, each with its module; those of a disk count as one
+DISK = tuple(f"oa_disk.specs.Disk.{it}" for it in ("WritesUnsynced", "Syncs", "TakesTime", "FailsAs"))
 SENTENCES = {
-    1: ["oa_turn.Turn", "oa_frame.Session"],
-    2: ["oa_history.IsLived", "oa_history.IsSurvived", "oa_store.IsStore", DISK],
-    3: ["oa_linearizable.ServersAreDurable", "oa_linearizable.SeenHistoriesAreLinearizable"],
-    4: ["oa_wire_variant.Spells", "oa_idl.IsTree", "oa_checks.IsLibrary"],
-    5: ["oa_keeps.KeepsLibrary", "oa_server.ReplacesInStore", "oa_store.IsUpgrade", "oa_store.IsBrought"],
+    1: ["oa_turn.specs.Turns.Turn", "oa_frame.specs.Sessions.Session"],
+    2: ["oa_history.specs.Lived.IsLived", "oa_history.specs.Survived.IsSurvived", "oa_store.specs.Stores.IsStore", DISK],
+    3: ["oa_linearizable.specs.Crashes.ServersAreDurable", "oa_linearizable.specs.Tables.SeenHistoriesAreLinearizable"],
+    4: ["oa_wire_variant.specs.Variants.Spells", "oa_idl.specs.IsTree.IsTree", "oa_checks.specs.IsLibrary.IsLibrary"],
+    5: ["oa_keeps.specs.Keeps.KeepsLibrary", "oa_server.specs.Answers.ReplacesInStore", "oa_store.specs.Changes.IsUpgrade", "oa_store.specs.Faults.IsBrought"],
 }
 # more than this nobody should have to read
 LIMITS = {"Turn": 810, "IsLived": 1_335}
 
 # The path of durability: a crash history of one client, by the crates that define what is on the disk, in a group and in a session. What these crates
 # say of a single request is promise 1's, and what many clients add is promise 3's: neither is followed from here.
-DURABLE = "oa_history.IsLived"
-DURABLE_CRATES = "disk journal store keeper groups server history".split()
-MANY_CLIENTS = ["oa_history.ServesShared", "oa_history.HasWrittenFrames", "oa_server.shared_requests", "oa_server.shared"]
+DURABLE = "oa_history.specs.Lived.IsLived"
+DURABLE_CRATES = ("oa_disk", "oa_journal", "oa_store", "oa_keeper", "oa_groups", "oa_server", "oa_history")
+MANY_CLIENTS = [
+    "oa_history.specs.Framed.ServesShared",
+    "oa_history.specs.Framed.HasWrittenFrames",
+    "oa_server.specs.SharedRequests.shared_requests",
+    "oa_server.specs.Sharing.shared",
+]
 DURABLE_FILES, DURABLE_LINES = 12, 900
 
 PROMISE = re.compile(r"^(\d)\. (.*?)(?=^\d\. |^#|^\S|\Z)", re.MULTILINE | re.DOTALL)
@@ -163,15 +168,12 @@ class Book:
         return list(found)
 
     def roots(self, word):
-        """The definitions of an entry of SENTENCES: each is the only one of its name in its crate."""
-        found = []
-        for entry in [word] if isinstance(word, str) else word:
-            crate, _, name = entry.partition(".")
-            keys = [it for it in self.definitions if it[1] == name and it[0].split(".")[0] == crate]
-            if len(keys) != 1:
-                sys.exit(f"{len(keys)} definitions of {crate} are named {name}")
-            found += keys
-        return found
+        """The definitions of an entry of SENTENCES."""
+        keys = [(it.rpartition(".")[0], it.rpartition(".")[2]) for it in ([word] if isinstance(word, str) else word)]
+        unknown = [".".join(it) for it in keys if it not in self.definitions]
+        if unknown:
+            sys.exit(f"no definition is named {', '.join(unknown)}")
+        return keys
 
     def all_roots(self):
         return [it for words in SENTENCES.values() for word in words for it in self.roots(word)]
@@ -191,7 +193,7 @@ class Book:
         """The definitions of the path of durability, in the order of reading."""
         keys = self.closure(self.roots(DURABLE), without={key for word in MANY_CLIENTS for key in self.roots(word)})
         single = set(self.closure(self.roots(SENTENCES[1][0])))
-        return [it for it in keys if it not in single and it[0].split(".")[0].removeprefix("oa_") in DURABLE_CRATES]
+        return [it for it in keys if it not in single and it[0].split(".")[0] in DURABLE_CRATES]
 
     def lines(self, keys):
         return sum(not line.lstrip().startswith("--") for it in keys for line in self.definitions[it].lines)

@@ -132,6 +132,10 @@ class Docs(Cases):
         )
         self.tell("the pictures", done.returncode == 0, done.stdout)
 
+    def test_one_word_has_one_meaning(self):
+        done = subprocess.run([sys.executable, f"{ROOT}/tools/names.py"], capture_output=True, text=True)
+        self.tell("names with one meaning", done.returncode == 0, done.stdout + done.stderr)
+
     def test_how_much_there_is_to_read(self):
         done = subprocess.run(
             [sys.executable, f"{ROOT}/tools/spec.py", "--check"], capture_output=True, text=True

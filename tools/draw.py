@@ -19,7 +19,7 @@ text { font: 12px sans-serif; fill: #222 } .box { fill: #eef3fa; stroke: #5b7aa5
 font-size: 11px; fill: #555 }
 path { fill: none; stroke: #8899aa; stroke-width: 1 } .way { stroke: #444; stroke-width: 1.5 }
 </style>"""
-STORAGE = {"oa_disk", "oa_journal", "oa_store", "oa_groups"}
+STORAGE = {"oa_disk", "oa_journal", "oa_store", "oa_group_commit"}
 # the way of a put: what happens, and in which crate
 PUT = [
     ("oaut", "standard input: a line or a record"),
@@ -33,7 +33,7 @@ PUT = [
     ("oa_decision", "the change, if it is within the limits"),
     ("oa_image", "the bytes of its log record, kept until the commit"),
     ("oa_table", "the cell in memory gets the new value"),
-    ("oa_groups", "the group is complete: commit"),
+    ("oa_group_commit", "the group is complete: commit"),
     ("oa_journal", "write length and log records after the commit flag; sync"),
     ("oa_disk", "set the commit flag; sync: the change survives a crash"),
     ("oa_server", "the replies of the group are written"),

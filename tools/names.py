@@ -16,7 +16,7 @@ sys.path.insert(0, os.path.join(ROOT, "tools"))
 
 import spec  # noqa: E402
 
-COMBINATOR = "one combinator, over words (oa_idl), over bytes (oa_ndr) or for formats (oa_layout)"
+COMBINATOR = "one combinator, over words (oa_idl), over bytes (oa_ndr) or for formats (oa_formats)"
 ALLOWED = {
     **dict.fromkeys(("Then", "and_then", "bind", "choose", "fail", "give", "given", "made", "nothing", "with", "◌▸◌"), COMBINATOR),
     "◌>>=◌": "what Rust's `?` does, for each type of errors, and for parsers and decoders",

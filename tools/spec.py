@@ -33,8 +33,8 @@ DISK = tuple(
 SENTENCES = {
     1: ["oa_turn.specs.Turns.Turn", "oa_frame.specs.Sessions.Session"],
     2: [
-        "oa_history.specs.Lived.IsLived",
-        "oa_history.specs.Survived.IsSurvived",
+        "oa_history.specs.CrashHistories.IsCrashHistory",
+        "oa_history.specs.FaultHistories.IsFaultHistory",
         "oa_store.specs.Stores.IsStore",
         DISK,
     ],
@@ -45,47 +45,47 @@ SENTENCES = {
     4: [
         "oa_wire_variant.specs.Variants.Spells",
         "oa_idl.specs.IsTree.IsTree",
-        "oa_checks.specs.IsLibrary.IsLibrary",
+        "oa_sema.specs.IsLibrary.IsLibrary",
     ],
     5: [
-        "oa_keeps.specs.Keeps.KeepsLibrary",
+        "oa_compat.specs.Keeps.KeepsLibrary",
         "oa_server.specs.Answers.ReplacesInStore",
         "oa_store.specs.Changes.IsUpgrade",
-        "oa_store.specs.Faults.IsBrought",
+        "oa_store.specs.Faults.IsMigrated",
     ],
 }
 # more than this nobody should have to read
-LIMITS = {"Turn": 810, "IsLived": 1_335}
+LIMITS = {"Turn": 810, "IsCrashHistory": 1_335}
 
 # The path of durability: a crash history of one client, by the crates that define what is on the
 # disk, in a group and in a session. What these crates say of a single request is promise 1's, and
 # what many clients add is promise 3's: neither is followed from here.
-DURABLE = "oa_history.specs.Lived.IsLived"
+DURABLE = "oa_history.specs.CrashHistories.IsCrashHistory"
 DURABLE_CRATES = (
     "oa_disk",
     "oa_journal",
     "oa_store",
     "oa_keeper",
-    "oa_groups",
+    "oa_group_commit",
     "oa_server",
     "oa_history",
 )
 MANY_CLIENTS = [
     "oa_history.specs.Framed.ServesShared",
     "oa_history.specs.Framed.HasWrittenFrames",
-    "oa_server.specs.SharedRequests.shared_requests",
+    "oa_server.specs.SharedMachine.shared_machine",
     "oa_server.specs.Sharing.shared",
 ]
 DURABLE_FILES, DURABLE_LINES = 12, 900
 
 PROMISE = re.compile(r"^(\d)\. (.*?)(?=^\d\. |^#|^\S|\Z)", re.MULTILINE | re.DOTALL)
 
-# the subjects of IsLived, each with the crates that define it
+# the subjects of IsCrashHistory, each with the crates that define it
 SUBJECTS = {
-    "a library: its text, its canonical text, its checks, its members, its description": "tokens idl canonical checks typelib keeps description",
+    "a library: its text, its canonical text, its checks, its members, its description": "tokens idl printer sema typelib compat description",
     "decisions on requests, and their effect on the table": "bind coerce decision turn table fits",
-    "encodings of values, events and tables, the disk, the store": "layout image disk journal store keeper",
-    "sessions over streams, commit groups, locks and their owners, recovery, crashes": "stream frame share groups owners server history",
+    "encodings of values, events and tables, the disk, the store": "formats image disk journal store keeper",
+    "sessions over streams, commit groups, locks and their owners, recovery, crashes": "stream frame mux group_commit owners server history",
     "values, and their bytes in a request or reply": "array bstr variant ndr wire_text wire_array wire_variant",
     "codes, limits, types and their numbers": "model",
     "requests and replies": "record",
@@ -93,7 +93,7 @@ SUBJECTS = {
 
 COLUMNS = "| Promise | Definition | Definitions below | Lines | Files | Crates |"
 TABLE = re.compile(rf"^{re.escape(COLUMNS)}\n(?:\|.*\n)*", re.MULTILINE)
-SUBJECT_COLUMNS = "| Subject of `IsLived` | Definitions | Lines |"
+SUBJECT_COLUMNS = "| Subject of `IsCrashHistory` | Definitions | Lines |"
 SUBJECT_TABLE = re.compile(rf"^{re.escape(SUBJECT_COLUMNS)}\n(?:\|.*\n)*", re.MULTILINE)
 
 NAME = r"[A-Za-z_][\w'\-]*"
@@ -318,7 +318,7 @@ def subject_table(book):
     }
     rows = [f"| {it} | {len(some):,} | {book.lines(some):,} |" for it, some in parts.items()]
     if sum(map(len, parts.values())) != len(keys):
-        sys.exit("a crate below IsLived has no subject")
+        sys.exit("a crate below IsCrashHistory has no subject")
     return "\n".join([SUBJECT_COLUMNS, "|---|---|---|", *rows]) + "\n"
 
 

@@ -49,14 +49,14 @@ pub struct SafeArray<T: Cell> {
 
 impl<T: Cell> Model for SafeArray<T> {
     ghost use Rattle.oa_array.specs.Arrays.{ArrayValue, IsArray};
-    ghost use Rattle.oa_array.specs.Heads.{listed};
+    ghost use Rattle.oa_array.specs.Heads.{bounds_in};
 
     ghost Value = { ArrayValue T };
 
-    ghost view = { λ a. record { elem = a.head.value.elem; bounds = listed a.head.value.bounds; cells = a.cells; locks = a.head.value.locks } };
+    ghost view = { λ a. record { elem = a.head.value.elem; bounds = bounds_in a.head.value.bounds; cells = a.cells; locks = a.head.value.locks } };
 
     ghost invariant = { λ a. IsArray T.Fits
-        (record { elem = a.head.value.elem; bounds = listed a.head.value.bounds; cells = a.cells; locks = a.head.value.locks }) };
+        (record { elem = a.head.value.elem; bounds = bounds_in a.head.value.bounds; cells = a.cells; locks = a.head.value.locks }) };
 }
 
 impl<T: Cell> SafeArray<T> {

@@ -1,6 +1,6 @@
 //! The parts of an array other than its elements.
 ghost use Rattle.std.specs.Prelude.{◌≡◌, ◌<◌, length, slice_set, IfOk};
-ghost use Rattle.oa_array.specs.Heads.{listed};
+ghost use Rattle.oa_array.specs.Heads.{bounds_in};
 
 use oa_model::{Bound, VarType};
 use std::alloc::{AllocError, Global};
@@ -18,7 +18,7 @@ impl BoundList {
     /// Makes a list of these bounds. Err: an allocation fails, which happens only if there is not
     /// exactly one bound.
     pub(crate) fn of_slice(alloc: Global, bounds: &[Bound]) -> Result<BoundList, AllocError>
-        ensures { IfOk result (λ list. listed list ≡ bounds.now) }
+        ensures { IfOk result (λ list. bounds_in list ≡ bounds.now) }
     {
         if let [bound] = bounds {
             return Ok(BoundList::One(*bound));
@@ -30,7 +30,7 @@ impl BoundList {
 
     /// Returns the bounds in their order.
     pub(crate) fn as_slice(&self) -> &[Bound]
-        ensures { result.now ≡ listed self.now }
+        ensures { result.now ≡ bounds_in self.now }
     {
         match self {
             BoundList::One(bound) => std::slice::from_ref(bound),
@@ -40,8 +40,8 @@ impl BoundList {
 
     /// Replaces the first bound.
     pub(crate) fn set_first(&mut self, bound: Bound)
-        requires { 0 < length (listed self.old) }
-        ensures { listed self.new ≡ slice_set (listed self.old) 0 bound }
+        requires { 0 < length (bounds_in self.old) }
+        ensures { bounds_in self.new ≡ slice_set (bounds_in self.old) 0 bound }
     {
         match self {
             BoundList::One(only) => *only = bound,

@@ -16,13 +16,13 @@ use Rattle.oa_typelib.specs.declared.access.Kind.{Kind}
 use Rattle.oa_bind.specs.declared.fault.BindFault.{BindFault}
 use Rattle.oa_bind.specs.Given.{Given, IsGiven, by_position, dispid_of_argument, argument_index, is_parameter}
 use Rattle.oa_bind.specs.Names.{is_consistent, most, names_none, names_well, repeats, well_named}
-use Rattle.oa_bind.specs.Refusals.{◌>>=◌, unless, unless_at}
+use Rattle.oa_bind.specs.Refusals.{◌>>=◌, bind_fault_if, unless_at}
 
 -- The rest after a check that has not refused.
 no_answer : {A : Type 0} (e : BindFault) (x : A) → Err e ≡ Ok x → ⊥
 no_answer e x h = absurd cc
 
-passed : {A : Type 0} (code : HResult) (bad : Bool) (next : Unit {0} → Result A BindFault) (x : A) → unless code bad >>= next ≡ Ok x → (bad ≡ false) × (next tt ≡ Ok x)
+passed : {A : Type 0} (code : HResult) (bad : Bool) (next : Unit {0} → Result A BindFault) (x : A) → bind_fault_if code bad >>= next ≡ Ok x → (bad ≡ false) × (next tt ≡ Ok x)
 passed code true next x h = absurd (no_answer _ x h)
 passed code false next x h = (refl, h)
 

@@ -10,7 +10,7 @@ use Rattle.oa_typelib.specs.declared.access.Kind.{Kind}
 use Rattle.oa_typelib.specs.declared.access.Kind.TheVariants.{Get, Put}
 use Rattle.oa_bind.specs.declared.fault.BindFault.{BindFault}
 use Rattle.oa_bind.specs.Bindings.{bound_call, given_new_value, new_value_of, parameter_value, value_of_parameter}
-use Rattle.oa_bind.specs.Given.{Given, Stay, at, given_call, argument_index, new_value_id}
+use Rattle.oa_bind.specs.Given.{Given, Stay, given_argument, given_call, argument_index, new_value_id}
 use Rattle.oa_bind.specs.Names.{complete, well_named}
 use Rattle.oa_bind.specs.Refusals.{each_at, lacks_memory}
 use Rattle.oa_bind.proofs.Each.{with_front, each_breaks, each_goes_on}
@@ -37,7 +37,7 @@ pub key_breaks : (named : List ℤ) (old mid : List Variant) (parameters : List 
     → (fault ≡ lacks_memory) ⊎ (each_at (parameter_value (given_call named old)) 0 parameters ≡ Err fault)
 key_breaks named old mid parameters front place p fault few len stay within here so_far (inl memory) = inl memory
 key_breaks named old mid parameters front place p fault few len stay within here so_far (inr is) =
-    let next : drop place parameters ≡ p ∷ drop (place + 1) parameters = rw here at (drop_more parameters place p within) in
+    let next : drop place parameters ≡ p ∷ drop (place + 1) parameters = rw here given_argument (drop_more parameters place p within) in
     inr (each_breaks (parameter_value (given_call named old)) front parameters place p fault _ next (sym (value_stays named old mid place p few len stay) ∙ is) so_far)
 
 pub key_goes_on : (named : List ℤ) (old mid : List Variant) (parameters : List Parameter) (front : List Scalar) (place : ℕ) (p : Parameter) (v : Scalar)
@@ -46,7 +46,7 @@ pub key_goes_on : (named : List ℤ) (old mid : List Variant) (parameters : List
     → parameter_value (given_call named mid) place p ≡ Ok v
     → with_front (front ++ v ∷ []) (each_at (parameter_value (given_call named old)) (place + 1) (drop (place + 1) parameters)) ≡ each_at (parameter_value (given_call named old)) 0 parameters
 key_goes_on named old mid parameters front place p v few len stay within here so_far is =
-    let next : drop place parameters ≡ p ∷ drop (place + 1) parameters = rw here at (drop_more parameters place p within) in
+    let next : drop place parameters ≡ p ∷ drop (place + 1) parameters = rw here given_argument (drop_more parameters place p within) in
     each_goes_on (parameter_value (given_call named old)) front parameters place p v _ next (sym (value_stays named old mid place p few len stay) ∙ is) so_far
 
 -- The new value has not moved.
@@ -59,7 +59,7 @@ new_value_stays named old new n declared Put few len stay =
     no_place : (q : ℕ) → pos q ≡ new_value_id → ⊥
     no_place q e = absurd cc
 
-    by : (o : Option ℕ) → ((i : ℕ) → o ≡ Some i → slice_get new i ≡ slice_get old i) → new_value_of declared o (at o new) ≡ new_value_of declared o (at o old)
+    by : (o : Option ℕ) → ((i : ℕ) → o ≡ Some i → slice_get new i ≡ slice_get old i) → new_value_of declared o (given_argument o new) ≡ new_value_of declared o (given_argument o old)
     by None same = refl
     by (Some i) same = rw (same i refl) refl
 

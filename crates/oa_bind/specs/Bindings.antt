@@ -16,15 +16,15 @@ use Rattle.oa_variant.specs.declared.variant.Variant.TheVariants.{One, Array}
 use Rattle.oa_coerce.specs.Answers.{coerced_scalar, coerced}
 use Rattle.oa_coerce.specs.Refusals.{IsArrayType, coercion_code}
 use Rattle.oa_coerce.specs.declared.fault.CoerceFault.{CoerceFault}
-use Rattle.oa_checks.specs.Defaults.{default_value}
+use Rattle.oa_sema.specs.Defaults.{default_value}
 use Rattle.oa_typelib.specs.MemberValues.{MemberValue}
 use Rattle.oa_typelib.specs.declared.access.Kind.{Kind}
 use Rattle.oa_typelib.specs.declared.access.Kind.TheVariants.{Get, Put}
 use Rattle.oa_bind.specs.declared.fault.BindFault.{BindFault}
 use Rattle.oa_bind.specs.Calls.{BoundCallValue}
-use Rattle.oa_bind.specs.Given.{Given, argument_for, at, argument_index, new_value_id}
+use Rattle.oa_bind.specs.Given.{Given, argument_for, given_argument, argument_index, new_value_id}
 use Rattle.oa_bind.specs.Names.{complete, well_named}
-use Rattle.oa_bind.specs.Refusals.{◌>>=◌, each_at, refused, refused_at}
+use Rattle.oa_bind.specs.Refusals.{◌>>=◌, each_at, bind_fault, refused_at}
 
 -- The type of a parameter's values. A library has no property with parameters that are arrays.
 abbrev pub scalar_type : ValueType → VarType
@@ -60,8 +60,8 @@ parameter_value call place p = value_of_parameter p (argument_for call place)
 
 -- The new value of a put. An ERROR that marks a missing argument is a value here.
 abbrev pub new_value_of : ValueType → Option ℕ → Option Variant → Result (Option Variant) BindFault
-new_value_of declared None argument = refused e_invalidarg
-new_value_of declared (Some i) None = refused e_invalidarg
+new_value_of declared None argument = bind_fault e_invalidarg
+new_value_of declared (Some i) None = bind_fault e_invalidarg
 new_value_of declared (Some i) (Some argument) =
     told_of_argument i (coerced argument declared) >>= λ value. Ok (Some value)
 
@@ -70,7 +70,7 @@ abbrev pub given_new_value : Given → ValueType → Kind → Result (Option Var
 given_new_value call declared Get = Ok None
 given_new_value call declared Put =
     let i = argument_index call.named (length call.arguments) new_value_id in
-    new_value_of declared i (at i call.arguments)
+    new_value_of declared i (given_argument i call.arguments)
 
 -- The bound call: first the names and the number of the arguments are checked, then missing arguments; then the
 -- parameters' values are made by place, and last the new value.

@@ -50,9 +50,9 @@ argument_index named count id =
     else position_from (λ n. int_eq n id) 0 named
 
 -- The argument at an index, if there is one.
-abbrev pub at : Option ℕ → List Variant → Option Variant
-at None arguments = None
-at (Some i) arguments = slice_get arguments i
+abbrev pub given_argument : Option ℕ → List Variant → Option Variant
+given_argument None arguments = None
+given_argument (Some i) arguments = slice_get arguments i
 
 -- The argument is marked as missing: it is the ERROR DISP_E_PARAMNOTFOUND.
 abbrev pub says_missing : Variant → Bool

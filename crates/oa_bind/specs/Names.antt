@@ -6,12 +6,12 @@ use Rattle.std.specs.List.{list_any, position_from}
 use Rattle.std.specs.Ordering.{int_eq}
 use Rattle.oa_model.specs.Codes.{e_invalidarg, disp_e_badparamcount, disp_e_paramnotfound, disp_e_paramnotoptional}
 use Rattle.oa_idl.specs.declared.parts.Parameter.{Parameter}
-use Rattle.oa_checks.specs.Agreement.{is_optional}
+use Rattle.oa_sema.specs.Agreement.{is_optional}
 use Rattle.oa_typelib.specs.declared.access.Kind.{Kind}
 use Rattle.oa_typelib.specs.declared.access.Kind.TheVariants.{Get, Put}
 use Rattle.oa_bind.specs.declared.fault.BindFault.{BindFault}
 use Rattle.oa_bind.specs.Given.{Given, by_position, argument_for, is_parameter, new_value_id}
-use Rattle.oa_bind.specs.Refusals.{◌>>=◌, any_at, unless, unless_at}
+use Rattle.oa_bind.specs.Refusals.{◌>>=◌, any_at, bind_fault_if, unless_at}
 
 -- 1. There are more names than arguments, a DISPID is named twice, a put names no new value, or a get names one.
 
@@ -43,8 +43,8 @@ names_none positions parameters id =
 
 unfoldable pub well_named : List Parameter → Kind → List ℤ → ℕ → Result (Unit {0}) BindFault
 well_named parameters kind named count = do
-  consistent ← unless e_invalidarg (not (is_consistent kind named count))
-  few ← unless disp_e_badparamcount (nat_lt (most kind parameters) count)
+  consistent ← bind_fault_if e_invalidarg (not (is_consistent kind named count))
+  few ← bind_fault_if disp_e_badparamcount (nat_lt (most kind parameters) count)
   unless_at disp_e_paramnotfound (position_from (names_none (by_position named count) (length parameters)) 0 named)
 
 -- 4. A required parameter has no argument, or one that is marked as missing.
@@ -53,4 +53,4 @@ abbrev pub lacks : Given → ℕ → Parameter → Bool
 lacks call place p = not (is_optional p) && is_none (argument_for call place)
 
 unfoldable pub complete : List Parameter → Given → Result (Unit {0}) BindFault
-complete parameters call = unless disp_e_paramnotoptional (any_at (lacks call) 0 parameters)
+complete parameters call = bind_fault_if disp_e_paramnotoptional (any_at (lacks call) 0 parameters)

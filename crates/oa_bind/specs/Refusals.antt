@@ -11,16 +11,16 @@ Ok x >>= f = f x
 Err e >>= f = Err e
 
 -- An error about no argument.
-abbrev pub refused : {A : Type 0} → HResult → Result A BindFault
-refused code = Err (record { code = code; index = None })
+abbrev pub bind_fault : {A : Type 0} → HResult → Result A BindFault
+bind_fault code = Err (record { code = code; index = None })
 
 -- An error about the argument at an index of rgvarg.
 abbrev pub refused_at : {A : Type 0} → HResult → ℕ → Result A BindFault
 refused_at code i = Err (record { code = code; index = Some i })
 
 -- The error with this code, if the flag is true.
-abbrev pub unless : HResult → Bool → Result (Unit {0}) BindFault
-unless code bad = if bad then refused code else Ok tt
+abbrev pub bind_fault_if : HResult → Bool → Result (Unit {0}) BindFault
+bind_fault_if code bad = if bad then bind_fault code else Ok tt
 
 -- The error with this code about the argument at an index, if there is one.
 abbrev pub unless_at : HResult → Option ℕ → Result (Unit {0}) BindFault

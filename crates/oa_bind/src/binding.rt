@@ -2,7 +2,7 @@
 ghost use Rattle.std.specs.Prelude.{◌≡◌, ◌≤◌, length, map, IfErr};
 ghost use Rattle.oa_model.specs.Limits.{max_arguments, max_parameters};
 ghost use Rattle.oa_typelib.specs.Bindable.{IsBindable};
-ghost use Rattle.oa_checks.specs.Defaults.{default_value};
+ghost use Rattle.oa_sema.specs.Defaults.{default_value};
 ghost use Rattle.oa_variant.specs.Variants.{HasZero};
 ghost use Rattle.oa_bind.specs.Bindings.{BindingTakesMemory, bound_call, bound_to};
 ghost use Rattle.oa_bind.specs.Given.{given_call};

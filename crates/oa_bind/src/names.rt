@@ -8,9 +8,9 @@ ghost use Rattle.oa_bind.specs.Refusals.{any_at, lacks_memory};
 
 use crate::BindFault;
 use crate::given::{index_of, is_parameter, says_missing};
-use oa_checks::is_optional;
 use oa_idl::Parameter;
 use oa_model::{HResult, PROPERTY_PUT_DISPID};
+use oa_sema::is_optional;
 use oa_typelib::Kind;
 use oa_variant::Variant;
 

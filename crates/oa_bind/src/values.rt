@@ -3,7 +3,7 @@ ghost use Rattle.std.specs.Prelude.{◌≡◌, ◌≢◌, ◌≤◌, ◌<◌, �
 ghost use Rattle.oa_model.specs.Limits.{max_arguments, max_parameters};
 ghost use Rattle.oa_coerce.specs.Answers.{coerced, is_memory};
 ghost use Rattle.oa_coerce.specs.Refusals.{IsArrayType, coercion_code};
-ghost use Rattle.oa_checks.specs.Defaults.{default_value};
+ghost use Rattle.oa_sema.specs.Defaults.{default_value};
 ghost use Rattle.oa_variant.specs.Variants.{HasZero};
 ghost use Rattle.oa_bind.specs.Bindings.{PutsArray, missing_value, given_new_value, parameter_value};
 ghost use Rattle.oa_bind.specs.Bindings.{scalar_type, told_of_argument, value_by_argument, without_default};

@@ -4,7 +4,7 @@
 //! `resized` changes its length. No block is accessed outside its bounds or freed twice.
 //!
 //! Used by oa_bstr and oa_array, which store their bytes and elements in it, and by oa_wire_array
-//! and oa_layout, which fill it while they decode.
+//! and oa_formats, which fill it while they decode.
 #![tactic(auto)]
 
 mod cells;

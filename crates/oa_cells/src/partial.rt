@@ -1,6 +1,6 @@
 //! A block that is being filled or emptied.
 ghost use Rattle.std.specs.Prelude.{◌≡◌, ◌+◌, ◌-◌, ◌<◌, ◌≤◌, [], ◌∷◌, ◌++◌, Some, map, length, take, IfOk};
-ghost use Rattle.oa_cells.specs.Windows.{FilledWindow, values, laid, IsWindow};
+ghost use Rattle.oa_cells.specs.Windows.{FilledWindow, values, window_row, IsWindow};
 
 use crate::row::Row;
 use std::alloc::{AllocError, Global};
@@ -25,7 +25,7 @@ impl<T> Model for Partial<T> {
     ghost invariant = { λ p. record {
       count : p.from + length (values p.row) ≡ p.to;
       fits : p.to ≤ p.len;
-      shape : p.row ≡ laid p.from (values p.row) (p.len - p.to);
+      shape : p.row ≡ window_row p.from (values p.row) (p.len - p.to);
     } };
 }
 

@@ -19,7 +19,7 @@ use Rattle.oa_variant.specs.declared.variant.Variant.TheVariants.{One, Array}
 use Rattle.oa_coerce.specs.Numbers.{counts_units, decimal_places, number_in, IsNearest}
 use Rattle.oa_coerce.specs.Coercions.{rule_for, Makes, MakesValue, CoercesScalar, Coerces}
 use Rattle.oa_coerce.specs.Refusals.{RefusesScalar, RefusesCoercion}
-use Rattle.oa_coerce.specs.Answers.{nearest_count, of_count, answer_by, coerced_scalar, one, value_by, coerced, is_memory, IsScalarAnswer}
+use Rattle.oa_coerce.specs.Answers.{nearest_count, of_count, answer_by, coerced_scalar, one_result, value_by, coerced, is_memory, IsScalarAnswer}
 use Rattle.oa_coerce.specs.Answers.{IsCoercion}
 use Rattle.oa_coerce.specs.declared.fault.CoerceFault.{CoerceFault}
 use Rattle.oa_coerce.specs.declared.fault.CoerceFault.TheVariants.{Overflow, TypeMismatch, Memory}
@@ -151,7 +151,7 @@ scalar_refused s to Memory h = absurd h
 
 -- values
 
-by_one : (r : Rule) (s : Scalar) (to : VarType) → value_by r (One s) (kinds.One to) ≡ one (answer_by r s to)
+by_one : (r : Rule) (s : Scalar) (to : VarType) → value_by r (One s) (kinds.One to) ≡ one_result (answer_by r s to)
 by_one Unchanged s to = refl
 by_one Zero s to = refl
 by_one Nearest s to = refl
@@ -159,11 +159,11 @@ by_one Exact s to = refl
 by_one ToTruth s to = refl
 by_one NoRule s to = refl
 
-of_one : (s : Scalar) (to : VarType) → coerced (One s) (kinds.One to) ≡ one (coerced_scalar s to)
+of_one : (s : Scalar) (to : VarType) → coerced (One s) (kinds.One to) ≡ one_result (coerced_scalar s to)
 unfolding coerced coerced_scalar
 of_one s to = by_one (rule_for (type_of s) to) s to
 
-made_one : (r : Result Scalar CoerceFault) (made : Variant) → one r ≡ Ok made → (m : Scalar) × (r ≡ Ok m) × (made ≡ One m)
+made_one : (r : Result Scalar CoerceFault) (made : Variant) → one_result r ≡ Ok made → (m : Scalar) × (r ≡ Ok m) × (made ≡ One m)
 made_one (Ok m) made h = (m, refl, sym (ap (λ r. value_in r (One m)) h))
 made_one (Err f) made h = absurd (false≢true (ap is_value h))
 
@@ -171,7 +171,7 @@ pub value_answer : (v made : Variant) (to : ValueType) → Coerces v to made →
 unfolding coerced
 value_answer (One s) made (kinds.One to) = λ h.
     let x = lowered (rule_for (type_of s) to) s to made h in
-    of_one s to ∙ (ap one (scalar_answer s x.0 to x.2) ∙ ap Ok (sym x.1))
+    of_one s to ∙ (ap one_result (scalar_answer s x.0 to x.2) ∙ ap Ok (sym x.1))
 value_answer (One s) made (kinds.Array to) =
     cond_both (same_type (type_of s) types.Empty) Zero NoRule (λ r. MakesValue r (One s) (kinds.Array to) made → value_by r (One s) (kinds.Array to) ≡ Ok made)
     (λ _ h. ap Ok (sym h)) (λ _ none. absurd none)
@@ -209,7 +209,7 @@ not_nearest false r q e f h = false≢true (sym f ∙ ap is_nearest h)
 pub value_refused : (v : Variant) (to : ValueType) (f : CoerceFault) → RefusesCoercion v to f → is_memory f ≡ false → coerced v to ≡ Err f
 unfolding coerced
 value_refused (One s) (kinds.One to) Overflow h m =
-    of_one s to ∙ ap one (scalar_refused s to Overflow (h.0, λ x k. h.1 (One x) (lifted (rule_for (type_of s) to) s to x k)))
+    of_one s to ∙ ap one_result (scalar_refused s to Overflow (h.0, λ x k. h.1 (One x) (lifted (rule_for (type_of s) to) s to x k)))
 value_refused (One s) (kinds.Array to) Overflow h m = absurd (not_nearest (same_type (type_of s) types.Empty) Zero NoRule refl refl h.0)
 value_refused (Array x) (kinds.One to) Overflow h m = absurd (not_nearest (same_type to types.Variant) Unchanged NoRule refl refl h.0)
 value_refused (Array x) (kinds.Array to) Overflow h m = absurd (not_nearest (same_type x.elem to) Unchanged NoRule refl refl h.0)

@@ -68,15 +68,15 @@ unfoldable pub coerced_scalar : Scalar → VarType → Result Scalar CoerceFault
 coerced_scalar s to = answer_by (rule_for (type_of s) to) s to
 
 -- The result for a scalar, as one for a value.
-abbrev pub one : Result Scalar CoerceFault → Result Variant CoerceFault
-one (Ok s) = Ok (One s)
-one (Err f) = Err f
+abbrev pub one_result : Result Scalar CoerceFault → Result Variant CoerceFault
+one_result (Ok s) = Ok (One s)
+one_result (Err f) = Err f
 
 -- The result of a rule for a value.
 abbrev pub value_by : Rule → Variant → ValueType → Result Variant CoerceFault
 value_by Unchanged v to = Ok v
 value_by Zero v to = Ok (zero_value to)
-value_by r (One s) (kinds.One to) = one (answer_by r s to)
+value_by r (One s) (kinds.One to) = one_result (answer_by r s to)
 value_by r v to = Err TypeMismatch
 
 -- The result of the coercion of a value to a declared type. It does not consider whether memory suffices for the array

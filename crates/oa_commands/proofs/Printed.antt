@@ -1,8 +1,8 @@
 -- A library's canonical text, written whole or as far as the writer took it.
 use Rattle.std.proofs.Common.{◌≡◌, ◌⊎◌, inr, ℕ, List, [], Result, Ok, Err, OnOk, IfErr, subst}
 use Rattle.std.proofs.lemmas.List.{append-nil}
-use Rattle.oa_canonical.specs.Canonical.{canonical}
-use Rattle.oa_checks.specs.IsLibrary.{IsLibrary}
+use Rattle.oa_printer.specs.Canonical.{canonical}
+use Rattle.oa_sema.specs.IsLibrary.{IsLibrary}
 use Rattle.oa_commands.specs.Texts.{IsPrinted}
 use Rattle.oa_commands.specs.declared.fault.Fault.{Fault}
 use Rattle.oa_commands.specs.declared.fault.Fault.TheVariants as faults

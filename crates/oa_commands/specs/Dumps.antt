@@ -4,8 +4,8 @@ use Rattle.std.specs.Fmt.{decimal, signed_decimal}
 use Rattle.std.specs.List.{flat_map}
 use Rattle.hex.specs.Hex.{encode_lower}
 use Rattle.uuid.specs.Text.{hyphenated_text, lower}
-use Rattle.oa_layout.specs.Values.{scalar as a_scalar}
-use Rattle.oa_layout.specs.Variants.{value as a_value}
+use Rattle.oa_formats.specs.Values.{scalar_format as a_scalar}
+use Rattle.oa_formats.specs.Variants.{value as a_value}
 use Rattle.oa_variant.specs.declared.scalar.Scalar.{Scalar}
 use Rattle.oa_variant.specs.declared.variant.Variant.{Variant}
 use Rattle.oa_table.specs.Places.{PlaceValue}

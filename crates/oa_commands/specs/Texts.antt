@@ -1,7 +1,7 @@
 -- The printed text of a library. (This project's choice.)
 use Rattle.std.specs.Prelude.{ℕ, List}
-use Rattle.oa_canonical.specs.Canonical.{canonical}
-use Rattle.oa_checks.specs.IsLibrary.{IsLibrary}
+use Rattle.oa_printer.specs.Canonical.{canonical}
+use Rattle.oa_sema.specs.IsLibrary.{IsLibrary}
 use Rattle.oa_idl.specs.Trees.{TreeValue}
 
 -- the canonical text of a library of some text was put in the given way

@@ -4,7 +4,7 @@ ghost use Rattle.oa_commands.specs.Statuses.{of_end, of_session_end};
 
 use crate::fault::Fault;
 use oa_frame::End;
-use oa_share::SessionEnd;
+use oa_mux::SessionEnd;
 
 /// Converts the end of a session of one client into the program's result. The end of the input is
 /// no fault.

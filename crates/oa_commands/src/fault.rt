@@ -4,10 +4,10 @@ ghost use Rattle.std.specs.Prelude.{◌≡◌, ◌≤◌};
 ghost use Rattle.oa_commands.specs.Statuses.{of_device, of_format, of_open, of_upgrade, status_of};
 ghost use Rattle.oa_commands.specs.declared.fault.Fault.TheVariants as faults;
 
-use crate::place::Place;
-use oa_checks::CheckError;
+use crate::place::TextPlace;
 use oa_disk::DeviceFault;
 use oa_idl::ParseError;
+use oa_sema::CheckError;
 use oa_store::{FormatFault, OpenFault, UpgradeFault};
 use oa_stream::Unwritten;
 use std::alloc::{AllocError, AllocFailed};
@@ -40,7 +40,7 @@ pub enum Fault {
     Parse(ParseError),
     /// The text of a library violates the grammar, at this place of the text.
     #[error("{0}\n{1}")]
-    At(ParseError, Place),
+    At(ParseError, TextPlace),
     /// A library violates a rule.
     #[error("{0}")]
     Check(CheckError),

@@ -2,7 +2,7 @@
 //! compiler.
 
 /// Words that other IDL compilers know and this grammar does not. docs/reference/idl.md has a row
-/// for each with what to write instead, in the section that `Place` names.
+/// for each with what to write instead, in the section that `TextPlace` names.
 const LEFT_OUT: &str =
     "double float single DATE boolean byte small wchar_t signed int64 uint64 HRESULT IDispatch IUnknown LPSTR LPWSTR GUID \
     FILETIME const enum struct union typedef module interface import include cpp_quote midl_pragma out retval ref unique ptr string size_is \

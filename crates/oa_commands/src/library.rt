@@ -1,7 +1,7 @@
 //! Texts of libraries, and their libraries.
 ghost use Rattle.std.specs.Prelude.{◌≡◌, ◌≤◌, length, string_bytes, IfSome};
 ghost use Rattle.std.specs.Prelude.{ℕ, List, IfErr, IfOk};
-ghost use Rattle.oa_checks.specs.IsLibrary.{IsLibrary};
+ghost use Rattle.oa_sema.specs.IsLibrary.{IsLibrary};
 ghost use Rattle.std.specs.IoError.{error_kind};
 ghost use Rattle.std.specs.declared.io.ErrorKind.TheVariants as kinds;
 ghost use Rattle.oa_commands.specs.declared.fault.Fault.TheVariants as faults;
@@ -49,7 +49,7 @@ pub(crate) fn read_text(rt: &HostRuntime, alloc: Global, path: &str) -> Result<S
 /// however many; `Parse` for a text of more than 262,144 bytes or one that violates another limit
 /// or the grammar; `Check` with the first violated rule; `Memory`, also as that of `Parse` and of
 /// `Check`.
-pub fn read_library(rt: &HostRuntime, alloc: Global, path: &str) -> Result<Library, Fault>
+pub fn read_library_file(rt: &HostRuntime, alloc: Global, path: &str) -> Result<Library, Fault>
     ensures read { IfOk result (λ library. (text : List ℕ) × IsLibrary text library) }
     ensures refused { IfErr result IsOfLibrary }
 {

@@ -10,7 +10,7 @@ use std::fmt;
 
 /// A place in a text, with its line. A line ends at CR, LF or both.
 #[derive(Debug, Drop)]
-pub struct Place {
+pub struct TextPlace {
     /// The file, the line and the column, counted from 1, in characters.
     head: String,
     /// The text of the line, with `?` for characters that cannot be shown.
@@ -21,7 +21,7 @@ pub struct Place {
     left_out: Option<&'static str>,
 }
 
-impl Place {
+impl TextPlace {
     /// Returns the place of the byte `at` in a text, counted from 0. The end of the text is a
     /// place, too. Err: an allocation failed.
     pub(crate) fn of(
@@ -29,7 +29,7 @@ impl Place {
         file: &str,
         text: &str,
         at: usize,
-    ) -> Result<Place, AllocError> {
+    ) -> Result<TextPlace, AllocError> {
         let mut line = Line::new(alloc);
         for (index, c) in text.char_indices() {
             if is_end(c) && at <= index {
@@ -109,14 +109,14 @@ impl Line {
         alloc: Global,
         file: &str,
         left_out: Option<&'static str>,
-    ) -> Result<Place, AllocError>
+    ) -> Result<TextPlace, AllocError>
         ensures head { IfOk result (λ place. string_bytes place.head ≡ place_head file.now self.number self.column) }
         ensures line { IfOk result (λ place. place.line ≡ self.shown) }
     {
         let file = shown_name(alloc, file)?;
         let head = format!(in alloc; "{file}:{}:{}: ", self.number, self.column)?;
         let blank = blanks(alloc, &head, &self.blank)?;
-        Ok(Place {
+        Ok(TextPlace {
             head,
             line: self.shown,
             blank,
@@ -150,7 +150,7 @@ fn shown(c: char) -> char
     if c != '\t' && c.is_control() { '?' } else { c }
 }
 
-impl fmt::Display for Place {
+impl fmt::Display for TextPlace {
     fn fmt<W: fmt::Write>(&self, f: &mut fmt::Formatter<W>) -> fmt::Result {
         write!(f, "{}{}\n{}^", self.head, self.line, self.blank)?;
         match self.left_out {

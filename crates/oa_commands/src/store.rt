@@ -10,13 +10,13 @@ ghost use Rattle.oa_disk.specs.After.{BeginsHonest};
 ghost use Rattle.oa_journal.specs.Shapes.{least_bank_bytes, most_bank_bytes};
 
 use crate::fault::Fault;
-use crate::library::{read_library, unread};
+use crate::library::{read_library_file, unread};
 use crate::limit::allow_length;
 use crate::reason::reason;
 use crate::shown::shown_name;
 use crate::streams::StandardStreams;
 use oa_disk::{Disk, FileDisk};
-use oa_journal::{LEAST_BANK_BYTES, MOST_BANK_BYTES, Shape};
+use oa_journal::{BankFormat, LEAST_BANK_BYTES, MOST_BANK_BYTES};
 use std::alloc::Global;
 use std::fs::{self, File, OpenOptions};
 use std::io;
@@ -31,7 +31,7 @@ const IS_A_DIRECTORY: i32 = 21;
 ///
 /// Errors:
 ///
-/// - those of `read_library`, before the file is opened;
+/// - those of `read_library_file`, before the file is opened;
 /// - `CannotRead` and `InUse` for an existing file, as of `open_store_file`;
 /// - `CannotWrite` if it cannot be created, or this process may not write files of the length of
 ///   such banks;
@@ -71,8 +71,8 @@ fn made_store(
     ensures refused { IfErr result IsOfFormat }
 {
     let alloc = rt.alloc();
-    let library = read_library(rt, alloc, library)?;
-    let size = Shape::Two(bank).disk_bytes();
+    let library = read_library_file(rt, alloc, library)?;
+    let size = BankFormat::Two(bank).disk_bytes();
     let mut disk = found_or_made(rt, streams, alloc, path, size)?;
     oa_store::format(alloc, &mut disk, library.text(), bank)?;
     Ok(disk)

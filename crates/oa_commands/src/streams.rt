@@ -4,7 +4,7 @@ ghost use Rattle.oa_commands.specs.declared.fault.Fault.TheVariants as faults;
 
 use crate::fault::Fault;
 use oa_disk::FileDisk;
-use oa_stream::{Outlet, Sink};
+use oa_stream::{Sink, StdSink};
 use std::fs::File;
 use std::io;
 
@@ -12,7 +12,7 @@ use std::io;
 fn write(rt: &HostRuntime, bytes: &[u8]) -> Result<(), Fault>
     ensures { IfErr result (λ fault. fault ≡ faults.Write) }
 {
-    let mut writer = Outlet::new(io::writer(rt));
+    let mut writer = StdSink::new(io::writer(rt));
     writer.put(bytes)?;
     writer.deliver()?;
     Ok(())

@@ -1,6 +1,6 @@
 //! The canonical text of a library.
 ghost use Rattle.std.specs.Prelude.{◌≡◌, ◌⊎◌, ℕ, List, false, IfErr, IfOk, OnOk};
-ghost use Rattle.oa_checks.specs.IsLibrary.{IsLibrary};
+ghost use Rattle.oa_sema.specs.IsLibrary.{IsLibrary};
 ghost use Rattle.oa_commands.specs.Statuses.{IsOfCheck, IsOfPlace, IsOfPlacedLibrary, IsOfTree};
 ghost use Rattle.oa_commands.specs.Texts.{IsPrinted};
 ghost use Rattle.oa_commands.specs.declared.fault.Fault.TheVariants as faults;
@@ -8,7 +8,7 @@ ghost use Rattle.oa_stream.specs.Sink.{Breaks, IsHandedOn, Writes};
 
 use crate::fault::Fault;
 use crate::library::{library_of, read_text};
-use crate::place::Place;
+use crate::place::TextPlace;
 use oa_idl::ParseError;
 use oa_stream::Sink;
 use oa_typelib::Library;
@@ -17,9 +17,9 @@ use std::alloc::Global;
 /// Writes the canonical text of the library of the file `path`, or of standard input, and flushes.
 /// Nothing is written for a library with an error.
 ///
-/// Errors: those of `read_library`, but `At` instead of `Parse(Syntax)` if `shows_place` is set and
+/// Errors: those of `read_library_file`, but `At` instead of `Parse(Syntax)` if `shows_place` is set and
 /// there is memory for the place; `Write` if the writer fails.
-pub fn write_text<W: Sink>(
+pub fn write_library_text<W: Sink>(
     rt: &HostRuntime,
     path: &str,
     shows_place: bool,
@@ -37,7 +37,7 @@ pub fn write_text<W: Sink>(
     put_text(library.text(), writer)
 }
 
-/// Returns the library of the file `path`. Errors are those of `write_text` except `Write`.
+/// Returns the library of the file `path`. Errors are those of `write_library_text` except `Write`.
 fn library_at(
     rt: &HostRuntime,
     alloc: Global,
@@ -73,7 +73,7 @@ fn placed(alloc: Global, path: &str, text: &str, fault: Fault) -> Fault
     ensures { IsOfTree result ⊎ IsOfPlace result }
 {
     match fault {
-        Fault::Parse(error @ ParseError::Syntax(at)) => match Place::of(alloc, path, text, at) {
+        Fault::Parse(error @ ParseError::Syntax(at)) => match TextPlace::of(alloc, path, text, at) {
             Ok(place) => Fault::At(error, place),
             Err(_) => Fault::Parse(error),
         },

@@ -9,7 +9,7 @@ use crate::fault::Fault;
 use crate::store::{allow_writes, open_store_file, unwritten};
 use crate::streams::StandardStreams;
 use oa_disk::{Disk, FileDisk};
-use oa_journal::{LEAST_BANK_BYTES, MOST_BANK_BYTES, Shape};
+use oa_journal::{BankFormat, LEAST_BANK_BYTES, MOST_BANK_BYTES};
 use oa_store::OldStore;
 use std::alloc::Global;
 
@@ -58,9 +58,9 @@ fn upgraded(
 {
     let alloc = rt.alloc();
     let mut disk = open_store_file(rt, streams, alloc, path)?;
-    let found = OldStore::find(alloc, &mut disk, bank)?;
-    let mut long = lengthened(rt, alloc, path, disk, Shape::Two(bank).disk_bytes())?;
-    found.bring(&mut long)?;
+    let found = OldStore::find_old_store(alloc, &mut disk, bank)?;
+    let mut long = lengthened(rt, alloc, path, disk, BankFormat::Two(bank).disk_bytes())?;
+    found.migrate(&mut long)?;
     Ok(long)
 }
 

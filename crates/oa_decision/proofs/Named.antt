@@ -3,8 +3,8 @@ use Rattle.std.proofs.Common.{arith, Vec, Global, ◌≡◌, ℕ, ◌≤◌, Lis
 use Rattle.std.proofs.lemmas.List.{length-map}
 use Rattle.oa_idl.specs.Values.{InterfaceValue}
 use Rattle.oa_model.specs.Limits.{max_names}
-use Rattle.oa_checks.specs.DeclarationValues.{DeclarationValue}
-use Rattle.oa_checks.specs.Declarations.{own_parameters}
+use Rattle.oa_sema.specs.DeclarationValues.{DeclarationValue}
+use Rattle.oa_sema.specs.Declarations.{own_parameters}
 use Rattle.oa_typelib.specs.Members.{forms_named, main_form}
 use Rattle.oa_typelib.specs.Names.{ids_in, named_in, names_told, or_unknown, parameter_named}
 

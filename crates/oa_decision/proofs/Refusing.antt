@@ -6,8 +6,8 @@ use Rattle.oa_bind.specs.Refusals.{lacks_memory}
 use Rattle.oa_bind.specs.declared.fault.BindFault.{BindFault}
 use Rattle.oa_model.specs.Codes.{e_outofmemory}
 use Rattle.oa_decision.specs.Cells.{FindsDue, as_refusal, call_found, undecided}
-use Rattle.oa_decision.specs.declared.decision.Undecided.{Undecided}
-use Rattle.oa_decision.specs.declared.decision.Undecided.TheVariants.{OutOfMemory, Refused}
+use Rattle.oa_decision.specs.declared.decision.DecideError.{DecideError}
+use Rattle.oa_decision.specs.declared.decision.DecideError.TheVariants.{OutOfMemory, Refused}
 
 abbrev lacks : BindFault → Bool
 lacks fault = fault.code.0 == e_outofmemory.0 && is_none fault.index

@@ -44,28 +44,28 @@ as_refused (Ok x) = Ok x
 as_refused (Err fault) = refused (table_code fault)
 
 -- the array in a value
-abbrev pub array_of : Variant → Result (ArrayValue Scalar) Refusal
-array_of (One s) = refused (table_code NotArray)
-array_of (Array a) = Ok a
+abbrev pub array_in_value : Variant → Result (ArrayValue Scalar) Refusal
+array_in_value (One s) = refused (table_code NotArray)
+array_in_value (Array a) = Ok a
 
 -- whether the index list lies in its bounds
 abbrev pub if_in_bounds : List ℤ → ArrayValue Scalar → Result (Unit {0}) Refusal
 if_in_bounds index array = unless (array_code arrays.BadIndex) (not (in_bounds array.bounds index))
 
 -- the element there
-abbrev pub element_at : List ℤ → ArrayValue Scalar → Result Scalar Refusal
-element_at index array =
+abbrev pub array_element_at : List ℤ → ArrayValue Scalar → Result Scalar Refusal
+array_element_at index array =
     if_in_bounds index array >>= λ _. known (array_code arrays.BadIndex) (array_element array index)
 
 abbrev pub element_of : List ℤ → Variant → Result Scalar Refusal
-element_of index value = array_of value >>= element_at index
+element_of index value = array_in_value value >>= array_element_at index
 
 -- the type of the element there
 abbrev pub element_type_at : List ℤ → ArrayValue Scalar → Result VarType Refusal
 element_type_at index array = if_in_bounds index array >>= λ _. Ok array.elem
 
 abbrev pub element_type_of : List ℤ → Variant → Result VarType Refusal
-element_type_of index value = array_of value >>= element_type_at index
+element_type_of index value = array_in_value value >>= element_type_at index
 
 -- a value coerced to an element of a type
 abbrev pub told_as_element : Result Scalar CoerceFault → Result Scalar Refusal
@@ -79,7 +79,7 @@ as_element elem (Array a) = refused (coercion_code coercions.TypeMismatch)
 
 -- how many locks the array in a cell has; that of a cell that was never put cannot be locked
 abbrev pub array_locks : ValueType → Option Variant → Result ℕ Refusal
-array_locks declared (Some value) = array_of value >>= λ array. Ok array.locks
+array_locks declared (Some value) = array_in_value value >>= λ array. Ok array.locks
 array_locks (kinds.One t) None = refused (table_code NotArray)
 array_locks (kinds.Array t) None = refused (table_code (ArrayRefuses arrays.Unexpected))
 

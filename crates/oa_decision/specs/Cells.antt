@@ -20,8 +20,8 @@ use Rattle.oa_typelib.specs.declared.access.MemberFault.{MemberFault}
 use Rattle.oa_typelib.specs.MemberCodes.{member_code}
 use Rattle.oa_typelib.specs.MemberValues.{MemberValue}
 use Rattle.oa_typelib.specs.Members.{member_in}
-use Rattle.oa_decision.specs.declared.decision.Undecided.{Undecided}
-use Rattle.oa_decision.specs.declared.decision.Undecided.TheVariants.{Refused, OutOfMemory}
+use Rattle.oa_decision.specs.declared.decision.DecideError.{DecideError}
+use Rattle.oa_decision.specs.declared.decision.DecideError.TheVariants.{Refused, OutOfMemory}
 use Rattle.oa_decision.specs.declared.refusal.Refusal.{Refusal}
 use Rattle.oa_decision.specs.declared.decider.cell.BoundCell.{BoundCell}
 use Rattle.oa_decision.specs.Interfaces.{interface_found}
@@ -57,7 +57,7 @@ call_found (Ok bound) = Ok bound
 call_found (Err fault) = Err (as_refusal fault)
 
 -- binding reports out of memory by a code without an index; then nothing is decided
-abbrev pub undecided : BindFault → Undecided
+abbrev pub undecided : BindFault → DecideError
 undecided fault = if fault.code.0 == e_outofmemory.0 && is_none fault.index then OutOfMemory
     else Refused (as_refusal fault)
 
@@ -88,7 +88,7 @@ pub record FindingTakesMemory (state : State) (call : Call) (access : Access) : 
       (record { named = call.named; arguments = call.arguments })
 
 -- What is defined is found, or out of memory is returned if an allocation may be needed.
-abbrev pub FindsDue : {A : Type 0} → Result A Refusal → Type 0 → Result A Undecided → Type 0
+abbrev pub FindsDue : {A : Type 0} → Result A Refusal → Type 0 → Result A DecideError → Type 0
 FindsDue due takes (Ok found) = due ≡ Ok found
 FindsDue due takes (Err (Refused refusal)) = due ≡ Err refusal
 FindsDue due takes (Err OutOfMemory) = takes

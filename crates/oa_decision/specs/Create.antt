@@ -4,7 +4,7 @@ use Rattle.oa_model.specs.Limits.{greatest_object_number, max_live_objects}
 use Rattle.oa_model.specs.declared.hresult.HResult.{HResult}
 use Rattle.oa_model.specs.Codes.{e_unexpected, regdb_e_classnotreg}
 use Rattle.oa_record.specs.Replies.{number_field}
-use Rattle.oa_checks.specs.Libraries.{class_of}
+use Rattle.oa_sema.specs.Libraries.{class_of}
 use Rattle.oa_table.specs.declared.event.Event.TheVariants.{Create}
 use Rattle.oa_table.specs.Tables.{TableValue}
 use Rattle.oa_decision.specs.declared.decision.Decision.{Decision}

@@ -10,9 +10,9 @@ use Rattle.oa_model.specs.declared.var_type.ValueType.{ValueType}
 use Rattle.oa_variant.specs.declared.scalar.Scalar.{Scalar}
 use Rattle.oa_variant.specs.declared.variant.Variant.TheVariants.{One}
 use Rattle.oa_record.specs.Replies.{word, half_word, signed_word, string_field, variant_field}
-use Rattle.oa_checks.specs.declared.declaration.DeclarationKind.{DeclarationKind}
-use Rattle.oa_checks.specs.declared.declaration.DeclarationKind.TheVariants.{Property, ReadonlyProperty, Method, Get}
-use Rattle.oa_checks.specs.declared.declaration.DeclarationKind.TheVariants.{Put}
+use Rattle.oa_sema.specs.declared.declaration.DeclarationKind.{DeclarationKind}
+use Rattle.oa_sema.specs.declared.declaration.DeclarationKind.TheVariants.{Property, ReadonlyProperty, Method, Get}
+use Rattle.oa_sema.specs.declared.declaration.DeclarationKind.TheVariants.{Put}
 use Rattle.oa_typelib.specs.DescriptionValues.{ParameterDescription, MemberDescription, EntryDescription}
 use Rattle.oa_typelib.specs.DescriptionValues.{ContentDescription, DescriptionValue}
 use Rattle.oa_typelib.specs.DescriptionValues.ContentDescription.{OfInterface, OfCoclass}
@@ -44,8 +44,8 @@ abbrev pub parameter_flags : ParameterDescription → ℕ
 parameter_flags p = flag p.is_in in_flag + flag p.is_optional optional_flag + flag (is_some p.default) has_default_flag
 
 -- type, flags, a reserved number
-unfoldable pub parameter_head : ParameterDescription → List ℕ
-parameter_head p = half_word (vt_of_value p.value_type) ++ (half_word (parameter_flags p) ++ word 0)
+unfoldable pub parameter_head_bytes : ParameterDescription → List ℕ
+parameter_head_bytes p = half_word (vt_of_value p.value_type) ++ (half_word (parameter_flags p) ++ word 0)
 
 -- a default as a variant field
 unfoldable pub default_field : Option Scalar → List ℕ
@@ -53,7 +53,7 @@ default_field None = []
 default_field (Some value) = variant_field (One value)
 
 unfoldable pub parameter_field : ParameterDescription → List ℕ
-parameter_field p = parameter_head p ++ (string_field p.name ++ default_field p.default)
+parameter_field p = parameter_head_bytes p ++ (string_field p.name ++ default_field p.default)
 
 -- DISPID, kind, flags, type, the number of parameters, a reserved number
 unfoldable pub member_head : MemberDescription → List ℕ

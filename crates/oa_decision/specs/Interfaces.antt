@@ -4,7 +4,7 @@ use Rattle.std.specs.Prelude.{ℕ, not, List, Result, Ok}
 use Rattle.uuid.specs.Parts.{is_nil_bytes}
 use Rattle.oa_model.specs.Codes.{disp_e_unknowninterface, e_nointerface, rpc_e_disconnected}
 use Rattle.oa_idl.specs.Values.{InterfaceValue}
-use Rattle.oa_checks.specs.Libraries.{selected_in}
+use Rattle.oa_sema.specs.Libraries.{selected_in}
 use Rattle.oa_table.specs.Tables.{class_in, object_at}
 use Rattle.oa_decision.specs.declared.refusal.Refusal.{Refusal}
 use Rattle.oa_decision.specs.Refusals.{◌>>=◌, known, unless}

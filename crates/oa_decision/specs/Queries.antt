@@ -11,8 +11,8 @@ use Rattle.oa_decision.specs.Listing.{objects_field}
 use Rattle.oa_decision.specs.States.{State}
 
 -- the fields of the answer
-abbrev pub told : State → Query → List ℕ
-told state queries.Objects = objects_field state.table
+abbrev pub query_fields : State → Query → List ℕ
+query_fields state queries.Objects = objects_field state.table
 
 abbrev pub answered : State → Query → Result Decision Refusal
-answered state query = Ok (Answer s_ok (told state query))
+answered state query = Ok (Answer s_ok (query_fields state query))

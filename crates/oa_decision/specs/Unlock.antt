@@ -14,9 +14,10 @@ use Rattle.oa_decision.specs.Refusals.{◌>>=◌}
 use Rattle.oa_decision.specs.States.{State}
 
 -- the reply contains the new count
-abbrev pub taking : State → BoundCell → Result Decision Refusal
-taking state cell = locks_found state cell >>= λ locks. Ok (Relock (Unlock cell.name) (number_field (locks - 1)))
+abbrev pub unlock_decision : State → BoundCell → Result Decision Refusal
+unlock_decision state cell = locks_found state cell >>= λ locks. Ok
+    (Relock (Unlock cell.name) (number_field (locks - 1)))
 
 -- first the property's get form, then the array
 abbrev pub unlocking : State → Call → Result Decision Refusal
-unlocking state call = cell_called state call Get >>= taking state
+unlocking state call = cell_called state call Get >>= unlock_decision state

@@ -2,10 +2,10 @@
 ghost use Rattle.std.specs.Prelude.{◌≡◌, IfOk, IsOk};
 ghost use Rattle.oa_decision.specs.Decisions.{ChangesNoLocks, Decides};
 ghost use Rattle.oa_decision.specs.Decided.{DecidingTakesMemory, decided};
-ghost use Rattle.oa_decision.specs.Queries.{answered, told};
+ghost use Rattle.oa_decision.specs.Queries.{answered, query_fields};
 ghost use Rattle.oa_record.specs.declared.request.Request.TheVariants as requests;
 
-use crate::decision::{Decision, Undecided};
+use crate::decision::{DecideError, Decision};
 use crate::fields::Fields;
 use oa_model::HResult;
 use oa_record::{ByCall, ByNumber, Call, Query, Request};
@@ -68,7 +68,7 @@ impl<'a> Decider<'a> {
     /// if an allocation fails. It allocates for the arguments of a call and for the fields of a
     /// reply. It also allocates the zero array of a cell that a REDIM changes and that was never
     /// put.
-    pub fn decide(&self, request: Request) -> Result<Decision, Undecided>
+    pub fn decide(&self, request: Request) -> Result<Decision, DecideError>
         ensures decided { Decides (decided self.now request) (DecidingTakesMemory self.now request) result }
         ensures unlocked { IfOk result ChangesNoLocks }
     {
@@ -89,7 +89,7 @@ impl<'a> Decider<'a> {
     }
 
     /// Decides a request with a number. Errors are those of `decide`.
-    fn decide_number(&self, kind: ByNumber, number: u32) -> Result<Decision, Undecided>
+    fn decide_number(&self, kind: ByNumber, number: u32) -> Result<Decision, DecideError>
         ensures decided { Decides (decided self.now (requests.ByNumber kind number)) (DecidingTakesMemory self.now (requests.ByNumber kind number)) result }
         ensures unlocked { IfOk result ChangesNoLocks }
     {
@@ -100,7 +100,7 @@ impl<'a> Decider<'a> {
     }
 
     /// Decides a request with a call. Errors are those of `decide`.
-    fn decide_call(&self, kind: ByCall, call: Call) -> Result<Decision, Undecided>
+    fn decide_call(&self, kind: ByCall, call: Call) -> Result<Decision, DecideError>
         ensures decided { Decides (decided self.now (requests.ByCall kind call)) (DecidingTakesMemory self.now (requests.ByCall kind call)) result }
         ensures unlocked { IfOk result ChangesNoLocks }
     {
@@ -112,7 +112,7 @@ impl<'a> Decider<'a> {
     }
 
     /// Decides a request without fields, which is always answered. Err: `OutOfMemory`.
-    fn answered(&self, query: Query) -> Result<Decision, Undecided>
+    fn answered(&self, query: Query) -> Result<Decision, DecideError>
         ensures decided { Decides (answered self.now query) (IsOk (answered self.now query)) result }
         ensures unlocked { IfOk result ChangesNoLocks }
     {
@@ -123,7 +123,7 @@ impl<'a> Decider<'a> {
 
     /// Returns the fields of the reply to a request without fields. Err: an allocation failed.
     fn told(&self, query: Query) -> Result<Fields, AllocError>
-        ensures { IfOk result (λ fields. fields ≡ told self.now query) }
+        ensures { IfOk result (λ fields. fields ≡ query_fields self.now query) }
     {
         match query {
             Query::Objects => self.objects_field(),

@@ -5,15 +5,15 @@ ghost use Rattle.oa_record.specs.Replies.{max_fields_bytes, string_field};
 ghost use Rattle.oa_typelib.specs.Contents.{content_of};
 ghost use Rattle.oa_decision.specs.DescriptionFields.{content_head, default_field, description_field, description_head, entry_field};
 ghost use Rattle.oa_decision.specs.DescriptionFields.{entry_fields, flag, invoke_kind, member_field, member_flags, member_head};
-ghost use Rattle.oa_decision.specs.DescriptionFields.{parameter_field, parameter_flags, parameter_head, type_number};
+ghost use Rattle.oa_decision.specs.DescriptionFields.{parameter_field, parameter_flags, parameter_head_bytes, type_number};
 
-use oa_checks::DeclarationKind;
 use oa_idl::Name;
 use oa_model::{
     COCLASS_KIND, DEFAULT_FLAG, HAS_DEFAULT_FLAG, IN_FLAG, INTERFACE_KIND, INVOKE_GET,
     INVOKE_METHOD, INVOKE_PUT, OPTIONAL_FLAG, READONLY_FLAG, VT_VOID, ValueType, guid_to_wire,
 };
 use oa_record::{MAX_FIELDS_BYTES, scalar_field, string_field};
+use oa_sema::DeclarationKind;
 use oa_typelib::{Content, DescribedEntry, DescribedMember, DescribedParameter, Description};
 use oa_variant::Scalar;
 use std::alloc::{AllocError, Global};
@@ -71,9 +71,9 @@ fn parameter_flags(parameter: &DescribedParameter<'_>) -> u16
 }
 
 /// Returns the first 8 bytes of a parameter: type, flags, a reserved number.
-#[tactic(auto, unfolding(oa_record::specs::Replies::word, oa_record::specs::Replies::half_word, crate::specs::DescriptionFields::parameter_head))]
+#[tactic(auto, unfolding(oa_record::specs::Replies::word, oa_record::specs::Replies::half_word, crate::specs::DescriptionFields::parameter_head_bytes))]
 fn parameter_head(parameter: &DescribedParameter<'_>) -> [u8; 8]
-    ensures { result ≡ parameter_head parameter.now }
+    ensures { result ≡ parameter_head_bytes parameter.now }
 {
     let [a, b] = parameter.value_type.vt().to_le_bytes();
     let [c, d] = parameter_flags(parameter).to_le_bytes();

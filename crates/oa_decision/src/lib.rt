@@ -3,8 +3,8 @@
 //!
 //! Contract: `Decider::decide` returns the defined decision (`decided`), or out of memory if an
 //! allocation may be needed (`Decides`). `Decider::plan_value` does so for a call with no more than
-//! a new value (`PlansValue`). `disallowed` returns why an event is not allowed (`allowed`), and
-//! `is_surely_within` is true only within the limits. A description's fields are its bytes, and
+//! a new value (`PlansValue`). `limit_violation` returns why an event is not allowed (`allowed`), and
+//! `surely_fits` is true only within the limits. A description's fields are its bytes, and
 //! have all entries of a coclass (`laws::no_entry_is_left_out`).
 //!
 //! Used by oa_turn, which makes the changes.
@@ -22,8 +22,8 @@ mod refusal;
 
 pub use decider::Decider;
 pub use decider::cell::BoundCell;
-pub use decision::{Decision, LockChange, Undecided};
+pub use decision::{DecideError, Decision, LockChange};
 pub use fields::Fields;
-pub use limits::{disallowed, is_surely_within, most_of};
+pub use limits::{limit_violation, max_table_image, surely_fits};
 pub use plan::{Plan, Planned, ValuePlan, ValuePut};
 pub use refusal::Refusal;

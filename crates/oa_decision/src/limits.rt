@@ -15,7 +15,7 @@ use oa_table::{Event, Table};
 
 /// Returns the greatest length in bytes of a table's image for a bank body of `bank` bytes:
 /// 5,242,880 fewer, or 0.
-pub fn most_of(bank: u32) -> u64
+pub fn max_table_image(bank: u32) -> u64
     ensures { result ≡ bank - reserved_bytes }
 {
     u64::from(bank.saturating_sub(RESERVED_BYTES))
@@ -25,7 +25,7 @@ pub fn most_of(bank: u32) -> u64
 /// none. Order: the table's own refusal; E_INVALIDARG if the event's image has more than
 /// `MAX_EVENT_BYTES` bytes; STG_E_MEDIUMFULL if the table's image would be too long. Allocates
 /// nothing.
-pub fn disallowed(bank: u32, table: &Table, event: &SizedEvent) -> Option<HResult>
+pub fn limit_violation(bank: u32, table: &Table, event: &SizedEvent) -> Option<HResult>
     ensures { GivesReason (allowed bank event.now table.now) result }
 {
     if let Some(fault) = refusal_of(table, event.as_event()) {
@@ -43,7 +43,7 @@ pub fn disallowed(bank: u32, table: &Table, event: &SizedEvent) -> Option<HResul
 /// Returns true only if an event that applies is within all limits, for a bank body of `bank`
 /// bytes; false decides nothing. The test is cheap. It is true for each event whose table image
 /// surely fits, and for a put if its own image still fits after the present one.
-pub fn is_surely_within(bank: u32, table: &Table, event: &SizedEvent) -> bool
+pub fn surely_fits(bank: u32, table: &Table, event: &SizedEvent) -> bool
     ensures within { result ≡ true → StaysWithin bank event.now table.now }
     ensures known { event_size event.now ≤ max_event_bytes → most_after event.now table.now ≤ bank - reserved_bytes → result ≡ true }
 {
@@ -56,7 +56,7 @@ fn has_surely_room(bank: u32, table: &Table, event: &SizedEvent) -> bool
     ensures room { result ≡ true → size_after event.now table.now ≤ bank - reserved_bytes }
     ensures known { most_after event.now table.now ≤ bank - reserved_bytes → result ≡ true }
 {
-    let most = most_of(bank);
+    let most = max_table_image(bank);
     match event.as_event() {
         Event::Put { .. } => table.image_size() <= most.saturating_sub(event.len() as u64),
         other => table.size_after(other) <= most,
@@ -71,7 +71,7 @@ fn is_too_large(bank: u32, table: &Table, event: &SizedEvent) -> bool
     if has_surely_room(bank, table, event) {
         return false;
     }
-    size_after(table, event.as_event()) > most_of(bank)
+    size_after(table, event.as_event()) > max_table_image(bank)
 }
 
 /// Returns the length of the table's image in bytes after an event that applies.

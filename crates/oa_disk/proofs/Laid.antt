@@ -5,11 +5,11 @@ use Rattle.std.proofs.lemmas.List.{length-replicate, ext_get_or}
 use Rattle.oa_disk.specs.Disk.{HasBytesAt, Only}
 use Rattle.oa_disk.specs.declared.call.DeviceCall.{DeviceCall}
 use Rattle.oa_disk.specs.declared.call.DeviceCall.TheVariants.{Read, Write}
-use Rattle.oa_disk.specs.declared.layers.Layers.{Layers}
-use Rattle.oa_disk.specs.declared.ledger.Ledger.{Ledger}
-use Rattle.oa_disk.specs.History.{History, IsHistory, with_call, contents_of, image_of}
+use Rattle.oa_disk.specs.declared.layers.SparseImage.{SparseImage}
+use Rattle.oa_disk.specs.declared.ledger.CallLog.{CallLog}
+use Rattle.oa_disk.specs.History.{DiskHistory, IsHistory, with_call, contents_of, image_of}
 use Rattle.oa_disk.specs.Layered.{layered}
-use Rattle.oa_disk.specs.Ledger.{laid, history}
+use Rattle.oa_disk.specs.CallLog.{laid, history}
 use Rattle.oa_disk.specs.Overwritten.{length-overwritten}
 use Rattle.oa_disk.specs.Replay.{AllInside, IsImage, last_state, synced, contents_after, count_all, overwritten, zeros}
 use Rattle.oa_disk.specs.Replaying.{contents_size, contents_bytes}
@@ -50,12 +50,12 @@ zeros_hold size at window n inside is = record {
   each = λ i lt. zero_at size (at + i) ∙ sym (ap (λ (l : List ℕ). get_or l i 0) is ∙ zero_at n i);
 }
 
-module _ (first : Layers) (ledger : Ledger) (calls : ledger.calls.items ≡ []) (written : ledger.written.items ≡ []) where
+module _ (first : SparseImage) (ledger : CallLog) (calls : ledger.calls.items ≡ []) (written : ledger.written.items ≡ []) where
   start_is : history first ledger ≡ record { first = laid first; calls = []; written = [] }
   start_is = ap (λ (c : List DeviceCall). record { first = laid first; calls = c; written = ledger.written.items }) calls ∙ ap (λ (w : List ℕ). record { first = laid first; calls = []; written = w }) written
 
   pub start_whole : IsHistory first.size (history first ledger)
-  start_whole = subst (λ (h : History). IsHistory first.size h) (sym start_is) (record {
+  start_whole = subst (λ (h : DiskHistory). IsHistory first.size h) (sym start_is) (record {
     bytes_of_first = contents_bytes first.size (layered first.size first.calls.items first.written.items) first.whole;
     size_of_first = contents_size first.size (layered first.size first.calls.items first.written.items) first.whole;
     bytes_of_all = λ i. omega arith;
@@ -67,7 +67,7 @@ module _ (first : Layers) (ledger : Ledger) (calls : ledger.calls.items ≡ []) 
   start_only c image = ext_get_or 0 c (laid first) image.size (λ i lt. image.outside i tt)
 
   pub start_settled : Only (contents_of (history first ledger)) (image_of (history first ledger))
-  start_settled = subst (λ (h : History). Only (contents_of h) (image_of h)) (sym start_is) start_only
+  start_settled = subst (λ (h : DiskHistory). Only (contents_of h) (image_of h)) (sym start_is) start_only
 
 -- one write more
 pub one_more : (size : ℕ) (calls : List DeviceCall) (written : List ℕ) (call : DeviceCall) (bytes : List ℕ) (later : List DeviceCall) (all : List ℕ)

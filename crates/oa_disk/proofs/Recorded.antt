@@ -8,7 +8,7 @@ use Rattle.oa_disk.specs.declared.call.DeviceCall.{DeviceCall}
 use Rattle.oa_disk.specs.declared.call.DeviceCall.TheVariants.{Read, Write, Sync}
 use Rattle.oa_disk.specs.Replay.{DiskState, IsImage, IsImageOfSome, IsOutside, states, last_state, synced, during_call, after_call, count_of}
 use Rattle.oa_disk.specs.Replay.{count_all, overwritten}
-use Rattle.oa_disk.specs.History.{History, IsHistory, Fits, with_call, disk_state, contents_of, image_of, moment_of, image_since_of}
+use Rattle.oa_disk.specs.History.{DiskHistory, IsHistory, FitsDisk, with_call, disk_state, contents_of, image_of, moment_of, image_since_of}
 use Rattle.oa_disk.specs.Overwritten.{take_bytes, drop_bytes, append_bytes, overwritten_bytes, length-overwritten, overwritten_below}
 use Rattle.oa_disk.specs.Overwritten.{overwritten_in, overwritten_above, overwritten_holds, overwritten_torn, torn_from}
 use Rattle.oa_disk.proofs.Ranges.{Torn_refl}
@@ -48,7 +48,7 @@ some_left (x ∷ xs) ys c (inl is) = inl is
 some_left (x ∷ xs) ys c (inr some) = inr (some_left xs ys c some)
 
 -- facts on a call that fits
-count_of_is : (size : ℕ) (call : DeviceCall) (more : List ℕ) → Fits size call more → count_of call ≡ length more
+count_of_is : (size : ℕ) (call : DeviceCall) (more : List ℕ) → FitsDisk size call more → count_of call ≡ length more
 count_of_is size Read more fits = sym (ap length fits)
 count_of_is size (Write at count) more fits = fits.0
 count_of_is size Sync more fits = sym (ap length fits)
@@ -56,12 +56,12 @@ count_of_is size Sync more fits = sym (ap length fits)
 no_bytes : AllBytes []
 no_bytes i = omega arith
 
-bytes_are : (size : ℕ) (call : DeviceCall) (more : List ℕ) → Fits size call more → AllBytes more
+bytes_are : (size : ℕ) (call : DeviceCall) (more : List ℕ) → FitsDisk size call more → AllBytes more
 bytes_are size Read more fits = subst AllBytes (sym fits) no_bytes
 bytes_are size (Write at count) more fits = fits.2
 bytes_are size Sync more fits = subst AllBytes (sym fits) no_bytes
 
-is_inside : (size : ℕ) (call : DeviceCall) (more : List ℕ) → Fits size call more → OneInside size call
+is_inside : (size : ℕ) (call : DeviceCall) (more : List ℕ) → FitsDisk size call more → OneInside size call
 is_inside size Read more fits = tt
 is_inside size (Write at count) more fits = fits.1
 is_inside size Sync more fits = tt
@@ -75,7 +75,7 @@ written_image state at count more c same inside is = record {
   bytes = is.bytes;
 }
 
-in_call : (size : ℕ) (state : DiskState) (call : DeviceCall) (more c : List ℕ) → length state.contents ≡ size → Fits size call more
+in_call : (size : ℕ) (state : DiskState) (call : DeviceCall) (more c : List ℕ) → length state.contents ≡ size → FitsDisk size call more
     → IsImage (during_call state call) c → IsImage state c ⊎ IsImage (after_call state call more) c
 in_call size state Read more c long fits is = inl is
 in_call size state (Write at count) more c long fits is = inr (written_image state at count more c fits.0 (omega (arith, fits.0, fits.1, long)) is)
@@ -85,7 +85,7 @@ count_push : (before : List DeviceCall) (call : DeviceCall) → count_all (befor
 count_push [] call = omega arith
 count_push (c ∷ before) call = omega (arith, count_push before call)
 
-module _ (size : ℕ) (h : History) (whole : IsHistory size h) (call : DeviceCall) (more : List ℕ) (fits : Fits size call more) where
+module _ (size : ℕ) (h : DiskHistory) (whole : IsHistory size h) (call : DeviceCall) (more : List ℕ) (fits : FitsDisk size call more) where
   one : count_of call ≡ length more
   one = count_of_is size call more fits
 
@@ -127,42 +127,42 @@ module _ (size : ℕ) (h : History) (whole : IsHistory size h) (call : DeviceCal
     inside = inside_push size h.calls call whole.inside (is_inside size call more fits);
   }
 
-  module _ (new : History) (is : new ≡ with_call h call more) where
+  module _ (new : DiskHistory) (is : new ≡ with_call h call more) where
     pub state_is : disk_state new ≡ after_call (disk_state h) call more
-    state_is = ap (λ (x : History). disk_state x) is ∙ joined
+    state_is = ap (λ (x : DiskHistory). disk_state x) is ∙ joined
 
     -- time goes on by one call
     pub time_is : Elapses (moment_of h) (moment_of new) (image_since_of h) (image_since_of new) (image_of new)
-    time_is = subst (λ (x : History). Elapses (moment_of h) (moment_of x) (image_since_of h) (image_since_of x) (image_of x)) (sym is) elapses
+    time_is = subst (λ (x : DiskHistory). Elapses (moment_of h) (moment_of x) (image_since_of h) (image_since_of x) (image_of x)) (sym is) elapses
 
     pub whole_is : IsHistory size new
-    whole_is = subst (λ (x : History). IsHistory size x) (sym is) still_whole
+    whole_is = subst (λ (x : DiskHistory). IsHistory size x) (sym is) still_whole
 
 -- no call was made
-module _ (size : ℕ) (h new : History) (is : new ≡ h) where
+module _ (size : ℕ) (h new : DiskHistory) (is : new ≡ h) where
   pub same_whole : IsHistory size h → IsHistory size new
-  same_whole whole = subst (λ (x : History). IsHistory size x) (sym is) whole
+  same_whole whole = subst (λ (x : DiskHistory). IsHistory size x) (sym is) whole
 
   pub same_stays : Stays (contents_of h) (contents_of new) (image_of h) (image_of new)
   same_stays = record {
-    contents = ap (λ (x : History). contents_of x) is;
-    images = λ c left. subst (λ (x : History). image_of x c) is left;
-    stay = λ c left. subst (λ (x : History). image_of x c) (sym is) left;
+    contents = ap (λ (x : DiskHistory). contents_of x) is;
+    images = λ c left. subst (λ (x : DiskHistory). image_of x c) is left;
+    stay = λ c left. subst (λ (x : DiskHistory). image_of x c) (sym is) left;
   }
 
   pub same_writes : (at n : ℕ) → WritesUnsynced at n (contents_of h) (contents_of new) (image_of h) (image_of new)
   same_writes at n = record {
-    others = subst (λ (x : History). Torn at n (contents_of h) (contents_of x)) (sym is) (Torn_refl at n (contents_of h));
-    images = λ c left. (c, subst (λ (x : History). image_of x c) is left, Torn_refl at n c);
-    stay = λ c left. subst (λ (x : History). image_of x c) (sym is) left;
+    others = subst (λ (x : DiskHistory). Torn at n (contents_of h) (contents_of x)) (sym is) (Torn_refl at n (contents_of h));
+    images = λ c left. (c, subst (λ (x : DiskHistory). image_of x c) is left, Torn_refl at n c);
+    stay = λ c left. subst (λ (x : DiskHistory). image_of x c) (sym is) left;
   }
 
   pub same_time : Elapses (moment_of h) (moment_of new) (image_since_of h) (image_since_of new) (image_of new)
   same_time = record {
-    later = omega (arith, ap (λ (x : History). moment_of x) is);
-    soon = omega (arith, ap (λ (x : History). moment_of x) is);
-    nothing_else = λ t c le left. inl (subst (λ (x : History). image_since_of x t c) is left);
-    keeps = λ t c le left. subst (λ (x : History). image_since_of x t c) (sym is) left;
+    later = omega (arith, ap (λ (x : DiskHistory). moment_of x) is);
+    soon = omega (arith, ap (λ (x : DiskHistory). moment_of x) is);
+    nothing_else = λ t c le left. inl (subst (λ (x : DiskHistory). image_since_of x t c) is left);
+    keeps = λ t c le left. subst (λ (x : DiskHistory). image_since_of x t c) (sym is) left;
   }
 
 -- each image after a write is an image before it, with any bytes in the range
@@ -230,7 +230,7 @@ write_stays state at count more c same inside was = write_reaches state at count
 synced_image : (state : DiskState) (c : List ℕ) → IsImage (after_call state Sync []) c → IsImage state c
 synced_image state c is = record { size = is.size; outside = λ i out. is.outside i tt; bytes = is.bytes }
 
-module _ (size : ℕ) (h : History) (whole : IsHistory size h) (new : History) where
+module _ (size : ℕ) (h : DiskHistory) (whole : IsHistory size h) (new : DiskHistory) where
   pub read_stays : new ≡ with_call h Read [] → Stays (contents_of h) (contents_of new) (image_of h) (image_of new)
   read_stays is = let now = state_is size h whole Read [] refl new is in record {
     contents = ap (λ (s : DiskState). s.contents) now;

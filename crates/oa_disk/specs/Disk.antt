@@ -66,7 +66,7 @@ TakesTime moment image_since image old new =
     Elapses (moment old) (moment new) (image_since old) (image_since new) (image new)
 
 -- A crash invariant: a crash at any point in time since old leaves an image with P.
-pub record LeavesOnly {D : Type 0} (moment : D → ℕ) (image_since : D → ℕ → List ℕ → Type 0) (old new : D)
+pub record CrashInvariant {D : Type 0} (moment : D → ℕ) (image_since : D → ℕ → List ℕ → Type 0) (old new : D)
     (P : List ℕ → Type 0) : Type 0 where
   pub later : moment old ≤ moment new
   pub each : (c : List ℕ) → image_since new (moment old) c → P c
@@ -77,7 +77,7 @@ pub record LeavesOnly {D : Type 0} (moment : D → ℕ) (image_since : D → ℕ
 abbrev pub LeavesStep : {D : Type 0} → (D → ℕ) → (D → ℕ → List ℕ → Type 0) → (D → List ℕ → Type 0) → D → D
     → (List ℕ → List ℕ → Type 0) → Type 0
 LeavesStep moment image_since image old new step =
-    LeavesOnly moment image_since old new (λ c. (d : List ℕ) × image old d × step d c)
+    CrashInvariant moment image_since old new (λ c. (d : List ℕ) × image old d × step d c)
 
 -- a failure was counted, unless the count is at its greatest value
 abbrev pub HasCounted : ℕ → ℕ → Type 0

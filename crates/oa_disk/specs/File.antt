@@ -14,8 +14,8 @@ abbrev pub failures_of : FileDisk → ℕ
 failures_of disk = disk.failures
 
 -- its log: the calls with their results
-abbrev pub record_of : FileDisk → Record
-record_of disk = disk.history
+abbrev pub log_of : FileDisk → Record
+log_of disk = disk.history
 
 -- no call was made, and the log begins with this byte at each place
 pub record HasMetNoCall (held : ℕ → ℕ) (disk : FileDisk) : Type 0 where

@@ -6,7 +6,7 @@ pub mod Folders
 pub mod Fuse
 pub mod History
 pub mod Layered
-pub mod Ledger
+pub mod CallLog
 pub mod Memory
 pub mod Moments
 pub mod Overwritten

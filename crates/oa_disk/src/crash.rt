@@ -1,11 +1,11 @@
 //! The bytes that a crash leaves, computed from the calls of a disk and the bytes that they wrote.
 ghost use Rattle.std.specs.Prelude.{◌≡◌, ◌+◌, ◌*◌, ◌<◌, ◌≤◌, length, OnOk, IfOk};
-ghost use Rattle.oa_disk.specs.Ledger.{laid};
+ghost use Rattle.oa_disk.specs.CallLog.{laid};
 ghost use Rattle.oa_disk.specs.Replay.{AllInside, contents_after, count_all};
 ghost use Rattle.oa_disk.specs.Tear.{torn, tear_behind, torn_all, IsLastSync, IsTorn};
 
 use crate::DeviceCall;
-use crate::layers::Layers;
+use crate::layers::SparseImage;
 use std::alloc::{AllocError, Global};
 
 /// How a crash tears the writes that no sync has brought to the device.
@@ -25,7 +25,7 @@ pub enum Tear {
 /// has fewer bytes left. Err: an allocation failed.
 fn tear_range(
     alloc: Global,
-    disk: &mut Layers,
+    disk: &mut SparseImage,
     at: usize,
     bytes: &[u8],
     tear: &mut Tear,
@@ -65,7 +65,7 @@ fn last_sync(calls: &[DeviceCall]) -> usize
 
 /// Replays the calls on the disk, whose writes wrote `written`, and returns how many bytes they
 /// wrote. Err: an allocation failed.
-fn replay(disk: &mut Layers, calls: &[DeviceCall], written: &[u8]) -> Result<usize, AllocError>
+fn replay(disk: &mut SparseImage, calls: &[DeviceCall], written: &[u8]) -> Result<usize, AllocError>
     requires inside { AllInside disk.old.size calls.now }
     requires written { count_all calls.now ≤ length written.now }
     ensures contents { OnOk result (laid disk.new ≡ contents_after (laid disk.old) calls.now written.now) }
@@ -85,7 +85,7 @@ fn replay(disk: &mut Layers, calls: &[DeviceCall], written: &[u8]) -> Result<usi
 /// Replays the calls on the disk with their writes torn. Err: an allocation failed.
 fn tear_all(
     alloc: Global,
-    disk: &mut Layers,
+    disk: &mut SparseImage,
     calls: &[DeviceCall],
     written: &[u8],
     tear: Tear,
@@ -110,7 +110,7 @@ fn tear_all(
 /// before it. `moment` is `2k - 1` within call k, and `2k` after it. Err: an allocation failed.
 pub(crate) fn leave_at(
     alloc: Global,
-    disk: &mut Layers,
+    disk: &mut SparseImage,
     calls: &[DeviceCall],
     written: &[u8],
     moment: u64,

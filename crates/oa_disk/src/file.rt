@@ -3,7 +3,7 @@ ghost use Rattle.std.specs.Prelude.{◌≡◌, ◌+◌, ◌-◌, ◌^◌, ◌<�
 ghost use Rattle.oa_disk.specs.Disk.{CountsFailures};
 ghost use Rattle.oa_disk.specs.Folders.{IsFolderOf};
 ghost use Rattle.oa_disk.specs.History.{IsHistory};
-ghost use Rattle.oa_disk.specs.Record.{history_of};
+ghost use Rattle.oa_disk.specs.Record.{recorded_history};
 
 use crate::record::Record;
 use crate::{DeviceCall, DeviceFault, Disk};
@@ -28,12 +28,12 @@ pub struct FileDisk {
     failures: u64,
     history: Record,
     ghost counted: { failures < 2 ^ 64 },
-    ghost whole: { IsHistory size (history_of history) },
+    ghost whole: { IsHistory size (recorded_history history) },
 }
 
 impl FileDisk {
     ghost use Rattle.oa_disk.specs.After.{BeginsHonest};
-    ghost use Rattle.oa_disk.specs.File.{file_size, failures_of, record_of, GoesOnFrom, HasMetNoCall, IsZeros};
+    ghost use Rattle.oa_disk.specs.File.{file_size, failures_of, log_of, GoesOnFrom, HasMetNoCall, IsZeros};
 
     /// Opens an existing file for reading and writing, not for appending, and makes a disk of it as
     /// `over` does. Errors: those of `over`, and the system's if the file cannot be opened.
@@ -137,14 +137,14 @@ impl FileDisk {
     ghost use Rattle.std.specs.Prelude.{MatchResult};
     ghost use Rattle.oa_disk.specs.declared.call.DeviceCall.TheVariants.{Read, Write, Sync};
     ghost use Rattle.oa_disk.specs.Record.{noted};
-    ghost use Rattle.oa_disk.specs.File.{file_size, failures_of, record_of};
+    ghost use Rattle.oa_disk.specs.File.{file_size, failures_of, log_of};
 
     /// Reads from byte `at` on. A failed read is logged as a read of no bytes. Err: the read
     /// failed.
     fn get(&mut self, at: u64, bytes: &mut [u8]) -> Result<(), DeviceFault>
         ensures noted { MatchResult result
-            (λ _. record_of self.new ≡ noted (record_of self.old) Read [] at bytes.new)
-            (λ e. (record_of self.new ≡ noted (record_of self.old) Read [] at []) × (e ≡ DeviceFault.Read)) }
+            (λ _. log_of self.new ≡ noted (log_of self.old) Read [] at bytes.new)
+            (λ e. (log_of self.new ≡ noted (log_of self.old) Read [] at []) × (e ≡ DeviceFault.Read)) }
         ensures size { file_size self.new ≡ file_size self.old }
         ensures counts { CountsFailures (failures_of self.old) (failures_of self.new) result }
     {
@@ -161,7 +161,7 @@ impl FileDisk {
     /// failed.
     fn put(&mut self, at: u64, bytes: &[u8]) -> Result<(), DeviceFault>
         requires { at + length bytes.now ≤ file_size self.old }
-        ensures noted { record_of self.new ≡ noted (record_of self.old) (Write at (length bytes.now)) bytes.now 0 [] }
+        ensures noted { log_of self.new ≡ noted (log_of self.old) (Write at (length bytes.now)) bytes.now 0 [] }
         ensures size { file_size self.new ≡ file_size self.old }
         ensures counts { CountsFailures (failures_of self.old) (failures_of self.new) result }
         ensures fault { IfErr result (λ e. e ≡ DeviceFault.Write) }
@@ -180,8 +180,8 @@ impl FileDisk {
     /// Err: it failed.
     fn flush(&mut self) -> Result<(), DeviceFault>
         ensures noted { MatchResult result
-            (λ _. record_of self.new ≡ noted (record_of self.old) Sync [] 0 [])
-            (λ e. (record_of self.new ≡ noted (record_of self.old) Read [] 0 []) × (e ≡ DeviceFault.Write)) }
+            (λ _. log_of self.new ≡ noted (log_of self.old) Sync [] 0 [])
+            (λ e. (log_of self.new ≡ noted (log_of self.old) Read [] 0 []) × (e ≡ DeviceFault.Write)) }
         ensures size { file_size self.new ≡ file_size self.old }
         ensures counts { CountsFailures (failures_of self.old) (failures_of self.new) result }
     {
@@ -206,27 +206,27 @@ impl Disk for FileDisk {
 
     ghost is_honest = { λ f. f.history.honest };
 
-    ghost contents = { λ f. contents_of (history_of f.history) };
+    ghost contents = { λ f. contents_of (recorded_history f.history) };
 
-    ghost image = { λ f. image_of (history_of f.history) };
+    ghost image = { λ f. image_of (recorded_history f.history) };
 
-    ghost moment = { λ f. moment_of (history_of f.history) };
+    ghost moment = { λ f. moment_of (recorded_history f.history) };
 
-    ghost image_since = { λ f. image_since_of (history_of f.history) };
+    ghost image_since = { λ f. image_since_of (recorded_history f.history) };
 
     ghost failures_fit = { λ f. below_all f.failures f.counted };
 
-    ghost contents_is_image = { λ f _. contents_is_image f.size (history_of f.history) f.whole };
+    ghost contents_is_image = { λ f _. contents_is_image f.size (recorded_history f.history) f.whole };
 
-    ghost images_have_size = { λ f c _ is. images_have_size f.size (history_of f.history) f.whole c is };
+    ghost images_have_size = { λ f c _ is. images_have_size f.size (recorded_history f.history) f.whole c is };
 
-    ghost since_have_size = { λ f t c _ left. since_have_size f.size (history_of f.history) f.whole t c left };
+    ghost since_have_size = { λ f t c _ left. since_have_size f.size (recorded_history f.history) f.whole t c left };
 
-    ghost counts_now = { λ f t c _ le is. counts_now (history_of f.history) t c le is };
+    ghost counts_now = { λ f t c _ le is. counts_now (recorded_history f.history) t c le is };
 
-    ghost since_falls = { λ f s t c _ le left. since_falls (history_of f.history) s t c le left };
+    ghost since_falls = { λ f s t c _ le left. since_falls (recorded_history f.history) s t c le left };
 
-    ghost only_now = { λ f c _ left. only_now (history_of f.history) c left };
+    ghost only_now = { λ f c _ left. only_now (recorded_history f.history) c left };
 
     fn size(&self) -> u64 {
         self.size

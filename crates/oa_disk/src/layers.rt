@@ -10,7 +10,7 @@ use std::alloc::{AllocError, Global};
 
 /// A sparse image: zeros, with writes over them, later ones on top.
 #[derive(Drop)]
-pub struct Layers {
+pub struct SparseImage {
     /// The size of the image in bytes.
     pub size: usize,
     /// The writes.
@@ -21,15 +21,15 @@ pub struct Layers {
     pub ghost whole: { IsHistory size (layered size calls.items written.items) },
 }
 
-impl Layers {
-    ghost use Rattle.oa_disk.specs.Ledger.{laid};
+impl SparseImage {
+    ghost use Rattle.oa_disk.specs.CallLog.{laid};
 
     /// Makes an image of `size` zeros, without allocating.
-    pub(crate) fn new(alloc: Global, size: usize) -> Layers
+    pub(crate) fn new(alloc: Global, size: usize) -> SparseImage
         ensures bytes { laid result ≡ zeros size }
         ensures size { result.size ≡ size }
     {
-        Layers {
+        SparseImage {
             size,
             calls: Vec::new(alloc),
             written: Vec::new(alloc),
@@ -37,11 +37,11 @@ impl Layers {
     }
 
     /// Returns a copy. Err: an allocation failed.
-    pub(crate) fn copy(&self, alloc: Global) -> Result<Layers, AllocError>
+    pub(crate) fn copy(&self, alloc: Global) -> Result<SparseImage, AllocError>
         ensures bytes { IfOk result (λ copy. laid copy ≡ laid self.now) }
         ensures size { IfOk result (λ copy. copy.size ≡ self.now.size) }
     {
-        Ok(Layers {
+        Ok(SparseImage {
             size: self.size,
             calls: self.calls.to_vec(alloc)?,
             written: self.written.to_vec(alloc)?,

@@ -7,7 +7,7 @@ use std::alloc::{AllocError, Global};
 /// A bounded log of disk calls: at most `most_calls`, with at most `most_bytes` written by them
 /// together. A further call fails, and is only counted.
 #[derive(Drop)]
-pub struct Ledger {
+pub struct CallLog {
     /// The calls, in order.
     pub calls: Vec<DeviceCall>,
     /// The bytes of all writes, one after the other.
@@ -25,8 +25,8 @@ pub struct Ledger {
     pub ghost counted: { failures < 2 ^ 64 },
 }
 
-impl Ledger {
-    ghost use Rattle.oa_disk.specs.Ledger.{Enters, IsEmpty};
+impl CallLog {
+    ghost use Rattle.oa_disk.specs.CallLog.{Enters, IsEmpty};
 
     /// Makes an empty log of at most `most_calls` calls, which write at most `most_bytes` bytes
     /// together, and reserves its memory. Err: an allocation failed.
@@ -34,10 +34,10 @@ impl Ledger {
         alloc: Global,
         most_calls: usize,
         most_bytes: usize,
-    ) -> Result<Ledger, AllocError>
+    ) -> Result<CallLog, AllocError>
         ensures { IfOk result (IsEmpty most_calls most_bytes) }
     {
-        Ok(Ledger {
+        Ok(CallLog {
             calls: Vec::with_capacity(alloc, most_calls)?,
             written: Vec::with_capacity(alloc, most_bytes)?,
             most_calls,

@@ -5,7 +5,7 @@
 //! during `write_then_flip` leaves either torn bytes and the old switch, or all bytes and any byte
 //! at the switch.
 //!
-//! Used by the storage crates (oa_journal, oa_store, oa_groups), oa_server and oa_history, and over
+//! Used by the storage crates (oa_journal, oa_store, oa_group_commit), oa_server and oa_history, and over
 //! a file by oa_commands and the program.
 #![tactic(auto)]
 

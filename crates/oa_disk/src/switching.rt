@@ -2,7 +2,7 @@
 //! device.
 ghost use Rattle.std.specs.Prelude.{◌≡◌, ◌⊎◌, ◌+◌, ◌<◌, ◌≤◌, List, ℕ, IsTrue, OnOk, length, slice_index};
 ghost use Rattle.oa_disk.specs.After.{AfterWrites};
-ghost use Rattle.oa_disk.specs.Disk.{LeavesOnly, LeavesStep, Follows, Torn};
+ghost use Rattle.oa_disk.specs.Disk.{CrashInvariant, LeavesStep, Follows, Torn};
 ghost use Rattle.oa_disk.specs.Switch.{MaySwitch, HasSwitched};
 
 use crate::{DeviceFault, Disk};
@@ -15,7 +15,7 @@ pub fn flip<D: Disk>(disk: &mut D, at: u64, value: u8) -> Result<(), DeviceFault
     // (a crash before that leaves an image of before, a crash after it these contents with any byte
     // at the switch)
     ensures any_moment { IsTrue (D.is_honest disk.old)
-        → LeavesOnly D.moment D.image_since disk.old disk.new (λ c. D.image disk.old c ⊎ Torn at 1 (D.contents disk.old) c) }
+        → CrashInvariant D.moment D.image_since disk.old disk.new (λ c. D.image disk.old c ⊎ Torn at 1 (D.contents disk.old) c) }
     ensures done { OnOk result (IsTrue (D.is_honest disk.old)
         → (c : List ℕ) → D.image disk.new c → Torn at 1 (D.contents disk.old) c × (slice_index c at ≡ value)) }
 

@@ -30,11 +30,11 @@ one_reading f d k bytes mid mid' rest rest' (b ∷ bodies) (c ∷ others) why ot
     let more = one_reading f d (k + 1) h.0 mid mid' rest rest' bodies others why other h.2 s (subst (λ i. f.Can i why) n can) fair next s' (subst (λ i. f.Can i other) m can') fair' in
     (rw (same.0, more.0) refl, more.1)
 
-pub one_end : (f : Frames) → IsDecided f → (bytes rest rest' : List ℕ) (alone : List ℕ → Bool) (bodies others : List (List ℕ)) (why other : End)
-    → ReadTo f (At why) bodies bytes rest → CanStop f alone (length bodies) (At why) → (why ≡ ReadFault → ⊥)
-    → ReadTo f (At other) others bytes rest' → CanStop f alone (length others) (At other) → (other ≡ ReadFault → ⊥)
+pub one_end : (f : Frames) → IsDecided f → (bytes rest rest' : List ℕ) (barrier : List ℕ → Bool) (bodies others : List (List ℕ)) (why other : End)
+    → ReadTo f (At why) bodies bytes rest → CanStop f barrier (length bodies) (At why) → (why ≡ ReadFault → ⊥)
+    → ReadTo f (At other) others bytes rest' → CanStop f barrier (length others) (At other) → (other ≡ ReadFault → ⊥)
     → (bodies ≡ others) × (why ≡ other)
-one_end f d bytes rest rest' alone bodies others why other r can fair r' can' fair' =
+one_end f d bytes rest rest' barrier bodies others why other r can fair r' can' fair' =
     let n : length bodies + 1 ≡ 1 + length bodies = omega arith in
     let m : length others + 1 ≡ 1 + length others = omega arith in
     one_reading f d 1 bytes r.0 r'.0 rest rest' bodies others why other r.1 r.2 (subst (λ i. f.Can i why) n can) fair r'.1 r'.2 (subst (λ i. f.Can i other) m can') fair'

@@ -123,14 +123,14 @@ frames HexLines = hex_lines
 frames Records = records
 
 -- a body of n bytes: the last ones consumed of the read-ahead buffer, or the first ones of a buffer
-abbrev pub body_of : ℕ → Bool → List ℕ → List ℕ → List ℕ
-body_of n true buffer passed = drop (length passed - n) passed
-body_of n false buffer passed = take n buffer
+abbrev pub body_of_read : ℕ → Bool → List ℕ → List ℕ → List ℕ
+body_of_read n true buffer passed = drop (length passed - n) passed
+body_of_read n false buffer passed = take n buffer
 
 -- what was read at the record with this number; nothing if the writer failed
 abbrev pub Inputs : Frames → Read → ℕ → List ℕ → List ℕ → Option (List ℕ) → Option (List ℕ) → Type 0
 Inputs f (read.Body n ahead) number buffer passed old new =
-    Known (λ bytes rest. f.Next bytes (body_of n ahead buffer passed) rest) old new
+    Known (λ bytes rest. f.Next bytes (body_of_read n ahead buffer passed) rest) old new
 Inputs f (read.Ends why) number buffer passed old new = f.Can number why × Known (f.Stop why) old new
 Inputs f read.Unwritten number buffer passed old new = known.Keeps old new
 
@@ -146,11 +146,11 @@ Hands (read.Ends why) old new calls calls' = HandsOver old new calls calls'
 Hands read.Unwritten old new calls calls' = Breaks old new [] × (calls' ≡ calls)
 
 -- the body is at that place
-abbrev pub Fits : Read → List ℕ → List ℕ → Type 0
-Fits (read.Body n true) buffer passed = n ≤ length passed
-Fits (read.Body n false) buffer passed = n ≤ length buffer
-Fits (read.Ends why) buffer passed = ⊤
-Fits read.Unwritten buffer passed = ⊤
+abbrev pub IsBodyAt : Read → List ℕ → List ℕ → Type 0
+IsBodyAt (read.Body n true) buffer passed = n ≤ length passed
+IsBodyAt (read.Body n false) buffer passed = n ≤ length buffer
+IsBodyAt (read.Ends why) buffer passed = ⊤
+IsBodyAt read.Unwritten buffer passed = ⊤
 
 -- the length of the buffer: at most what it was, or the body's length
 abbrev pub GrowsTo : Read → ℕ → ℕ → Type 0

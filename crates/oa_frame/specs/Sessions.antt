@@ -25,7 +25,7 @@ abbrev pub EndOf : Type 0 → Type 1
 EndOf S = S → List (List ℕ) → S → Type 0
 
 -- A body that comes alone: first held replies are sent, as at the end of the input, and then the body is answered.
-pub record AnswersAlone {S : Type 0} (turn : TurnOf S) (ends : EndOf S) (old : S) (body : List ℕ)
+pub record AnswersBarrier {S : Type 0} (turn : TurnOf S) (ends : EndOf S) (old : S) (body : List ℕ)
     (replies : List (List ℕ))
     (new : S) : Type 0 where
   pub held : List (List ℕ)
@@ -36,12 +36,12 @@ pub record AnswersAlone {S : Type 0} (turn : TurnOf S) (ends : EndOf S) (old : S
   pub are : replies ≡ held ++ own
 
 abbrev pub step_by : {S : Type 0} → Bool → TurnOf S → EndOf S → TurnOf S
-step_by true turn ends old body replies new = AnswersAlone turn ends old body replies new
+step_by true turn ends old body replies new = AnswersBarrier turn ends old body replies new
 step_by false turn ends old body replies new = turn old body replies new
 
 -- the turn of a body, whether it comes alone or not
 abbrev pub step : {S : Type 0} → (List ℕ → Bool) → TurnOf S → EndOf S → TurnOf S
-step alone turn ends old body replies new = step_by (alone body) turn ends old body replies new
+step barrier turn ends old body replies new = step_by (barrier body) turn ends old body replies new
 
 -- What was read after the last body that was answered: nothing; what ended the input; or a body that comes alone,
 -- which was read and not executed.
@@ -59,9 +59,9 @@ BodiesTurned turn old [] (replies ∷ handed) new = ⊥
 BodiesTurned turn old (body ∷ bodies) [] new = ⊥
 
 -- all replies that were sent, and the last ones of them
-unfoldable pub joined : List (List (List ℕ)) → List (List ℕ)
-joined [] = []
-joined (replies ∷ handed) = replies ++ joined handed
+unfoldable pub concat_replies : List (List (List ℕ)) → List (List ℕ)
+concat_replies [] = []
+concat_replies (replies ∷ handed) = replies ++ concat_replies handed
 
 unfoldable pub latest : List (List (List ℕ)) → List (List ℕ)
 latest [] = []
@@ -83,11 +83,11 @@ but_last (reply ∷ (next ∷ replies)) = reply ∷ but_last (next ∷ replies)
 -- each body that comes alone, everything had left that the writer received before that body's own reply, which is the
 -- last of those that were sent then.
 abbrev pub HasLeft : Frames → (List ℕ → Bool) → ℕ → ℕ → List (List ℕ) → List (List (List ℕ)) → Type 0
-HasLeft f alone gone before [] handed = Unit {0}
-HasLeft f alone gone before (body ∷ bodies) [] = Unit {0}
-HasLeft f alone gone before (body ∷ bodies) (replies ∷ handed) =
-    (alone body ≡ true → before + length (spelled_all f.spelled (but_last replies)) ≤ gone)
-    × HasLeft f alone gone (before + length (spelled_all f.spelled replies)) bodies handed
+HasLeft f barrier gone before [] handed = Unit {0}
+HasLeft f barrier gone before (body ∷ bodies) [] = Unit {0}
+HasLeft f barrier gone before (body ∷ bodies) (replies ∷ handed) =
+    (barrier body ≡ true → before + length (spelled_all f.spelled (but_last replies)) ≤ gone)
+    × HasLeft f barrier gone (before + length (spelled_all f.spelled replies)) bodies handed
 
 -- an end with a reply: a record that is cut or too long
 abbrev pub is_answered : End → Bool
@@ -132,14 +132,14 @@ pub record AnswersOwn {S : Type 0} (f : Frames) (turn : TurnOf S) (result : Resu
   pub one : length answers.replies ≤ 1
 
 -- the replies that were still held were put, or the writer failed in them
-pub record Finishes {S : Type 0} (f : Frames) (ends : EndOf S) (result : Result (Unit {0}) Unwritten)
+pub record FlushesHeld {S : Type 0} (f : Frames) (ends : EndOf S) (result : Result (Unit {0}) Unwritten)
     (out out' : Output) (old new : S) : Type 0 where
   pub held : List (List ℕ)
   pub ended : ends old held new
   pub put : Puts result out out' (spelled_all f.spelled held)
 
 -- a flush of a server whose replies are lost
-pub record Abandons {S : Type 0} (ends : EndOf S) (old new : S) : Type 0 where
+pub record DropsHeld {S : Type 0} (ends : EndOf S) (old new : S) : Type 0 where
   pub held : List (List ℕ)
   pub ended : ends old held new
 
@@ -176,12 +176,12 @@ AnswersBy false f turn ends result body out out' old new = AnswersBody f turn re
 -- a body was answered, whether it comes alone or not; or the writer failed in that, or before one that comes alone
 abbrev pub AnswersNext : {S : Type 0} → Frames → (List ℕ → Bool) → TurnOf S → EndOf S → Result (Unit {0}) Loss → List ℕ
     → Output → Output → S → S → Type 0
-AnswersNext f alone turn ends (Ok u) body out out' old new =
-    AnswersBy (alone body) f turn ends (Ok u) body out out' old new
-AnswersNext f alone turn ends (Err loss.Answered) body out out' old new =
-    (e : Unwritten) × AnswersBy (alone body) f turn ends (Err e) body out out' old new
-AnswersNext f alone turn ends (Err loss.Undone) body out out' old new =
-    (alone body ≡ true) × ((e : Unwritten) × IsParted f ends (Err e) out out' old new)
+AnswersNext f barrier turn ends (Ok u) body out out' old new =
+    AnswersBy (barrier body) f turn ends (Ok u) body out out' old new
+AnswersNext f barrier turn ends (Err loss.Answered) body out out' old new =
+    (e : Unwritten) × AnswersBy (barrier body) f turn ends (Err e) body out out' old new
+AnswersNext f barrier turn ends (Err loss.Undone) body out out' old new =
+    (barrier body ≡ true) × ((e : Unwritten) × IsParted f ends (Err e) out out' old new)
 
 -- the bytes begin with the records of these bodies, and the rest follows them
 abbrev pub Bodies : Frames → List ℕ → List (List ℕ) → List ℕ → Type 0
@@ -196,9 +196,9 @@ ReadTo f (Undone body) bodies bytes rest = (mid : List ℕ) × Bodies f bytes bo
 
 -- what may have ended the reading after this many bodies; only a body that comes alone may be read and not executed
 abbrev pub CanStop : Frames → (List ℕ → Bool) → ℕ → Halt → Type 0
-CanStop f alone requests Between = ⊤
-CanStop f alone requests (At why) = f.Can (requests + 1) why
-CanStop f alone requests (Undone body) = alone body ≡ true
+CanStop f barrier requests Between = ⊤
+CanStop f barrier requests (At why) = f.Can (requests + 1) why
+CanStop f barrier requests (Undone body) = barrier body ≡ true
 
 -- the reading did not end with a fault of the reader, except that the records were used up
 abbrev pub ReaderStands : ℕ → Halt → Type 0
@@ -226,7 +226,7 @@ pub record AllHaveLeft (f : Frames) (last : List ℕ) (why : End) (stop : Halt)
     (handed : List (List (List ℕ))) (held : List (List ℕ)) (old new : Output) : Type 0 where
   pub ended : stop ≡ At why
   pub reached : Appends old.reached new.reached
-      (old.kept ++ spelled_all f.spelled (joined handed ++ (held ++ last_reply last why)))
+      (old.kept ++ spelled_all f.spelled (concat_replies handed ++ (held ++ last_reply last why)))
   pub handed_on : IsHandedOn new
   pub sound : new.broken ≡ false
 
@@ -234,20 +234,21 @@ pub record AllHaveLeft (f : Frames) (last : List ℕ) (why : End) (stop : Halt)
 -- most the bytes that it may keep back and the last replies that it received are lost: so no further body was
 -- answered after it had failed. No reply is lost that was due before a body that comes alone and was answered: all of
 -- them had left the writer first.
-pub record WriterFails (f : Frames) (alone : List ℕ → Bool) (last : List ℕ) (why : End) (stop : Halt)
+pub record WriterFails (f : Frames) (barrier : List ℕ → Bool) (last : List ℕ) (why : End) (stop : Halt)
     (bodies : List (List ℕ))
     (handed : List (List (List ℕ))) (held : List (List ℕ)) (old new : Output) : Type 0 where
   pub ended : why ≡ WriteFault
-  pub torn : Breaks old new (spelled_all f.spelled (joined handed ++ finals last stop held))
+  pub torn : Breaks old new (spelled_all f.spelled (concat_replies handed ++ finals last stop held))
   pub few : length torn.lost ≤ old.back + length (spelled_all f.spelled (given_last last stop handed held))
-  pub apart : HasLeft f alone (length torn.gone) (length old.kept) bodies handed
+  pub apart : HasLeft f barrier (length torn.gone) (length old.kept) bodies handed
 
 -- A whole session: the bodies that were read and answered, their run with the replies that were sent at each, those
 -- that were still held at the end, and what has left the writer. `stop` is what ended the reading. Between: the
 -- writer failed between two bodies, and nothing after the last answered body was consumed. Undone: it failed in
 -- replies that were held before a body that comes alone; that body was consumed, and nothing after it. `over` is how
 -- often the reader was called after the last answered body.
-pub record Session {S : Type 0} (f : Frames) (alone : List ℕ → Bool) (turn : TurnOf S) (ends : EndOf S) (last : List ℕ)
+pub record Session {S : Type 0} (f : Frames) (barrier : List ℕ → Bool) (turn : TurnOf S) (ends : EndOf S)
+    (last : List ℕ)
     (input input' : Input) (out out' : Output) (old new : S) (served : Served) : Type 0 where
   pub bodies : List (List ℕ)
   pub handed : List (List (List ℕ))
@@ -259,13 +260,13 @@ pub record Session {S : Type 0} (f : Frames) (alone : List ℕ → Bool) (turn :
   pub ended : ends mid held new
   pub count : served.requests ≡ length bodies
   pub read : Known (ReadTo f stop bodies) input.left input'.left
-  pub can : CanStop f alone served.requests stop
+  pub can : CanStop f barrier served.requests stop
   pub calls : CallsReader served.requests over input input'
   pub few : over ≤ max_read_calls
   pub cause : HasReaderCause served.requests stop over input'.faulted
   pub sound : input.steady ≡ true → ReaderStands served.requests stop
   pub written : AllHaveLeft f last served.why stop handed held out out'
-      ⊎ WriterFails f alone last served.why stop bodies handed held out out'
+      ⊎ WriterFails f barrier last served.why stop bodies handed held out out'
 
 -- these replies were written and flushed, or the writer failed
 abbrev pub HandsOn : (List ℕ → List ℕ) → End → End → List (List ℕ) → Output → Output → Type 0

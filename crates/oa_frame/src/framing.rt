@@ -1,14 +1,14 @@
 //! How bodies are delimited in a stream of bytes.
 ghost use Rattle.std.specs.Prelude.{length, vec_capacity};
-ghost use Rattle.oa_stream.specs.Ahead.{ahead, passed};
+ghost use Rattle.oa_stream.specs.BufferedSource.{ahead, passed};
 ghost use Rattle.oa_frame.specs.Beginnings.{AreUnbroken, HoldLongest, KeepPlaces};
-ghost use Rattle.oa_frame.specs.Framings.{GrowsTo, Hands, Inputs, Fits, frames, ends_in_read_fault};
+ghost use Rattle.oa_frame.specs.Framings.{GrowsTo, Hands, Inputs, IsBodyAt, frames, ends_in_read_fault};
 ghost use Rattle.oa_frame.specs.Paces.{Paced};
 
 use crate::End;
 use crate::hex_lines::read_hex;
 use crate::records::read_record;
-use oa_stream::{Ahead, Sink, Source};
+use oa_stream::{BufferedSource, Sink, Source};
 
 /// How bodies and replies are delimited on a stream (this project's choice).
 #[derive(Clone, Copy, Debug, PartialEq, Eq)]
@@ -43,7 +43,7 @@ pub enum Read {
 #[inline(always)]
 pub fn read_body<R: Source + Drop, W: Sink>(
     framing: Framing,
-    reader: &mut Ahead<R>,
+    reader: &mut BufferedSource<R>,
     writer: &mut W,
     line: &mut Vec<u8>,
     body: &mut Vec<u8>,
@@ -52,7 +52,7 @@ pub fn read_body<R: Source + Drop, W: Sink>(
     requires buffers { HoldLongest (vec_capacity line.now) (vec_capacity body.now) }
     requires unbroken { AreUnbroken (ahead R.input reader.old) (W.out writer.old) }
     ensures places { KeepPlaces (vec_capacity line.old) (vec_capacity line.new) (vec_capacity body.old) (vec_capacity body.new) }
-    ensures within { Fits result body.new.items (passed reader.new) }
+    ensures within { IsBodyAt result body.new.items (passed reader.new) }
     ensures longest { GrowsTo result (length body.old.items) (length body.new.items) }
     ensures input { Inputs (frames framing) result number body.new.items (passed reader.new) (ahead R.input reader.old).left (ahead R.input reader.new).left }
     ensures paced { Paced (ends_in_read_fault result) (ahead R.input reader.old) (ahead R.input reader.new) }

@@ -3,18 +3,18 @@ ghost use Rattle.std.specs.Prelude.{◌≡◌, ◌<◌, ◌≤◌, ◌+◌, ◌*
 ghost use Rattle.std.specs.Prelude.{Ok, IfSome, IsErr, IsNone};
 ghost use Rattle.hex.specs.Hex.{decode_of, pair_value};
 ghost use Rattle.oa_model.specs.Limits.{max_request_bytes};
-ghost use Rattle.oa_stream.specs.Ahead.{ahead, passed};
+ghost use Rattle.oa_stream.specs.BufferedSource.{ahead, passed};
 ghost use Rattle.oa_frame.specs.Beginnings.{AreUnbroken, HoldLongest};
 ghost use Rattle.oa_frame.specs.Digits.{AreDecoded, HasBadPair, HasDigitValue, HasNoDigit, IsDigitValue};
 ghost use Rattle.oa_frame.specs.Lines.{DecodesLine, without_return};
-ghost use Rattle.oa_frame.specs.Framings.{GrowsTo, Hands, Inputs, Fits, hex_lines, ends_in_read_fault};
+ghost use Rattle.oa_frame.specs.Framings.{GrowsTo, Hands, Inputs, IsBodyAt, hex_lines, ends_in_read_fault};
 ghost use Rattle.oa_frame.specs.Paces.{Paced};
 
 use crate::buffer::lengthen;
 use crate::lines::{Found, LINE_LIMIT, read_line};
 use crate::{End, Read};
 use memchr::memchr;
-use oa_stream::{Ahead, Sink, Source, Unwritten};
+use oa_stream::{BufferedSource, Sink, Source, Unwritten};
 use std::simd::prelude::*;
 
 /// The number of bytes that are decoded at a time.
@@ -24,7 +24,7 @@ const BLOCK: usize = 16;
 /// whole is decoded in place.
 #[inline(always)]
 pub(crate) fn read_hex<R: Source + Drop, W: Sink>(
-    reader: &mut Ahead<R>,
+    reader: &mut BufferedSource<R>,
     writer: &mut W,
     line: &mut Vec<u8>,
     body: &mut Vec<u8>,
@@ -34,7 +34,7 @@ pub(crate) fn read_hex<R: Source + Drop, W: Sink>(
     requires unbroken { AreUnbroken (ahead R.input reader.old) (W.out writer.old) }
     ensures capacity { vec_capacity line.old ≤ vec_capacity line.new }
     ensures buffer { vec_capacity body.old ≤ vec_capacity body.new }
-    ensures within { Fits result body.new.items (passed reader.new) }
+    ensures within { IsBodyAt result body.new.items (passed reader.new) }
     ensures longest { GrowsTo result (length body.old.items) (length body.new.items) }
     ensures input { Inputs hex_lines result number body.new.items (passed reader.new) (ahead R.input reader.old).left (ahead R.input reader.new).left }
     ensures paced { Paced (ends_in_read_fault result) (ahead R.input reader.old) (ahead R.input reader.new) }
@@ -53,7 +53,7 @@ pub(crate) fn read_hex<R: Source + Drop, W: Sink>(
 /// client that sends the line has received all replies.
 #[inline(never)]
 fn read_on<R: Source + Drop, W: Sink>(
-    reader: &mut Ahead<R>,
+    reader: &mut BufferedSource<R>,
     writer: &mut W,
     line: &mut Vec<u8>,
     body: &mut Vec<u8>,
@@ -63,7 +63,7 @@ fn read_on<R: Source + Drop, W: Sink>(
     requires unbroken { AreUnbroken (ahead R.input reader.old) (W.out writer.old) }
     ensures capacity { vec_capacity line.old ≤ vec_capacity line.new }
     ensures buffer { vec_capacity body.old ≤ vec_capacity body.new }
-    ensures within { Fits result body.new.items (passed reader.new) }
+    ensures within { IsBodyAt result body.new.items (passed reader.new) }
     ensures longest { GrowsTo result (length body.old.items) (length body.new.items) }
     ensures input { Inputs hex_lines result number body.new.items (passed reader.new) (ahead R.input reader.old).left (ahead R.input reader.new).left }
     ensures paced { Paced (ends_in_read_fault result) (ahead R.input reader.old) (ahead R.input reader.new) }

@@ -17,10 +17,10 @@ pub fn one_line()
 /// In a framing, bytes contain one list of bodies and one end of it, unless a fault of the reader
 /// ended the reading.
 pub fn one_end()
-    ensures { (framing : AFraming) (bytes rest rest' : List ℕ) (alone : List ℕ → Bool) (bodies others : List (List ℕ)) (why other : AnEnd)
+    ensures { (framing : AFraming) (bytes rest rest' : List ℕ) (barrier : List ℕ → Bool) (bodies others : List (List ℕ)) (why other : AnEnd)
         → ReadTo (frames framing) (At why) bodies bytes rest
-        → CanStop (frames framing) alone (length bodies) (At why) → (why ≡ ReadFault → ⊥)
+        → CanStop (frames framing) barrier (length bodies) (At why) → (why ≡ ReadFault → ⊥)
         → ReadTo (frames framing) (At other) others bytes rest'
-        → CanStop (frames framing) alone (length others) (At other) → (other ≡ ReadFault → ⊥)
+        → CanStop (frames framing) barrier (length others) (At other) → (other ≡ ReadFault → ⊥)
         → (bodies ≡ others) × (why ≡ other) }
 {}

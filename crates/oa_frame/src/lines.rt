@@ -1,7 +1,7 @@
 //! Reading lines.
 ghost use Rattle.std.specs.Prelude.{◌≡◌, ◌≤◌, ◌+◌, ◌++◌, false, length, vec_capacity};
 ghost use Rattle.oa_model.specs.Limits.{max_line_characters};
-ghost use Rattle.oa_stream.specs.Ahead.{ahead, read_ahead};
+ghost use Rattle.oa_stream.specs.BufferedSource.{ahead, read_ahead};
 ghost use Rattle.oa_stream.specs.Sink.{IsHandedOn};
 ghost use Rattle.oa_frame.specs.Known.{Known};
 ghost use Rattle.oa_frame.specs.Lines.{FindsLine, FindsAtEnd, TakesPieces, is_lost, without_return};
@@ -9,7 +9,7 @@ ghost use Rattle.oa_frame.specs.Paces.{Paced};
 ghost use Rattle.oa_frame.specs.declared.lines.Found.TheVariants as Found;
 
 use memchr::memchr;
-use oa_stream::{Ahead, More, Sink, Source};
+use oa_stream::{BufferedSource, More, Sink, Source};
 
 /// The greatest number of characters of a line, without its end.
 pub(crate) const LINE_LIMIT: usize = oa_model::MAX_LINE_CHARACTERS as usize;
@@ -46,7 +46,7 @@ pub(crate) enum Piece {
 /// `LINE_LIMIT` characters, `Fault` a failed reader or more than `MAX_READ_CALLS` calls of it. The
 /// writer has been flushed, so a client that sends the line has received all replies.
 pub(crate) fn read_line<R: Source + Drop, W: Sink>(
-    reader: &mut Ahead<R>,
+    reader: &mut BufferedSource<R>,
     writer: &W,
     line: &mut Vec<u8>,
 ) -> Found
@@ -81,7 +81,7 @@ pub(crate) fn read_line<R: Source + Drop, W: Sink>(
 
 /// Consumes the part of the read-ahead buffer that belongs to the line, and appends it to `line`
 /// without the line feed.
-fn take_piece<R: Source + Drop>(reader: &mut Ahead<R>, line: &mut Vec<u8>) -> Piece
+fn take_piece<R: Source + Drop>(reader: &mut BufferedSource<R>, line: &mut Vec<u8>) -> Piece
     requires room { max_line_characters + 1 ≤ vec_capacity line.now }
     requires short { length line.old.items ≤ max_line_characters + 1 }
     ensures capacity { vec_capacity line.old ≤ vec_capacity line.new }

@@ -1,17 +1,17 @@
 //! Sessions over a reader and a writer.
 ghost use Rattle.std.specs.Prelude.{◌≡◌, ◌≤◌, ℕ, Bool, List, false, true, length, vec_capacity};
-ghost use Rattle.oa_stream.specs.Ahead.{ahead, passed};
+ghost use Rattle.oa_stream.specs.BufferedSource.{ahead, passed};
 ghost use Rattle.oa_stream.specs.Sink.{IsHandedOn, Puts};
 ghost use Rattle.oa_frame.specs.Beginnings.{AreUnbroken, HoldLongest};
-ghost use Rattle.oa_frame.specs.Framings.{Fits, body_of, frames};
+ghost use Rattle.oa_frame.specs.Framings.{IsBodyAt, body_of_read, frames};
 ghost use Rattle.oa_frame.specs.declared.framing.Read.TheVariants.{Body};
-ghost use Rattle.oa_frame.specs.Sessions.{Abandons, AnswersBody, AnswersNext, AnswersOwn, Closes, Finishes, HandsOn};
+ghost use Rattle.oa_frame.specs.Sessions.{AnswersBody, AnswersNext, AnswersOwn, Closes, DropsHeld, FlushesHeld, HandsOn};
 ghost use Rattle.oa_frame.specs.Sessions.{HasEnded, IsParted, Session, is_answered, last_reply, spelled_all, step};
 
 use crate::writing::put_reply;
 use crate::{End, Framing, Read, read_body};
 use oa_model::MAX_RECORDS;
-use oa_stream::{Ahead, Sink, Source, Unwritten};
+use oa_stream::{BufferedSource, Sink, Source, Unwritten};
 
 /// A server of one client. It may hold replies back, and send those to many bodies at once. A body
 /// that *comes alone* (REPLACE LIBRARY) is a barrier: held replies are written and flushed before
@@ -31,11 +31,11 @@ pub trait Responder {
 
     /// The bodies that come alone (barriers): held replies are written and flushed before such a
     /// body is answered.
-    ghost alone: { List ℕ → Bool };
+    ghost barrier: { List ℕ → Bool };
 
     /// Returns whether a body comes alone, so that held replies have to leave before it.
-    fn comes_alone(&self, body: &[u8]) -> bool
-        ensures { result ≡ alone body.now };
+    fn is_barrier(&self, body: &[u8]) -> bool
+        ensures { result ≡ barrier body.now };
 
     /// Answers one body that does not come alone, and writes in this framing the replies that are
     /// then ready. There may be none. Err: the writer failed.
@@ -47,13 +47,13 @@ pub trait Responder {
     ) -> Result<(), Unwritten>
         requires ready { ready self.old }
         requires unbroken { (W.out writer.old).broken ≡ false }
-        requires together { alone body.now ≡ false }
+        requires together { barrier body.now ≡ false }
         ensures answers { AnswersBody (frames framing) turn result body.now (W.out writer.old) (W.out writer.new) self.old self.new }
         ensures ready { ready self.new };
 
     /// Answers one body that comes alone, and writes its own reply, if any. No reply is held, and
     /// the writer has been flushed. Err: the writer failed.
-    fn respond_alone<W: Sink>(
+    fn respond_barrier<W: Sink>(
         &mut self,
         framing: Framing,
         body: &[u8],
@@ -61,7 +61,7 @@ pub trait Responder {
     ) -> Result<(), Unwritten>
         requires ready { ready self.old }
         requires unbroken { (W.out writer.old).broken ≡ false }
-        requires alone { alone body.now ≡ true }
+        requires barrier { barrier body.now ≡ true }
         requires ended { HasEnded ends self.old }
         requires apart { IsHandedOn (W.out writer.old) }
         ensures answers { AnswersOwn (frames framing) turn result body.now (W.out writer.old) (W.out writer.new) self.old self.new }
@@ -69,16 +69,16 @@ pub trait Responder {
 
     /// Writes the replies that are still held: the input has ended, or a body comes alone. Err: the
     /// writer failed, and the replies that were not written are lost.
-    fn finish<W: Sink>(&mut self, framing: Framing, writer: &mut W) -> Result<(), Unwritten>
+    fn flush_held<W: Sink>(&mut self, framing: Framing, writer: &mut W) -> Result<(), Unwritten>
         requires ready { ready self.old }
         requires unbroken { (W.out writer.old).broken ≡ false }
-        ensures finishes { Finishes (frames framing) ends result (W.out writer.old) (W.out writer.new) self.old self.new }
+        ensures finishes { FlushesHeld (frames framing) ends result (W.out writer.old) (W.out writer.new) self.old self.new }
         ensures ready { ready self.new };
 
     /// Ends the session after the writer has failed: the replies that are still held are lost.
-    fn abandon(&mut self)
+    fn drop_held(&mut self)
         requires ready { ready self.old }
-        ensures { Abandons ends self.old self.new };
+        ensures { DropsHeld ends self.old self.new };
 }
 
 /// The point at which the writer failed, of one client or of many.
@@ -112,7 +112,7 @@ pub fn serve<S: Responder, R: Source + Drop, W: Sink>(
     server: &mut S,
     framing: Framing,
     last: &[u8; 16],
-    reader: &mut Ahead<R>,
+    reader: &mut BufferedSource<R>,
     writer: &mut W,
     line: &mut Vec<u8>,
     body: &mut Vec<u8>,
@@ -120,7 +120,7 @@ pub fn serve<S: Responder, R: Source + Drop, W: Sink>(
     requires buffers { HoldLongest (vec_capacity line.now) (vec_capacity body.now) }
     requires ready { S.ready server.old }
     requires unbroken { AreUnbroken (ahead R.input reader.old) (W.out writer.old) }
-    ensures { Session (frames framing) S.alone (step S.alone S.turn S.ends) S.ends last.now (ahead R.input reader.old) (ahead R.input reader.new)
+    ensures { Session (frames framing) S.barrier (step S.barrier S.turn S.ends) S.ends last.now (ahead R.input reader.old) (ahead R.input reader.new)
         (W.out writer.old) (W.out writer.new) server.old server.new result }
 {
     let mut requests = 0u64;
@@ -131,7 +131,7 @@ pub fn serve<S: Responder, R: Source + Drop, W: Sink>(
                 match answer(server, framing, bytes, writer) {
                     Ok(()) => requests += 1,
                     Err(Loss::Answered) => {
-                        server.abandon();
+                        server.drop_held();
                         return Served {
                             requests: requests + 1,
                             why: End::WriteFault,
@@ -150,7 +150,7 @@ pub fn serve<S: Responder, R: Source + Drop, W: Sink>(
                 return Served { requests, why };
             }
             Read::Unwritten => {
-                server.abandon();
+                server.drop_held();
                 return Served {
                     requests,
                     why: End::WriteFault,
@@ -166,13 +166,13 @@ pub fn serve<S: Responder, R: Source + Drop, W: Sink>(
 /// buffer, otherwise the first of `buffer`.
 #[inline(always)]
 fn body_in<'a, R: Source + Drop>(
-    reader: &'a Ahead<R>,
+    reader: &'a BufferedSource<R>,
     buffer: &'a [u8],
     count: usize,
     is_ahead: bool,
 ) -> &'a [u8]
-    requires { Fits (Body count is_ahead) buffer.now (passed reader.now) }
-    ensures { result.now ≡ body_of count is_ahead buffer.now (passed reader.now) }
+    requires { IsBodyAt (Body count is_ahead) buffer.now (passed reader.now) }
+    ensures { result.now ≡ body_of_read count is_ahead buffer.now (passed reader.now) }
 {
     if is_ahead {
         reader.passed(count)
@@ -191,15 +191,15 @@ fn answer<S: Responder, W: Sink>(
 ) -> Result<(), Loss>
     requires ready { S.ready server.old }
     requires unbroken { (W.out writer.old).broken ≡ false }
-    ensures answers { AnswersNext (frames framing) S.alone S.turn S.ends result body.now (W.out writer.old) (W.out writer.new) server.old server.new }
+    ensures answers { AnswersNext (frames framing) S.barrier S.turn S.ends result body.now (W.out writer.old) (W.out writer.new) server.old server.new }
     ensures ready { S.ready server.new }
 {
-    if server.comes_alone(body) {
+    if server.is_barrier(body) {
         if let Err(_) = part(server, framing, writer) {
             return Err(Loss::Undone);
         }
         return server
-            .respond_alone(framing, body, writer)
+            .respond_barrier(framing, body, writer)
             .map_err(|_| Loss::Answered);
     }
     server
@@ -218,7 +218,7 @@ fn part<S: Responder, W: Sink>(
     ensures parts { IsParted (frames framing) S.ends result (W.out writer.old) (W.out writer.new) server.old server.new }
     ensures ready { S.ready server.new }
 {
-    server.finish(framing, writer)?;
+    server.flush_held(framing, writer)?;
     writer.deliver()
 }
 
@@ -277,7 +277,7 @@ fn close<S: Responder, W: Sink>(
     requires unbroken { (W.out writer.old).broken ≡ false }
     ensures { Closes (frames framing) S.ends last.now result why (W.out writer.old) (W.out writer.new) server.old server.new }
 {
-    match server.finish(framing, writer) {
+    match server.flush_held(framing, writer) {
         Ok(()) => hand_on(framing, last, writer, why),
         Err(_) => End::WriteFault,
     }

@@ -6,8 +6,8 @@ use Rattle.std.specs.Int.{w32, from_le_bytes}
 use Rattle.oa_model.specs.Limits.{max_request_bytes}
 use Rattle.oa_frame.specs.Framings.{NextRecord, records}
 use Rattle.oa_frame.specs.Sessions.{Bodies}
-use Rattle.oa_share.specs.Readers.{IsPartRecord, IsWholeRecord, said}
-use Rattle.oa_gateway.specs.Requests.{AreRequests, EndsRequests}
+use Rattle.oa_mux.specs.Readers.{IsPartRecord, IsWholeRecord, said}
+use Rattle.oa_gateway.specs.WholeRequests.{AreRequests, EndsRequests}
 
 -- a body and what follows it, and some bytes more
 next_then : (bytes body rest back : List ℕ) → NextRecord bytes body rest → NextRecord (bytes ++ back) body (rest ++ back)

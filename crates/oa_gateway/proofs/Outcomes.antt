@@ -6,20 +6,20 @@ use Rattle.std.proofs.lemmas.Bool.{cases_lt}
 use Rattle.std.proofs.lemmas.List.{append_assoc, drop-drop, get_or-drop, get_or-take, get_or_past, length-drop, length-take-le, set-get_or, take-append-drop}
 use Rattle.std.proofs.lemmas.Nat.{le_bytes_4}
 use Rattle.std.proofs.lemmas.Option.{slice_get-get_or}
-use Rattle.oa_share.specs.Frames.{frame_of}
+use Rattle.oa_mux.specs.Frames.{frame_of}
 use Rattle.oa_gateway.specs.Frames.{gateway_number}
 use Rattle.oa_gateway.specs.Hearing.{what_of, FirstFrame, HeardEnd, HeardReplies, Hearing, HearsAt, HearsFrame, IsNobodys, deed_of}
-use Rattle.oa_gateway.specs.Places.{Deed, Dropped, Ended, Given, Hears, HearsEnd, Number, Told, Wrong, after, hears_own, hears_own_end, number_of, told}
+use Rattle.oa_gateway.specs.Places.{Deed, Dropped, Ended, Given, Hears, HearsEnd, Number, Told, Wrong, after_deed, deed_outcome, hears_own, hears_own_end, place_number}
 use Rattle.oa_gateway.specs.declared.place.Fate.{Fate}
 use Rattle.oa_gateway.specs.declared.place.Fate.TheVariants as fate
-use Rattle.oa_gateway.specs.declared.place.Place.{Place}
+use Rattle.oa_gateway.specs.declared.place.NumberState.{NumberState}
 use Rattle.oa_gateway.specs.declared.place.Standing.{Standing}
 use Rattle.oa_gateway.specs.declared.place.Standing.TheVariants.{Absent, Present, Ending, Over}
 use Rattle.oa_gateway.specs.declared.hearing.Heard.{Heard}
 use Rattle.oa_gateway.specs.declared.hearing.Heard.TheVariants as heard
 
 -- ---- of the first frame
-pub end_heard : (h : Heard) (number : ℕ) (bytes : List ℕ) (old new : List Place) → FirstFrame bytes number [] → (FirstFrame bytes gateway_number [] → ⊥)
+pub end_heard : (h : Heard) (number : ℕ) (bytes : List ℕ) (old new : List NumberState) → FirstFrame bytes number [] → (FirstFrame bytes gateway_number [] → ⊥)
     → HeardEnd h number old new → Hearing h bytes old new
 end_heard heard.More number bytes old new f o h = absurd h
 end_heard heard.Answered number bytes old new f o h = absurd h
@@ -34,7 +34,7 @@ deed_is : (inside : List ℕ) → 0 < length inside → Hears inside ≡ deed_of
 deed_is [] some = absurd (omega (arith, some))
 deed_is (x ∷ xs) some = refl
 
-pub replies_heard : (h : Heard) (number : ℕ) (bytes inside : List ℕ) (places : List Place) → 0 < length inside → FirstFrame bytes number inside
+pub replies_heard : (h : Heard) (number : ℕ) (bytes inside : List ℕ) (places : List NumberState) → 0 < length inside → FirstFrame bytes number inside
     → (FirstFrame bytes gateway_number [] → ⊥) → HeardReplies h number inside places → Hearing h bytes places places
 replies_heard heard.More number bytes inside places some f o h = absurd h
 replies_heard heard.Answered number bytes inside places some f o h = absurd h
@@ -117,14 +117,14 @@ is_end bytes number count e f = subst (λ k. FirstFrame bytes number (slice_rang
 num : Standing → ℕ → Number
 num s owed = record { standing = s; owed = owed }
 
-replies_stay : (s : Standing) (owed : ℕ) (inside : List ℕ) → num s owed ≡ after (num s owed) (Hears inside)
+replies_stay : (s : Standing) (owed : ℕ) (inside : List ℕ) → num s owed ≡ after_deed (num s owed) (Hears inside)
 unfolding num
 replies_stay Absent owed inside = refl
 replies_stay Present owed inside = refl
 replies_stay Ending owed inside = refl
 replies_stay Over owed inside = refl
 
-pub stays : (n : Number) (inside : List ℕ) → n ≡ after n (Hears inside)
+pub stays : (n : Number) (inside : List ℕ) → n ≡ after_deed n (Hears inside)
 unfolding num
 stays n inside = replies_stay n.standing n.owed inside
 
@@ -135,7 +135,7 @@ none_ended true Ending inside e = cc
 none_ended true Over inside e = cc
 none_ended false s inside e = cc
 
-pub replies_end_nothing : (n : Number) (inside : List ℕ) → told n (Hears inside) ≡ Ended → ⊥
+pub replies_end_nothing : (n : Number) (inside : List ℕ) → deed_outcome n (Hears inside) ≡ Ended → ⊥
 replies_end_nothing n inside e = none_ended (n.owed == 0) n.standing inside e
 
 none_given : (b : Bool) (s : Standing) (inside : List ℕ) → (if b then hears_own_end s else Dropped) ≡ Given inside → ⊥
@@ -145,37 +145,37 @@ none_given true Ending inside e = cc
 none_given true Over inside e = cc
 none_given false s inside e = cc
 
-pub end_gives_nothing : (n : Number) (inside : List ℕ) → told n HearsEnd ≡ Given inside → ⊥
+pub end_gives_nothing : (n : Number) (inside : List ℕ) → deed_outcome n HearsEnd ≡ Given inside → ⊥
 end_gives_nothing n inside e = none_given (n.owed == 0) n.standing inside e
 
 -- ---- at a place
 
-pub heard_at : (places : List Place) (client : ℕ) (d : Place) (inside : List ℕ) (what : Told) → client < length places → told (number_of (get_or places client d)) (Hears inside) ≡ what
+pub heard_at : (places : List NumberState) (client : ℕ) (d : NumberState) (inside : List ℕ) (what : Told) → client < length places → deed_outcome (place_number (get_or places client d)) (Hears inside) ≡ what
     → HearsAt client (Hears inside) what places places
 heard_at places client d inside what there says = record {
   place = get_or places client d;
   is = slice_get-get_or places client d there;
   says = says;
   place' = get_or places client d;
-  goes = stays (number_of (get_or places client d)) inside;
+  goes = stays (place_number (get_or places client d)) inside;
   others = sym (set-get_or places client d);
 }
 
-pub nobodys : (places : List Place) (client : ℕ) (d : Place) (deed : Deed) → client < length places → told (number_of (get_or places client d)) deed ≡ Wrong → IsNobodys client deed places
+pub nobodys : (places : List NumberState) (client : ℕ) (d : NumberState) (deed : Deed) → client < length places → deed_outcome (place_number (get_or places client d)) deed ≡ Wrong → IsNobodys client deed places
 nobodys places client d deed there says = record { place = get_or places client d; is = slice_get-get_or places client d there; says = says }
 
-pub replies_wrong : (f : Fate) (n : Number) (inside : List ℕ) → (f ≡ fate.Ended) ⊎ (f ≡ fate.Wrong) → told n (Hears inside) ≡ what_of f inside → told n (Hears inside) ≡ Wrong
+pub replies_wrong : (f : Fate) (n : Number) (inside : List ℕ) → (f ≡ fate.Ended) ⊎ (f ≡ fate.Wrong) → deed_outcome n (Hears inside) ≡ what_of f inside → deed_outcome n (Hears inside) ≡ Wrong
 replies_wrong f n inside (inl e) h = absurd (replies_end_nothing n inside (h ∙ ap (λ (g : Fate). what_of g inside) e))
 replies_wrong f n inside (inr e) h = h ∙ ap (λ (g : Fate). what_of g inside) e
 
-pub end_wrong : (f : Fate) (n : Number) → (f ≡ fate.Given) ⊎ (f ≡ fate.Wrong) → told n HearsEnd ≡ what_of f [] → f ≡ fate.Wrong
+pub end_wrong : (f : Fate) (n : Number) → (f ≡ fate.Given) ⊎ (f ≡ fate.Wrong) → deed_outcome n HearsEnd ≡ what_of f [] → f ≡ fate.Wrong
 end_wrong f n (inl e) h = absurd (end_gives_nothing n [] (h ∙ ap (λ (g : Fate). what_of g []) e))
 end_wrong f n (inr e) h = e
 
-pub end_nobodys : (f : Fate) (places : List Place) (client : ℕ) (d new : Place) → client < length places → (f ≡ fate.Given) ⊎ (f ≡ fate.Wrong)
-    → told (number_of (get_or places client d)) HearsEnd ≡ what_of f [] → (f ≡ fate.Wrong → new ≡ get_or places client d) → IsNobodys client HearsEnd places × (set places client new ≡ places)
+pub end_nobodys : (f : Fate) (places : List NumberState) (client : ℕ) (d new : NumberState) → client < length places → (f ≡ fate.Given) ⊎ (f ≡ fate.Wrong)
+    → deed_outcome (place_number (get_or places client d)) HearsEnd ≡ what_of f [] → (f ≡ fate.Wrong → new ≡ get_or places client d) → IsNobodys client HearsEnd places × (set places client new ≡ places)
 end_nobodys f places client d new there either says same =
-    let w : f ≡ fate.Wrong = end_wrong f (number_of (get_or places client d)) either says in (
+    let w : f ≡ fate.Wrong = end_wrong f (place_number (get_or places client d)) either says in (
       nobodys places client d HearsEnd there (says ∙ ap (λ (g : Fate). what_of g []) w),
-      ap (λ (p : Place). set places client p) (same w) ∙ set-get_or places client d,
+      ap (λ (p : NumberState). set places client p) (same w) ∙ set-get_or places client d,
     )

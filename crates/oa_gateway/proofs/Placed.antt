@@ -8,7 +8,7 @@ use Rattle.std.specs.List.{between}
 use Rattle.std.specs.Prelude.{◌↔◌, false}
 use Rattle.oa_gateway.specs.Exclusive.{waits}
 use Rattle.oa_gateway.proofs.Queued.{clients}
-use Rattle.oa_gateway.specs.Queues.{Clients, IsQueue, IsWithout, goes_on, joined, queue_of, turn_of}
+use Rattle.oa_gateway.specs.Queues.{ClientQueue, IsQueue, IsWithout, enqueued, goes_on, queue_of, turn_of}
 use Rattle.oa_gateway.specs.declared.queue.NextTurn.{NextTurn}
 use Rattle.oa_gateway.specs.declared.queue.NextTurn.TheVariants.{Never, Last, Kept}
 use Rattle.oa_gateway.specs.declared.queue.Queue.{Queue}
@@ -116,8 +116,8 @@ pub has_gone : (xs : List ℕ) (q : Queue) (next : NextTurn) → q.next < q.end 
     → queue_of (record { kept = q.kept; next = q.next + 1; end = q.end }) xs ≡ turn_of (queue_of q xs) next
 has_gone xs q next some within is = rw is (sym (never_again (take q.kept xs) xs q.next q.end some (omega (arith, some, within))))
 
-pub is_last : (xs : List ℕ) (q : Queue) (next : NextTurn) (all : Clients) → q.next < q.end → q.end ≤ length xs → next ≡ Last
-    → all ≡ joined (get_or xs q.next 0) (queue_of (record { kept = q.kept; next = q.next + 1; end = q.end }) xs) → all ≡ turn_of (queue_of q xs) next
+pub is_last : (xs : List ℕ) (q : Queue) (next : NextTurn) (all : ClientQueue) → q.next < q.end → q.end ≤ length xs → next ≡ Last
+    → all ≡ enqueued (get_or xs q.next 0) (queue_of (record { kept = q.kept; next = q.next + 1; end = q.end }) xs) → all ≡ turn_of (queue_of q xs) next
 is_last xs q next all some within is it = it ∙ rw is (sym (last_again (take q.kept xs) xs q.next q.end some (omega (arith, some, within))))
 
 pub is_kept : (xs : List ℕ) (q : Queue) (next : NextTurn) → q.kept ≤ q.next → q.next < q.end → q.end ≤ length xs → next ≡ Kept

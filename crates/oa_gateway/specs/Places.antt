@@ -2,8 +2,8 @@
 -- (This project's choice.)
 use Rattle.std.specs.Prelude.{◌≡◌, ◌⊎◌, ◌<◌, ℕ, ◌+◌, ◌-◌, ◌==◌, if◌then◌else◌, List, [], ◌∷◌, length}
 use Rattle.std.specs.Prelude.{slice_index_or, ⊤}
-use Rattle.oa_share.specs.Marks.{StreamPiece, Last, pieces}
-use Rattle.oa_gateway.specs.declared.place.Place.{Place}
+use Rattle.oa_mux.specs.Marks.{StreamPiece, Last, pieces}
+use Rattle.oa_gateway.specs.declared.place.NumberState.{NumberState}
 use Rattle.oa_gateway.specs.declared.place.Standing.{Standing}
 use Rattle.oa_gateway.specs.declared.place.Standing.TheVariants.{Absent, Present, Ending, Over}
 
@@ -67,8 +67,8 @@ owes owed s Leaves = owed + owes_more s
 owes owed s (Hears bytes) = owed
 owes owed s HearsEnd = owed - 1
 
-abbrev pub after : Number → Deed → Number
-after n deed = record { standing = stands n.owed n.standing deed; owed = owes n.owed n.standing deed }
+abbrev pub after_deed : Number → Deed → Number
+after_deed n deed = record { standing = stands n.owed n.standing deed; owed = owes n.owed n.standing deed }
 
 -- what goes to the server for the number
 abbrev pub puts : Standing → Deed → List StreamPiece
@@ -106,12 +106,12 @@ hears_own_end Ending = Ended
 hears_own_end Over = Wrong
 
 -- the server answers the clients of a number one after another, each up to its end
-abbrev pub told : Number → Deed → Told
-told n (Sends bytes) = Dropped
-told n Closes = Dropped
-told n Leaves = Dropped
-told n (Hears bytes) = if n.owed == 0 then hears_own n.standing bytes else Dropped
-told n HearsEnd = if n.owed == 0 then hears_own_end n.standing else Dropped
+abbrev pub deed_outcome : Number → Deed → Told
+deed_outcome n (Sends bytes) = Dropped
+deed_outcome n Closes = Dropped
+deed_outcome n Leaves = Dropped
+deed_outcome n (Hears bytes) = if n.owed == 0 then hears_own n.standing bytes else Dropped
+deed_outcome n HearsEnd = if n.owed == 0 then hears_own_end n.standing else Dropped
 
 -- ---- as a place keeps it
 
@@ -119,8 +119,8 @@ abbrev pub standing_of : ℕ → Standing
 standing_of presence = if presence == 0 then Absent else if presence == 1 then Present
     else if presence == 2 then Ending else Over
 
-abbrev pub number_of : Place → Number
-number_of place = record { standing = standing_of place.presence; owed = place.owed }
+abbrev pub place_number : NumberState → Number
+place_number place = record { standing = standing_of place.presence; owed = place.owed }
 
 -- another server was started: it owes nothing, and receives nothing more of a client that was there
 abbrev pub begins_again : Standing → Standing
@@ -132,7 +132,7 @@ begins_again Over = Over
 abbrev pub restarted : Number → Number
 restarted n = record { standing = begins_again n.standing; owed = 0 }
 
-pub record AllRestarted (old new : List Place) : Type 0 where
+pub record AllRestarted (old new : List NumberState) : Type 0 where
   pub count : length new ≡ length old
-  pub each : (at : ℕ) (other : Place) → at < length old
-      → number_of (slice_index_or new at other) ≡ restarted (number_of (slice_index_or old at other))
+  pub each : (at : ℕ) (other : NumberState) → at < length old
+      → place_number (slice_index_or new at other) ≡ restarted (place_number (slice_index_or old at other))

@@ -1,11 +1,11 @@
 //! Frames for the server.
 ghost use Rattle.std.specs.Prelude.{◌≡◌, ◌<◌, ◌≤◌, ◌+◌, ◌∷◌, [], ◌++◌, length, take, ℕ, List, IfSome, IsNone};
-ghost use Rattle.oa_share.specs.Frames.{InHead, all_clients, frame_of, items_in, max_frame_bytes};
-ghost use Rattle.oa_share.specs.Marks.{Last, Now, Of, pieces};
-ghost use Rattle.oa_gateway.specs.Frames.{Spells, gateway_number, room_for};
+ghost use Rattle.oa_mux.specs.Frames.{InHead, all_clients, frame_of, max_frame_bytes, pieces_in};
+ghost use Rattle.oa_mux.specs.Marks.{Flush, Last, Of, pieces};
+ghost use Rattle.oa_gateway.specs.Frames.{SpellsFrames, gateway_number, room_for};
 
-use oa_share::laws::frames_are_read;
-use oa_share::{ALL_CLIENTS, MAX_FRAME_BYTES, frame_head};
+use oa_mux::laws::frames_are_read;
+use oa_mux::{ALL_CLIENTS, MAX_FRAME_BYTES, frame_head};
 
 /// The number by which the gateway itself ends as a client after a batch. Its end is answered after
 /// all earlier requests.
@@ -21,7 +21,7 @@ const MOST: usize = MAX_FRAME_BYTES as usize;
 /// of bytes of the frames; None if `out` may be too short for them.
 pub(crate) fn put_bytes(number: u32, bytes: &[u8], out: &mut [u8]) -> Option<usize>
     requires { number < all_clients }
-    ensures some { IfSome result (λ n. (n ≤ length out.new) × Spells number (take n out.new) (pieces bytes.now)) }
+    ensures some { IfSome result (λ n. (n ≤ length out.new) × SpellsFrames number (take n out.new) (pieces bytes.now)) }
     ensures none { IsNone result → length out.old < room_for (length bytes.now) }
 {
     if out.len() < bytes.len() || (out.len() - bytes.len()) / 8 < bytes.len() / MOST + 1 {
@@ -57,7 +57,7 @@ fn put_frame(number: u32, bytes: &[u8], out: &mut [u8])
 /// None if `out` is shorter.
 pub(crate) fn put_last(number: u32, out: &mut [u8]) -> Option<usize>
     requires { number < all_clients }
-    ensures some { IfSome result (λ n. (n ≤ length out.new) × Spells number (take n out.new) (Last ∷ [])) }
+    ensures some { IfSome result (λ n. (n ≤ length out.new) × SpellsFrames number (take n out.new) (Last ∷ [])) }
     ensures none { IsNone result → length out.old < 8 }
 {
     if out.len() < 8 {
@@ -72,7 +72,7 @@ pub(crate) fn put_last(number: u32, out: &mut [u8]) -> Option<usize>
 /// Returns 16, the number of their bytes; None if `out` is shorter.
 pub fn put_now(out: &mut [u8]) -> Option<usize>
     ensures some { IfSome result (λ n. (n ≤ length out.new) × ((rest : List ℕ)
-        → items_in (InHead []) (take n out.new ++ rest) ≡ Of gateway_number Last ∷ Now ∷ items_in (InHead []) rest)) }
+        → pieces_in (InHead []) (take n out.new ++ rest) ≡ Of gateway_number Last ∷ Flush ∷ pieces_in (InHead []) rest)) }
     ensures none { IsNone result → length out.old < 16 }
 {
     if out.len() < NOW_BYTES {

@@ -5,7 +5,7 @@ ghost use Rattle.oa_gateway.specs.Frames.{gateway_number};
 ghost use Rattle.oa_gateway.specs.Places.{AllRestarted};
 
 use crate::frames::GATEWAY;
-use crate::place::{Fate, Place};
+use crate::place::{Fate, NumberState};
 
 /// The decision on the first frame of the server's bytes.
 #[derive(Clone, Copy, Debug, PartialEq, Eq)]
@@ -34,7 +34,7 @@ struct Frame {
 
 /// Decides on the first frame of the server's bytes, and updates the state of its number.
 /// `places[n]` is the state of number n.
-pub fn hear(places: &mut [Place], bytes: &[u8]) -> Heard
+pub fn hear(places: &mut [NumberState], bytes: &[u8]) -> Heard
     ensures { Hearing result bytes.now places.old places.new }
 {
     let Some(frame) = first_frame(bytes) else {
@@ -54,7 +54,7 @@ pub fn hear(places: &mut [Place], bytes: &[u8]) -> Heard
 }
 
 /// Decides on `count` bytes of replies for a number.
-fn hear_replies(places: &[Place], client: u32, count: usize) -> Heard
+fn hear_replies(places: &[NumberState], client: u32, count: usize) -> Heard
     requires { client < length places.now }
     ensures { (inside : List ℕ) → length inside ≡ count → HeardReplies result client inside places.now }
 {
@@ -66,7 +66,7 @@ fn hear_replies(places: &[Place], client: u32, count: usize) -> Heard
 }
 
 /// Decides on an end for a number, and updates the state of the number.
-fn hear_end(places: &mut [Place], client: u32) -> Heard
+fn hear_end(places: &mut [NumberState], client: u32) -> Heard
     requires { client < length places.old }
     ensures { HeardEnd result client places.old places.new }
 {
@@ -95,7 +95,7 @@ fn first_frame(bytes: &[u8]) -> Option<Frame>
 
 /// Notes that the server has ended, and that another one was started. The new server owes nothing.
 /// It receives nothing of the clients that were there.
-pub fn restart(places: &mut [Place])
+pub fn restart(places: &mut [NumberState])
     ensures { AllRestarted places.old places.new }
 {
     for at in 0..places.len() {

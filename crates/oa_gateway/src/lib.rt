@@ -25,7 +25,7 @@ pub use disconnects::{Conduct, Patience, Verdict, heaviest, judge, must_give_way
 pub use exclusive::{Exclusion, Waiting, Whose, waiting_in};
 pub use frames::{GATEWAY, NOW_BYTES, put_now};
 pub use hearing::{Heard, hear, restart};
-pub use place::{ABSENT, ENDING, OVER, PRESENT, Place, Standing};
+pub use place::{ABSENT, ENDING, NumberState, OVER, PRESENT, Standing};
 pub use queue::Queue;
-pub use requests::{Requests, find_requests};
-pub use turns::{Taking, Turn};
+pub use requests::{WholeRequests, find_requests};
+pub use turns::{BatchLimits, Taking};

@@ -1,7 +1,7 @@
 //! A number of the server, which serves one client of the gateway after another.
 ghost use Rattle.std.specs.Prelude.{◌≡◌, ◌<◌, ◌≤◌, length, IfSome, IsNone, IsSome};
-ghost use Rattle.oa_gateway.specs.Frames.{Puts, gateway_number, room_for};
-ghost use Rattle.oa_gateway.specs.Places.{Closes, HearsEnd, Leaves, MayDo, Sends, after, number_of, restarted};
+ghost use Rattle.oa_gateway.specs.Frames.{PutsDeed, gateway_number, room_for};
+ghost use Rattle.oa_gateway.specs.Places.{Closes, HearsEnd, Leaves, MayDo, Sends, after_deed, place_number, restarted};
 ghost use Rattle.oa_gateway.specs.Hearing.{Becomes, EndBecomes};
 ghost use Rattle.oa_gateway.specs.declared.place.Fate.TheVariants as fate;
 
@@ -45,7 +45,7 @@ pub enum Fate {
 /// The state of a number.
 #[repr(C)]
 #[derive(Clone, Copy, Debug, PartialEq, Eq)]
-pub struct Place {
+pub struct NumberState {
     /// The state of its present client: `ABSENT`, `PRESENT`, `ENDING`, and `OVER` or any other
     /// number.
     pub presence: u32,
@@ -53,10 +53,10 @@ pub struct Place {
     pub owed: u32,
 }
 
-impl Place {
+impl NumberState {
     /// Returns the state of the number's present client.
     pub fn standing(&self) -> Standing
-        ensures { result ≡ (number_of self.now).standing }
+        ensures { result ≡ (place_number self.now).standing }
     {
         match self.presence {
             0 => Standing::Absent,
@@ -70,9 +70,9 @@ impl Place {
     /// number of bytes of these. None, and nothing is done, in three cases: the client has had its
     /// end, `number` is not one of a client, or `out` may be too short.
     pub fn send(&mut self, number: u32, bytes: &[u8], out: &mut [u8]) -> Option<usize>
-        ensures some { IfSome result (λ n. Puts (Sends bytes.now) number n out.new (number_of self.old) (number_of self.new)) }
+        ensures some { IfSome result (λ n. PutsDeed (Sends bytes.now) number n out.new (place_number self.old) (place_number self.new)) }
         ensures none { IsNone result → self.new ≡ self.old }
-        ensures succeeds { MayDo (number_of self.old) (Sends bytes.now) → number < gateway_number → room_for (length bytes.now) ≤ length out.old → IsSome result }
+        ensures succeeds { MayDo (place_number self.old) (Sends bytes.now) → number < gateway_number → room_for (length bytes.now) ≤ length out.old → IsSome result }
     {
         if number >= GATEWAY {
             return None;
@@ -89,8 +89,8 @@ impl Place {
     /// None if `out` may be too short.
     fn put(&mut self, number: u32, bytes: &[u8], out: &mut [u8]) -> Option<usize>
         requires client { number < gateway_number }
-        requires may { MayDo (number_of self.old) (Sends bytes.now) }
-        ensures some { IfSome result (λ n. Puts (Sends bytes.now) number n out.new (number_of self.old) (number_of self.new)) }
+        requires may { MayDo (place_number self.old) (Sends bytes.now) }
+        ensures some { IfSome result (λ n. PutsDeed (Sends bytes.now) number n out.new (place_number self.old) (place_number self.new)) }
         ensures none { IsNone result → (self.new ≡ self.old) × (length out.old < room_for (length bytes.now)) }
     {
         let count = put_bytes(number, bytes, out)?;
@@ -102,7 +102,7 @@ impl Place {
     /// `out`. Returns the number of bytes for the server, 8 or 0. None, and nothing is done, if
     /// `number` is not one of a client, or if `out` is too short.
     pub fn close(&mut self, number: u32, out: &mut [u8]) -> Option<usize>
-        ensures some { IfSome result (λ n. Puts Closes number n out.new (number_of self.old) (number_of self.new)) }
+        ensures some { IfSome result (λ n. PutsDeed Closes number n out.new (place_number self.old) (place_number self.new)) }
         ensures none { IsNone result → self.new ≡ self.old }
         ensures succeeds { number < gateway_number → 8 ≤ length out.old → IsSome result }
     {
@@ -131,7 +131,7 @@ impl Place {
     /// None, and nothing is done, in three cases: `number` is not one of a client, `out` is too
     /// short, or the server owes 2^32 - 1 ends.
     pub fn leave(&mut self, number: u32, out: &mut [u8]) -> Option<usize>
-        ensures some { IfSome result (λ n. Puts Leaves number n out.new (number_of self.old) (number_of self.new)) }
+        ensures some { IfSome result (λ n. PutsDeed Leaves number n out.new (place_number self.old) (place_number self.new)) }
         ensures none { IsNone result → self.new ≡ self.old }
         ensures succeeds { number < gateway_number → 8 ≤ length out.old → self.old.owed < 4294967295 → IsSome result }
     {
@@ -142,7 +142,7 @@ impl Place {
             Standing::Absent => Some(0),
             Standing::Present => {
                 let end = put_last(number, out)?;
-                *self = Place {
+                *self = NumberState {
                     presence: ABSENT,
                     owed: self.owed + 1,
                 };
@@ -162,7 +162,7 @@ impl Place {
 
     /// Decides on replies of the server for the number.
     pub(crate) fn hear(&self) -> Fate
-        ensures { Becomes result (number_of self.now) }
+        ensures { Becomes result (place_number self.now) }
     {
         if self.owed != 0 {
             return Fate::Dropped;
@@ -175,8 +175,8 @@ impl Place {
 
     /// Decides on an end that the server has sent for the number, and updates the state.
     pub(crate) fn hear_end(&mut self) -> Fate
-        ensures told { EndBecomes result (number_of self.old) }
-        ensures goes { number_of self.new ≡ after (number_of self.old) HearsEnd }
+        ensures told { EndBecomes result (place_number self.old) }
+        ensures goes { place_number self.new ≡ after_deed (place_number self.old) HearsEnd }
         ensures wrong { result ≡ fate.Wrong → self.new ≡ self.old }
     {
         if self.owed > 0 {
@@ -192,13 +192,13 @@ impl Place {
 
     /// Notes that another server was started: it owes no ends, and a present client is over.
     pub(crate) fn restart(&mut self)
-        ensures { number_of self.new ≡ restarted (number_of self.old) }
+        ensures { place_number self.new ≡ restarted (place_number self.old) }
     {
         let presence = if self.presence == ABSENT {
             ABSENT
         } else {
             OVER
         };
-        *self = Place { presence, owed: 0 };
+        *self = NumberState { presence, owed: 0 };
     }
 }

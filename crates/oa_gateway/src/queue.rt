@@ -1,6 +1,6 @@
 //! In which order clients have their turns.
 ghost use Rattle.std.specs.Prelude.{◌≡◌, ◌<◌, ◌≤◌, ◌+◌, ◌-◌, ℕ, true, false, length, slice_get, slice_index, IfSome, IsNone};
-ghost use Rattle.oa_gateway.specs.Queues.{HasRoom, IsQueue, IsWithout, begun, joined, next_batch, next_turn, queue_of, turn_of};
+ghost use Rattle.oa_gateway.specs.Queues.{HasQueueRoom, IsQueue, IsWithout, begun_queue, enqueued, next_batch, next_turn, queue_of, turn_of};
 
 /// The queue of clients that wait for turns, by their numbers in an array that the caller lends.
 /// Its fields are places in that array.
@@ -75,9 +75,9 @@ impl Queue {
     /// Adds a client with this number, which waits for its turn after all others. Returns `false`,
     /// and nothing is done, if the array has no place for it, or if this is no queue in the array.
     pub fn join(&mut self, places: &mut [u32], client: u32) -> bool
-        ensures done { result ≡ true → queue_of self.new places.new ≡ joined client (queue_of self.old places.old) }
+        ensures done { result ≡ true → queue_of self.new places.new ≡ enqueued client (queue_of self.old places.old) }
         ensures not { result ≡ false → (self.new ≡ self.old) × (places.new ≡ places.old) }
-        ensures succeeds { HasRoom self.old (length places.old) → result ≡ true }
+        ensures succeeds { HasQueueRoom self.old (length places.old) → result ≡ true }
         ensures queue { result ≡ true → IsQueue self.new (length places.new) }
     {
         if !self.is_in(places.len()) {
@@ -97,7 +97,7 @@ impl Queue {
     fn add(&mut self, places: &mut [u32], client: u32)
         requires queue { IsQueue self.old (length places.old) }
         requires room { self.old.end < length places.old }
-        ensures done { queue_of self.new places.new ≡ joined client (queue_of self.old places.old) }
+        ensures done { queue_of self.new places.new ≡ enqueued client (queue_of self.old places.old) }
         ensures queue { IsQueue self.new (length places.new) }
     {
         places[self.end] = client;
@@ -158,7 +158,7 @@ impl Queue {
     /// Ends a batch: all clients wait for turns in the next one. Returns `false`, and nothing is
     /// done, if this is no queue in the array.
     pub fn renew(&mut self, places: &mut [u32]) -> bool
-        ensures done { result ≡ true → queue_of self.new places.new ≡ begun (next_batch (queue_of self.old places.old)) }
+        ensures done { result ≡ true → queue_of self.new places.new ≡ begun_queue (next_batch (queue_of self.old places.old)) }
         ensures not { result ≡ false → (self.new ≡ self.old) × (places.new ≡ places.old) }
         ensures succeeds { IsQueue self.old (length places.old) → result ≡ true }
         ensures queue { result ≡ true → IsQueue self.new (length places.new) }

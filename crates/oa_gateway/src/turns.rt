@@ -1,6 +1,6 @@
 //! Which requests of a client go into a batch.
 ghost use Rattle.std.specs.Prelude.{◌≡◌, ◌<◌, ◌+◌};
-ghost use Rattle.oa_gateway.specs.Turns.{asked, asks, behind_other, behind_taking, invoke_asks, opcode_of, taking};
+ghost use Rattle.oa_gateway.specs.Turns.{asked, asks, behind_other, behind_taking, body_opcode, invoke_asks, taking};
 ghost use Rattle.oa_gateway.specs.declared.turns.Taking.TheVariants.{Taken};
 
 /// The opcode of INVOKE, which asks for something if it is a method or a get.
@@ -18,7 +18,7 @@ const LIST: u16 = 11;
 /// The limits of a client's further requests in a batch, and of the replies to the batch.
 #[repr(C)]
 #[derive(Clone, Copy, Debug, PartialEq, Eq)]
-pub struct Turn {
+pub struct BatchLimits {
     /// The number of further requests that it may put in.
     pub requests: u32,
     /// The number of further requests that ask for something, so that their replies may be long.
@@ -52,7 +52,7 @@ pub enum Taking {
     Lacks,
 }
 
-impl Turn {
+impl BatchLimits {
     /// Takes the next request of a client, with this body, into the batch, if the limits allow it.
     /// Returns the decision.
     pub fn take(&mut self, body: &[u8]) -> Taking
@@ -129,7 +129,7 @@ fn asks_for_something(body: &[u8]) -> bool
 
 /// Returns the opcode in a request's body, 0 if it has none.
 fn opcode(body: &[u8]) -> u16
-    ensures { result ≡ opcode_of body.now }
+    ensures { result ≡ body_opcode body.now }
 {
     if body.len() < 8 {
         return 0;

@@ -6,26 +6,26 @@
 #![tactic(auto)]
 
 ghost use Rattle.std.specs.Prelude.{◌≡◌, ◌<◌, ◌≤◌, ◌∷◌, ◌++◌, [], ℕ, List, Bool, true, false, length, take, slice_get, slice_index, Some, None};
-ghost use Rattle.oa_share.specs.Frames.{InHead, items_in};
-ghost use Rattle.oa_share.specs.Marks.{Last, Now, Of};
+ghost use Rattle.oa_mux.specs.Frames.{InHead, pieces_in};
+ghost use Rattle.oa_mux.specs.Marks.{Flush, Last, Of};
 ghost use Rattle.oa_gateway.specs.Beginnings.{begins};
 ghost use Rattle.oa_gateway.specs.Disconnects.{AllHaveRead, IsHeaviest, gives_way, judged};
 ghost use Rattle.oa_gateway.specs.Exclusive.{behind_batch, behind_holder, waiting_in, whose};
-ghost use Rattle.oa_gateway.specs.Frames.{Puts, gateway_number, room_for};
+ghost use Rattle.oa_gateway.specs.Frames.{PutsDeed, gateway_number, room_for};
 ghost use Rattle.oa_gateway.specs.Hearing.{Hearing};
-ghost use Rattle.oa_gateway.specs.Places.{AllRestarted, Closes, Leaves, MayDo, Sends, number_of};
-ghost use Rattle.oa_gateway.specs.Queues.{HasRoom, IsQueue, IsWithout, begun, joined, next_batch, next_turn, queue_of, turn_of};
-ghost use Rattle.oa_gateway.specs.Requests.{CutsAt};
+ghost use Rattle.oa_gateway.specs.Places.{AllRestarted, Closes, Leaves, MayDo, Sends, place_number};
+ghost use Rattle.oa_gateway.specs.Queues.{HasQueueRoom, IsQueue, IsWithout, begun_queue, enqueued, next_batch, next_turn, queue_of, turn_of};
+ghost use Rattle.oa_gateway.specs.WholeRequests.{CutsAt};
 ghost use Rattle.oa_gateway.specs.Turns.{behind_taking, taking};
 ghost use Rattle.oa_gateway.specs.declared.hearing.Heard.{Heard};
-ghost use Rattle.oa_gateway_c.specs.Heard.{frame_of};
+ghost use Rattle.oa_gateway_c.specs.Heard.{c_frame};
 ghost use Rattle.oa_gateway_c.specs.Taken.{taking_code};
 ghost use Rattle.oa_gateway_c.specs.Judged.{verdict_code};
 ghost use Rattle.oa_gateway_c.specs.Begun.{whose_code};
 
 use oa_gateway::{
-    Conduct, Exclusion, Heard, Moment, Patience, Place, Queue, Taking, Turn, Verdict, Whose,
-    waiting_in,
+    BatchLimits, Conduct, Exclusion, Heard, Moment, NumberState, Patience, Queue, Taking, Verdict,
+    Whose, waiting_in,
 };
 
 /// `Frame::what` of a frame that has not come whole.
@@ -70,15 +70,15 @@ pub extern "C" fn oa_find_requests(bytes: &[u8], ends: &mut bool) -> usize
 /// not one of a client, or `out` may be too short.
 #[unsafe(no_mangle)]
 pub extern "C" fn oa_send(
-    place: &mut Place,
+    place: &mut NumberState,
     number: u32,
     bytes: &[u8],
     out: &mut [u8],
     count: &mut usize,
 ) -> bool
-    ensures done { result ≡ true → Puts (Sends bytes.now) number count.new out.new (number_of place.old) (number_of place.new) }
+    ensures done { result ≡ true → PutsDeed (Sends bytes.now) number count.new out.new (place_number place.old) (place_number place.new) }
     ensures not { result ≡ false → place.new ≡ place.old }
-    ensures succeeds { MayDo (number_of place.old) (Sends bytes.now) → number < gateway_number → room_for (length bytes.now) ≤ length out.old
+    ensures succeeds { MayDo (place_number place.old) (Sends bytes.now) → number < gateway_number → room_for (length bytes.now) ≤ length out.old
         → result ≡ true }
 {
     let Some(sent) = place.send(number, bytes, out) else {
@@ -93,12 +93,12 @@ pub extern "C" fn oa_send(
 /// one of a client, or if `out` is too short.
 #[unsafe(no_mangle)]
 pub extern "C" fn oa_close(
-    place: &mut Place,
+    place: &mut NumberState,
     number: u32,
     out: &mut [u8],
     count: &mut usize,
 ) -> bool
-    ensures done { result ≡ true → Puts Closes number count.new out.new (number_of place.old) (number_of place.new) }
+    ensures done { result ≡ true → PutsDeed Closes number count.new out.new (place_number place.old) (place_number place.new) }
     ensures not { result ≡ false → place.new ≡ place.old }
     ensures succeeds { number < gateway_number → 8 ≤ length out.old → result ≡ true }
 {
@@ -115,12 +115,12 @@ pub extern "C" fn oa_close(
 /// server owes 2^32 - 1 ends.
 #[unsafe(no_mangle)]
 pub extern "C" fn oa_leave(
-    place: &mut Place,
+    place: &mut NumberState,
     number: u32,
     out: &mut [u8],
     count: &mut usize,
 ) -> bool
-    ensures done { result ≡ true → Puts Leaves number count.new out.new (number_of place.old) (number_of place.new) }
+    ensures done { result ≡ true → PutsDeed Leaves number count.new out.new (place_number place.old) (place_number place.new) }
     ensures not { result ≡ false → place.new ≡ place.old }
     ensures succeeds { number < gateway_number → 8 ≤ length out.old → place.old.owed < 4294967295 → result ≡ true }
 {
@@ -137,7 +137,7 @@ pub extern "C" fn oa_leave(
 pub extern "C" fn oa_put_now(out: &mut [u8], count: &mut usize) -> bool
     ensures within { result ≡ true → count.new ≤ length out.new }
     ensures done { result ≡ true → (rest : List ℕ)
-        → items_in (InHead []) (take count.new out.new ++ rest) ≡ Of gateway_number Last ∷ Now ∷ items_in (InHead []) rest }
+        → pieces_in (InHead []) (take count.new out.new ++ rest) ≡ Of gateway_number Last ∷ Flush ∷ pieces_in (InHead []) rest }
     ensures not { result ≡ false → length out.old < 16 }
 {
     let Some(put) = oa_gateway::put_now(out) else {
@@ -150,8 +150,8 @@ pub extern "C" fn oa_put_now(out: &mut [u8], count: &mut usize) -> bool
 /// Decides on the first frame of the server's bytes, and updates the state of its number.
 /// `places[n]` is the state of number n. The decision is `frame`.
 #[unsafe(no_mangle)]
-pub extern "C" fn oa_hear(places: &mut [Place], bytes: &[u8], frame: &mut Frame)
-    ensures { (heard : Heard) × (frame.new ≡ frame_of heard) × Hearing heard bytes.now places.old places.new }
+pub extern "C" fn oa_hear(places: &mut [NumberState], bytes: &[u8], frame: &mut Frame)
+    ensures { (heard : Heard) × (frame.new ≡ c_frame heard) × Hearing heard bytes.now places.old places.new }
 {
     let heard = oa_gateway::hear(places, bytes);
     *frame = told(heard);
@@ -159,7 +159,7 @@ pub extern "C" fn oa_hear(places: &mut [Place], bytes: &[u8], frame: &mut Frame)
 
 /// Returns the decision on a frame as C gets it.
 fn told(heard: Heard) -> Frame
-    ensures { result ≡ frame_of heard }
+    ensures { result ≡ c_frame heard }
 {
     match heard {
         Heard::More => Frame {
@@ -198,7 +198,7 @@ fn told(heard: Heard) -> Frame
 /// Notes that the server has ended, and that another one was started or will be. The new server
 /// owes nothing. It receives nothing of the clients that were there.
 #[unsafe(no_mangle)]
-pub extern "C" fn oa_restart(places: &mut [Place])
+pub extern "C" fn oa_restart(places: &mut [NumberState])
     ensures { AllRestarted places.old places.new }
 {
     oa_gateway::restart(places);
@@ -218,7 +218,7 @@ pub const LACKS: u32 = 4;
 /// Takes the next request of a client, with this body, into the batch, if the limits allow it.
 /// Returns the decision: `TAKEN`, `FULL`, `OFTEN`, `MUCH` or `LACKS`.
 #[unsafe(no_mangle)]
-pub extern "C" fn oa_take(turn: &mut Turn, body: &[u8]) -> u32
+pub extern "C" fn oa_take(turn: &mut BatchLimits, body: &[u8]) -> u32
     ensures decides { result ≡ taking_code (taking turn.old body.now) }
     ensures goes { turn.new ≡ behind_taking (taking turn.old body.now) turn.old body.now }
 {
@@ -242,9 +242,9 @@ fn number_of_taking(taking: Taking) -> u32
 /// nothing is done, if the array has no place for it, or if this is no queue in the array.
 #[unsafe(no_mangle)]
 pub extern "C" fn oa_join(queue: &mut Queue, places: &mut [u32], client: u32) -> bool
-    ensures done { result ≡ true → queue_of queue.new places.new ≡ joined client (queue_of queue.old places.old) }
+    ensures done { result ≡ true → queue_of queue.new places.new ≡ enqueued client (queue_of queue.old places.old) }
     ensures not { result ≡ false → (queue.new ≡ queue.old) × (places.new ≡ places.old) }
-    ensures succeeds { HasRoom queue.old (length places.old) → result ≡ true }
+    ensures succeeds { HasQueueRoom queue.old (length places.old) → result ≡ true }
     ensures sound { result ≡ true → IsQueue queue.new (length places.new) }
 {
     queue.join(places, client)
@@ -286,7 +286,7 @@ pub extern "C" fn oa_had_turn(
 /// if this is no queue in the array.
 #[unsafe(no_mangle)]
 pub extern "C" fn oa_renew(queue: &mut Queue, places: &mut [u32]) -> bool
-    ensures done { result ≡ true → queue_of queue.new places.new ≡ begun (next_batch (queue_of queue.old places.old)) }
+    ensures done { result ≡ true → queue_of queue.new places.new ≡ begun_queue (next_batch (queue_of queue.old places.old)) }
     ensures not { result ≡ false → (queue.new ≡ queue.old) × (places.new ≡ places.old) }
     ensures succeeds { IsQueue queue.old (length places.old) → result ≡ true }
     ensures sound { result ≡ true → IsQueue queue.new (length places.new) }

@@ -1,8 +1,8 @@
 -- A crash behind the last call that keeps all that was written leaves what a read gives.
 use Rattle.std.proofs.Common.{◌≡◌, ℕ, ◌+◌, ◌*◌, ◌-◌, ◌/◌, List, [], ◌∷◌, ◌++◌, take, drop, length, refl, sym, ◌∙◌, ap, arith}
 use Rattle.std.proofs.lemmas.List.{drop-drop, length-drop, take-append-drop, take_all}
-use Rattle.oa_disk.specs.Memory.{IsTornAt, contents_of, moments_of}
-use Rattle.oa_disk.specs.Ledger.{laid}
+use Rattle.oa_disk.specs.Memory.{IsTornAt, memory_contents, moments_of}
+use Rattle.oa_disk.specs.CallLog.{laid}
 use Rattle.oa_disk.specs.Replay.{DiskState, after_call, count_all, count_of, last_state, synced}
 use Rattle.oa_disk.specs.Tear.{torn_all}
 use Rattle.oa_disk.specs.declared.call.DeviceCall.{DeviceCall}
@@ -30,7 +30,7 @@ begun_all n = omega arith
 rest_of : (calls : List DeviceCall) (n : ℕ) → take ((2 * length calls + 1) / 2 - n) (drop n calls) ≡ drop n calls
 rest_of calls n = take_all ((2 * length calls + 1) / 2 - n) (drop n calls) (omega (arith, begun_all (length calls), length-drop n calls))
 
-pub kept_is_read : (disk : MemoryDisk) (image : List ℕ) → IsTornAt disk Kept (moments_of disk) image → image ≡ contents_of disk
+pub kept_is_read : (disk : MemoryDisk) (image : List ℕ) → IsTornAt disk Kept (moments_of disk) image → image ≡ memory_contents disk
 kept_is_read disk image torn =
     let first = synced (laid disk.first) in
     let calls = disk.ledger.calls.items in

@@ -2,17 +2,17 @@
 use Rattle.std.proofs.Common.{◌≡◌, ⊎_elim, ℕ, ◌+◌, ◌*◌, ◌-◌, ◌≤◌, List, length, sym, ◌∙◌, ap, subst, arith}
 use Rattle.oa_disk.specs.Disk.{Follows, LeavesStep, NothingPending}
 use Rattle.oa_disk.specs.declared.disk.Disk.{Ghosts}
-use Rattle.oa_groups.specs.Runs.{HoldsState}
-use Rattle.oa_canonical.specs.Canonical.{canonical}
+use Rattle.oa_group_commit.specs.Runs.{HoldsState}
+use Rattle.oa_printer.specs.Canonical.{canonical}
 use Rattle.oa_image.specs.Tables.{table_image}
 use Rattle.oa_journal.specs.Banks.{first_gate}
 use Rattle.oa_journal.specs.Reads.{WritesNothing}
 use Rattle.oa_journal.specs.Shapes.{body_bytes}
-use Rattle.oa_journal.specs.declared.shape.Shape.{Shape}
-use Rattle.oa_journal.specs.declared.shape.Shape.TheVariants.{Two}
+use Rattle.oa_journal.specs.declared.shape.BankFormat.{BankFormat}
+use Rattle.oa_journal.specs.declared.shape.BankFormat.TheVariants.{Two}
 use Rattle.oa_turn.specs.Beginnings.{CanBegin}
 use Rattle.oa_turn.specs.Events.{held_of}
-use Rattle.oa_server.specs.Requests.{opened, requests}
+use Rattle.oa_server.specs.ServerMachine.{opened, server_machine}
 use Rattle.oa_decision.specs.States.{State}
 use Rattle.oa_store.specs.Calls.{checkpoint_calls}
 use Rattle.oa_store.specs.Changes.{IsSwitch, IsSwitched}
@@ -27,7 +27,7 @@ pub within : (start mid end short gate one other : ℕ) → start ≡ 0 → mid 
 within start mid end short gate one other begins opens makes same = omega (arith, begins, opens, makes, same)
 
 -- a store was opened on a disk that holds the state
-module _ {D : Type 0} (g : Ghosts D) (disk : D) (state : State) (holds : HoldsState requests state (g.contents disk)) (store : Store D g) (text : List ℕ) (table : TableValue)
+module _ {D : Type 0} (g : Ghosts D) (disk : D) (state : State) (holds : HoldsState server_machine state (g.contents disk)) (store : Store D g) (text : List ℕ) (table : TableValue)
     (contents : IsStoreAt store.bank.shape store.chosen store.bank.gate text table (g.contents disk)) where
   same : AreSameStores store.bank.shape text table (Two state.bank) (canonical state.library) (held_of state)
   same = one_store (g.contents disk) text (canonical state.library) table (held_of state) (store.bank.shape, (store.chosen, store.bank.gate, contents)) (Two state.bank, holds)
@@ -36,11 +36,11 @@ module _ {D : Type 0} (g : Ghosts D) (disk : D) (state : State) (holds : HoldsSt
   fits unlocked begins =
       let table_is : table ≡ state.table = same.table_same ∙ ap (λ (s : State). s.table) unlocked in
       subst (λ (t : TableValue). length (table_image t) + 5242880 ≤ body_bytes store.bank.shape) (sym table_is)
-      (subst (λ (s : Shape). length (table_image state.table) + 5242880 ≤ body_bytes s) (sym same.shape_same) begins.serves.small)
+      (subst (λ (s : BankFormat). length (table_image state.table) + 5242880 ≤ body_bytes s) (sym same.shape_same) begins.serves.small)
 
   pub state_at : (chosen gate : ℕ) (c : List ℕ) → IsStoreAt store.bank.shape chosen gate text table c → IsStoreAt (Two state.bank) chosen gate (canonical state.library) (held_of state) c
   state_at chosen gate c is =
-      subst (λ (s : Shape). IsStoreAt s chosen gate (canonical state.library) (held_of state) c) same.shape_same
+      subst (λ (s : BankFormat). IsStoreAt s chosen gate (canonical state.library) (held_of state) c) same.shape_same
       (subst (λ (l : List ℕ). IsStoreAt store.bank.shape chosen gate l (held_of state) c) same.library_same
       (subst (λ (t : TableValue). IsStoreAt store.bank.shape chosen gate text t c) same.table_same is))
 
@@ -67,9 +67,9 @@ module _ {D : Type 0} (g : Ghosts D) (disk : D) (state : State) (holds : HoldsSt
 
     pub still_holds : NothingPending g.contents g.image disk → WritesNothing g.image g.moment g.image_since disk store.disk
         → LeavesStep g.moment g.image_since g.image store.disk new.disk (IsSwitch store.bank.shape store.chosen store.bank.gate store.bank.shape next text (unlocked_table table))
-        → (c : List ℕ) → g.image_since new.disk (g.moment disk) c → HoldsState requests state c
-    still_holds alone reads steps c since = ⊎_elim
-        (λ was. subst (λ (l : List ℕ). HoldsState requests state l) (sym (alone c (reads.moments.each c was))) holds)
+        → (c : List ℕ) → g.image_since new.disk (g.moment disk) c → HoldsState server_machine state c
+    still_holds barrier reads steps c since = ⊎_elim
+        (λ was. subst (λ (l : List ℕ). HoldsState server_machine state l) (sym (barrier c (reads.moments.each c was))) holds)
         (λ step. ⊎_elim
         (λ stays. (store.chosen, store.bank.gate, after store.chosen store.bank.gate c stays))
         (λ moves. (1 - store.chosen, next, after (1 - store.chosen) next c moves))

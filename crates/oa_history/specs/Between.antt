@@ -1,23 +1,23 @@
 -- Steps other than sessions: formatting a store, upgrading it to format 2, and a checkpoint.
 use Rattle.std.specs.Prelude.{◌≡◌, ◌⊎◌, ℕ, ◌+◌, ◌*◌, ◌-◌, ◌≤◌, IsTrue, true, min, List, length}
 use Rattle.oa_disk.specs.Disk.{Torn}
-use Rattle.oa_disk.specs.Memory.{IsTornAt, image_of, moments_of}
+use Rattle.oa_disk.specs.Memory.{IsTornAt, memory_image, moments_of}
 use Rattle.oa_disk.specs.declared.crash.Tear.{Tear}
 use Rattle.oa_disk.specs.declared.disk.Disk.{Ghosts}
 use Rattle.oa_disk.specs.declared.memory.MemoryDisk.{MemoryDisk}
-use Rattle.oa_canonical.specs.Canonical.{canonical}
-use Rattle.oa_groups.specs.Runs.{HoldsState}
+use Rattle.oa_printer.specs.Canonical.{canonical}
+use Rattle.oa_group_commit.specs.Runs.{HoldsState}
 use Rattle.oa_idl.specs.Trees.{TreeValue}
 use Rattle.oa_image.specs.Tables.{is_numbered}
 use Rattle.oa_journal.specs.Banks.{first_gate}
 use Rattle.oa_journal.specs.Reads.{WritesNothing}
-use Rattle.oa_journal.specs.declared.shape.Shape.TheVariants.{One, Two}
+use Rattle.oa_journal.specs.declared.shape.BankFormat.TheVariants.{One, Two}
 use Rattle.oa_turn.specs.Events.{held_of}
 use Rattle.oa_decision.specs.States.{State}
-use Rattle.oa_server.specs.Requests.{requests}
+use Rattle.oa_server.specs.ServerMachine.{server_machine}
 use Rattle.oa_store.specs.Calls.{checkpoint_calls, format_calls}
 use Rattle.oa_store.specs.Changes.{IsNoneOrFirst, IsUpgrade}
-use Rattle.oa_store.specs.Faults.{IsBrought}
+use Rattle.oa_store.specs.Faults.{IsMigrated}
 use Rattle.oa_store.specs.Stores.{IsStoreAt}
 use Rattle.oa_store.specs.declared.store.Store.{Store}
 use Rattle.oa_table.specs.Tables.{TableValue, unlocked_table}
@@ -41,7 +41,7 @@ pub record IsStoppedUpgrading (found : List ℕ) (bank : ℕ) (stop : Stop) (dis
     (left : List ℕ) : Type 0 where
   pub either : IsUpgrade bank found left
   pub torn : IsTornAt disk stop.tear (min stop.moment (moments_of disk)) left
-  pub brought : IsBrought bank found (image_of disk)
+  pub brought : IsMigrated bank found (memory_image disk)
   pub chosen : ℕ
   pub gate : ℕ
   pub was : IsStoreAt One chosen gate brought.was.library brought.was.table found
@@ -68,10 +68,10 @@ pub record IsCheckpointed (found : List ℕ) (stop : Stop) (disk : MemoryDisk) (
   pub chosen : ℕ
   pub gate : ℕ
   pub was : IsStoreAt (Two state.bank) chosen gate (canonical state.library) (held_of state) found
-  pub is : (c : List ℕ) → image_of disk c
+  pub is : (c : List ℕ) → memory_image disk c
       → IsStoreAt (Two state.bank) (1 - chosen) (first_gate (canonical state.library) (held_of state))
       (canonical state.library) (held_of state) c
   pub torn : IsTornAt disk stop.tear (min stop.moment (moments_of disk)) left
   pub calls : moments_of disk + length (canonical state.library)
       ≤ 20 + gate + 2 * checkpoint_calls (canonical state.library) (held_of state)
-  pub holds : HoldsState requests state left
+  pub holds : HoldsState server_machine state left

@@ -5,24 +5,24 @@ use Rattle.oa_record.specs.Replacement.{is_replacement}
 use Rattle.oa_stream.specs.Memory.{gathered_output}
 use Rattle.oa_stream.specs.Sink.{Output}
 use Rattle.oa_stream.specs.Source.{Input as Read, in_memory}
-use Rattle.oa_stream.specs.declared.gathered.Gathered.{Gathered}
-use Rattle.oa_server.specs.Desks.{all_frames}
-use Rattle.oa_server.specs.SharedSessions.{HasServedClients}
+use Rattle.oa_stream.specs.declared.gathered.VecSink.{VecSink}
+use Rattle.oa_server.specs.SharedGroups.{all_frames}
+use Rattle.oa_server.specs.SharedSessions.{IsSharedSession}
 use Rattle.oa_server.specs.SharedTalks.{asked_written}
-use Rattle.oa_server.specs.Sharing.{ClientReply, Leaves, Replies, Shared, client_in, shared, tagged}
+use Rattle.oa_server.specs.Sharing.{ClientReply, Leaves, Replies, Shared, client_in, shared, tagged_body}
 use Rattle.oa_server.specs.Storages.{OverStore, disk_of}
 use Rattle.oa_server.specs.Stretches.{ServesStretch}
-use Rattle.oa_server.specs.declared.engine.Engine.{Engine}
+use Rattle.oa_server.specs.declared.engine.ServerState.{ServerState}
 use Rattle.oa_server.specs.declared.server.Server.{Server}
 use Rattle.oa_server.specs.declared.storage.Storage.{Storage}
 use Rattle.oa_server.specs.declared.storage.Storage.TheVariants.{Disk, Memory}
-use Rattle.oa_share.specs.Marks.{Now, Of, Owned}
-use Rattle.oa_share.specs.Readers.{Brought}
-use Rattle.oa_share.specs.Shared.{starting}
-use Rattle.oa_share.specs.Talking.{AllTurned, ServesClients, ends_at, parted}
-use Rattle.oa_share.specs.declared.session_end.SessionEnd.{SessionEnd}
+use Rattle.oa_mux.specs.Marks.{Flush, Of, Tagged}
+use Rattle.oa_mux.specs.Readers.{Brought}
+use Rattle.oa_mux.specs.Shared.{starting}
+use Rattle.oa_mux.specs.Talking.{AllTurned, ServesClients, ends_at, parted}
+use Rattle.oa_mux.specs.declared.session_end.SessionEnd.{SessionEnd}
 use Rattle.oa_store.specs.declared.store.Store.{Store}
-use Rattle.oa_history.specs.Stops.{Done, Made}
+use Rattle.oa_history.specs.KeepsDurablePrefix.{CallSequence, CompletedCall}
 use Rattle.oa_history.specs.declared.session.SharedInput.{SharedInput}
 use Rattle.oa_history.specs.declared.session.WrittenFrames.{WrittenFrames}
 
@@ -49,19 +49,19 @@ RepliesGoToClients {D} g =
 
 -- the requests of some turns, in the one order of all clients: a body, or the end of a client, with its client's
 -- number; a *now* is none
-abbrev pub requests_in : List (Owned Brought) → List (List ℕ)
+abbrev pub requests_in : List (Tagged Brought) → List (List ℕ)
 requests_in [] = []
-requests_in (Of client brought ∷ asks) = tagged client brought ∷ requests_in asks
-requests_in (Now ∷ asks) = requests_in asks
+requests_in (Of client brought ∷ asks) = tagged_body client brought ∷ requests_in asks
+requests_in (Flush ∷ asks) = requests_in asks
 
 -- these frames are sent at the last of some turns, and none before
-abbrev pub at_last_turn : List (Owned Brought) → List (ℕ × List ℕ) → List (List (ℕ × List ℕ))
+abbrev pub at_last_turn : List (Tagged Brought) → List (ℕ × List ℕ) → List (List (ℕ × List ℕ))
 at_last_turn [] frames = []
 at_last_turn (ask ∷ []) frames = frames ∷ []
 at_last_turn (ask ∷ (next ∷ asks)) frames = [] ∷ at_last_turn (next ∷ asks) frames
 
 -- the points in time of the disk's clock at which these turns ended
-abbrev pub ends_of_turns : {D : Type 0} {g : Ghosts D} (old new : Engine D g) (asks : List (Owned Brought))
+abbrev pub ends_of_turns : {D : Type 0} {g : Ghosts D} (old new : ServerState D g) (asks : List (Tagged Brought))
     (tolds : List (List (ℕ × List ℕ)))
     → AllTurned asked_written old asks tolds new → List ℕ
 ends_of_turns old new [] tolds run = []
@@ -71,11 +71,11 @@ ends_of_turns {g = g} old new (ask ∷ asks) (told ∷ tolds) run =
 
 -- These turns, which ended at these points in time, are these calls, in groups of a size: each call has the requests
 -- of the next turns, and ends when the last of these does. The frames that are sent then are those of its replies.
-abbrev pub AreTurnsOf : ℕ → List (Done ClientReply) → List (Owned Brought) → List (List (ℕ × List ℕ)) → List ℕ
+abbrev pub AreTurnsOf : ℕ → List (CompletedCall ClientReply) → List (Tagged Brought) → List (List (ℕ × List ℕ)) → List ℕ
     → Type 0
 AreTurnsOf size [] asks tolds ends = (asks ≡ []) × (tolds ≡ []) × (ends ≡ [])
 AreTurnsOf size (one ∷ calls) asks tolds ends =
-    (own : List (Owned Brought)) × (later : List (Owned Brought)) × (others : List (List (ℕ × List ℕ)))
+    (own : List (Tagged Brought)) × (later : List (Tagged Brought)) × (others : List (List (ℕ × List ℕ)))
     × (before : List ℕ) × (after : List ℕ)
     × (one.call.size ≡ size)
     × (one.call.bodies ≡ requests_in own) × (asks ≡ own ++ later)
@@ -87,39 +87,39 @@ AreTurnsOf size (one ∷ calls) asks tolds ends =
 -- when frames are sent, or at a *now*.
 abbrev pub TurnsAreCalls : {D : Type 0} → Ghosts D → Type 0
 TurnsAreCalls {D} g =
-    (old new : Engine D g) (start : Store D g) (asks : List (Owned Brought)) (tolds : List (List (ℕ × List ℕ)))
+    (old new : ServerState D g) (start : Store D g) (asks : List (Tagged Brought)) (tolds : List (List (ℕ × List ℕ)))
     → old.storage ≡ Disk start → old.desk.open_group.replies.items ≡ [] → old.desk.open_group.batch ≡ []
-    → (run : AllTurned asked_written old (asks ++ Now ∷ []) tolds new)
-    → (calls : List (Done ClientReply))
-    × AreTurnsOf old.desk.open_group.size calls (asks ++ Now ∷ []) tolds
-    (ends_of_turns old new (asks ++ Now ∷ []) tolds run)
-    × Made ServesShared old.storage (shared old.host old.desk.owners) calls new.storage
+    → (run : AllTurned asked_written old (asks ++ Flush ∷ []) tolds new)
+    → (calls : List (CompletedCall ClientReply))
+    × AreTurnsOf old.desk.open_group.size calls (asks ++ Flush ∷ []) tolds
+    (ends_of_turns old new (asks ++ Flush ∷ []) tolds run)
+    × CallSequence ServesShared old.storage (shared old.host old.desk.owners) calls new.storage
     (shared new.host new.desk.owners)
 
 -- ---- a session
 
 -- all turns that were made: the requests, then ends of clients, and a last *now*
 abbrev pub turns_asked : {D : Type 0} {g : Ghosts D} {input input' : Read} {out out' : Output}
-    {old new : Engine D g} {why : SessionEnd}
-    → ServesClients is_replacement asked_written starting input input' out out' old new why → List (Owned Brought)
+    {old new : ServerState D g} {why : SessionEnd}
+    → ServesClients is_replacement asked_written starting input input' out out' old new why → List (Tagged Brought)
 turns_asked {why = why} is =
     parted is_replacement is.asked
-    ++ (⊎_elim (λ all. ends_at why is.streams.clients) (λ fails. fails.ends) is.done ++ Now ∷ [])
+    ++ (⊎_elim (λ all. ends_at why is.streams.clients) (λ fails. fails.ends) is.done ++ Flush ∷ [])
 
 -- the frames that were sent at each
 abbrev pub turns_told : {D : Type 0} {g : Ghosts D} {input input' : Read} {out out' : Output}
-    {old new : Engine D g} {why : SessionEnd}
+    {old new : ServerState D g} {why : SessionEnd}
     → ServesClients is_replacement asked_written starting input input' out out' old new why → List (List (ℕ × List ℕ))
 turns_told is = ⊎_elim (λ all. all.told.tolds) (λ fails. fails.loses.given ++ fails.loses.unheard) is.done
 
 -- and when each ended
 abbrev pub turns_ended : {D : Type 0} {g : Ghosts D} {input input' : Read} {out out' : Output}
-    {old new : Engine D g} {why : SessionEnd}
+    {old new : ServerState D g} {why : SessionEnd}
     → ServesClients is_replacement asked_written starting input input' out out' old new why → List ℕ
 turns_ended {old = old} {new = new} {why = why} is = ⊎_elim
-    (λ all. ends_of_turns old new (parted is_replacement is.asked ++ (ends_at why is.streams.clients ++ Now ∷ []))
+    (λ all. ends_of_turns old new (parted is_replacement is.asked ++ (ends_at why is.streams.clients ++ Flush ∷ []))
     all.told.tolds all.told.run)
-    (λ fails. ends_of_turns old new (parted is_replacement is.asked ++ (fails.ends ++ Now ∷ []))
+    (λ fails. ends_of_turns old new (parted is_replacement is.asked ++ (fails.ends ++ Flush ∷ []))
     (fails.loses.given ++ fails.loses.unheard) fails.loses.run)
     is.done
 
@@ -129,12 +129,12 @@ turns_ended {old = old} {new = new} {why = why} is = ⊎_elim
 -- still have their locks.
 pub record HasWrittenFrames {D : Type 0} {g : Ghosts D} (input : SharedInput) (written : WrittenFrames)
     (old : Server D g)
-    (done : List (Done ClientReply)) (last : Storage D g) (end : Shared) : Type 0 where
-  pub empty : Gathered
+    (done : List (CompletedCall ClientReply)) (last : Storage D g) (end : Shared) : Type 0 where
+  pub empty : VecSink
   pub nothing : empty.bytes.items ≡ []
   pub unread : Read
   pub new : Server D g
-  pub served : HasServedClients (in_memory input.bytes.items) unread (gathered_output empty)
+  pub served : IsSharedSession (in_memory input.bytes.items) unread (gathered_output empty)
       (gathered_output written.output) input.group
       old.engine new.engine written.why
   pub are : AreTurnsOf input.group done (turns_asked served.serves) (turns_told served.serves)
@@ -146,6 +146,6 @@ pub record HasWrittenFrames {D : Type 0} {g : Ghosts D} (input : SharedInput) (w
 abbrev pub MakesCalls : {D : Type 0} {g : Ghosts D} → SharedInput → WrittenFrames → Server D g → Server D g → Type 0
 MakesCalls input written old new =
     OverStore old.engine.storage (λ store. Unit {0})
-    → (done : List (Done ClientReply)) × (end : Shared)
+    → (done : List (CompletedCall ClientReply)) × (end : Shared)
     × HasWrittenFrames input written old done new.engine.storage end
-    × Made ServesShared old.engine.storage (shared old.engine.host []) done new.engine.storage end
+    × CallSequence ServesShared old.engine.storage (shared old.engine.host []) done new.engine.storage end

@@ -1,8 +1,8 @@
 pub mod Between
 pub mod Framed
 pub mod Kept
-pub mod Lived
+pub mod CrashHistories
 pub mod OneGroup
-pub mod Stops
-pub mod Streamed
-pub mod Survived
+pub mod KeepsDurablePrefix
+pub mod StreamedSessions
+pub mod FaultHistories

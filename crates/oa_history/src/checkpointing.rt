@@ -1,10 +1,10 @@
 //! A checkpoint between two sessions, and its crash.
 ghost use Rattle.std.specs.Prelude.{◌≡◌, false, IfOk, IfErr};
-ghost use Rattle.oa_disk.specs.Memory.{contents_of};
+ghost use Rattle.oa_disk.specs.Memory.{memory_contents};
 ghost use Rattle.oa_journal.specs.Shapes.{body_bytes};
 ghost use Rattle.oa_image.specs.Tables.{FitsBank};
 ghost use Rattle.oa_decision.specs.States.{State};
-ghost use Rattle.oa_history.specs.Kept.{IsKept, IsFreshDisk, IsWanting};
+ghost use Rattle.oa_history.specs.Kept.{IsRecoverable, IsFreshDisk, IsWanting};
 ghost use Rattle.oa_history.specs.Between.{IsCheckpointed, IsFoundStore};
 
 use crate::reopening::library_on;
@@ -21,7 +21,7 @@ fn opened_store(alloc: Global, disk: MemoryDisk) -> Result<(Store<MemoryDisk>, T
     ensures opened { IfOk result (λ r. IsFoundStore disk r.0 r.1) }
     ensures goes_on { IfOk result (λ r. r.0.stopped ≡ false) }
     ensures room { IfOk result (λ r. FitsBank (body_bytes r.0.bank.shape) r.1) }
-    ensures wanting { IfErr result (λ fault. (state : State) → IsKept disk state → IsWanting fault) }
+    ensures wanting { IfErr result (λ fault. (state : State) → IsRecoverable disk state → IsWanting fault) }
 {
     let library = library_on(alloc, &disk)?;
     library.is_checked();
@@ -45,9 +45,9 @@ pub fn checkpointed(
 ) -> Result<(MemoryDisk, MemoryDisk), HistoryFault>
     requires { IsFreshDisk disk }
     ensures settled { IfOk result (λ r. IsFreshDisk r.1) }
-    ensures checkpointed { IfOk result (λ r. (state : State) → IsKept disk state
-        → IsCheckpointed (contents_of disk) stop r.0 (contents_of r.1) state × IsKept r.1 state) }
-    ensures wanting { IfErr result (λ fault. (state : State) → IsKept disk state → IsWanting fault) }
+    ensures checkpointed { IfOk result (λ r. (state : State) → IsRecoverable disk state
+        → IsCheckpointed (memory_contents disk) stop r.0 (memory_contents r.1) state × IsRecoverable r.1 state) }
+    ensures wanting { IfErr result (λ fault. (state : State) → IsRecoverable disk state → IsWanting fault) }
 {
     let (mut store, table) = opened_store(alloc, disk)?;
     if let Err(fault) = store.checkpoint(&table) {

@@ -1,11 +1,11 @@
 //! A new store whose formatting crashes.
 ghost use Rattle.std.specs.Prelude.{◌≤◌, IfOk, IfErr};
-ghost use Rattle.oa_disk.specs.Memory.{contents_of, moments_of};
+ghost use Rattle.oa_disk.specs.Memory.{memory_contents, moments_of};
 ghost use Rattle.oa_journal.specs.Shapes.{least_bank_bytes, most_bank_bytes};
 ghost use Rattle.oa_decision.specs.States.{state_of};
 ghost use Rattle.oa_table.specs.Tables.{first_table};
 ghost use Rattle.oa_history.specs.Between.{IsStoppedFormatting};
-ghost use Rattle.oa_history.specs.Kept.{IsKept, IsFreshDisk, IsUnmade};
+ghost use Rattle.oa_history.specs.Kept.{IsRecoverable, IsFreshDisk, IsUnmade};
 
 use crate::HistoryFault;
 use oa_disk::{MemoryDisk, Tear};
@@ -30,8 +30,8 @@ pub fn formatted(
     requires least { least_bank_bytes ≤ bank }
     requires most { bank ≤ most_bank_bytes }
     ensures settled { IfOk result (λ r. IsFreshDisk r.1) }
-    ensures formatted { IfOk result (λ r. IsStoppedFormatting (contents_of disk) library.now bank moment tear r.0 (contents_of r.1)) }
-    ensures kept { IfOk result (λ r. moments_of r.0 ≤ moment → IsKept r.1 (state_of bank library.now first_table)) }
+    ensures formatted { IfOk result (λ r. IsStoppedFormatting (memory_contents disk) library.now bank moment tear r.0 (memory_contents r.1)) }
+    ensures kept { IfOk result (λ r. moments_of r.0 ≤ moment → IsRecoverable r.1 (state_of bank library.now first_table)) }
     ensures wanting { IfErr result (IsUnmade bank disk.first.size) }
 {
     library.is_checked();

@@ -1,7 +1,7 @@
 //! Theorems that relate calls with groups, and with the turns of many clients.
 ghost use Rattle.oa_history.specs.Framed.{RepliesGoToClients, TurnsAreCalls};
 ghost use Rattle.oa_history.specs.OneGroup.{FewAreOneGroup};
-ghost use Rattle.oa_server.specs.Requests.{requests};
+ghost use Rattle.oa_server.specs.ServerMachine.{server_machine};
 
 use oa_disk::Disk;
 
@@ -10,7 +10,7 @@ use oa_disk::Disk;
 /// statements about calls that have returned by a crash are true of groups. These are the groups
 /// whose last call of the disk has ended by then.
 pub fn a_call_of_few_is_one_group()
-    ensures { FewAreOneGroup requests }
+    ensures { FewAreOneGroup server_machine }
 {}
 
 /// The requests of many clients over a store, up to a *now*, are calls that were served, one after

@@ -1,14 +1,14 @@
 //! An upgrade of a store from format 1 to format 2, and its crash.
 ghost use Rattle.std.specs.Prelude.{◌≤◌, IfOk, IfErr};
-ghost use Rattle.oa_disk.specs.Memory.{contents_of, moments_of};
+ghost use Rattle.oa_disk.specs.Memory.{memory_contents, moments_of};
 ghost use Rattle.oa_journal.specs.Shapes.{least_bank_bytes, most_bank_bytes};
 ghost use Rattle.oa_decision.specs.States.{State};
 ghost use Rattle.oa_history.specs.Between.{IsStoppedUpgrading};
-ghost use Rattle.oa_history.specs.Kept.{CanBecome, IsFreshDisk, IsKept, IsUnbrought};
+ghost use Rattle.oa_history.specs.Kept.{CanBecome, IsFreshDisk, IsRecoverable, IsUnbrought};
 
 use crate::{HistoryFault, Stop};
-use oa_canonical::laws::marked_is_read;
 use oa_disk::MemoryDisk;
+use oa_printer::laws::marked_is_read;
 use oa_store::laws::what_can_be_brought_is_not_refused;
 use oa_store::upgrade;
 use std::alloc::Global;
@@ -27,10 +27,10 @@ pub fn upgraded(
     requires least { least_bank_bytes ≤ bank }
     requires most { bank ≤ most_bank_bytes }
     ensures settled { IfOk result (λ r. IsFreshDisk r.1) }
-    ensures upgraded { IfOk result (λ r. IsStoppedUpgrading (contents_of disk) bank stop r.0 (contents_of r.1)) }
-    ensures kept { IfOk result (λ r. moments_of r.0 ≤ stop.moment → (state : State) → CanBecome bank (contents_of disk) state
-        → IsKept r.1 state) }
-    ensures wanting { IfErr result (λ fault. (state : State) → CanBecome bank (contents_of disk) state
+    ensures upgraded { IfOk result (λ r. IsStoppedUpgrading (memory_contents disk) bank stop r.0 (memory_contents r.1)) }
+    ensures kept { IfOk result (λ r. moments_of r.0 ≤ stop.moment → (state : State) → CanBecome bank (memory_contents disk) state
+        → IsRecoverable r.1 state) }
+    ensures wanting { IfErr result (λ fault. (state : State) → CanBecome bank (memory_contents disk) state
         → IsUnbrought bank disk.first.size fault) }
 {
     marked_is_read();

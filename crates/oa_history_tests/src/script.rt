@@ -5,7 +5,8 @@ ghost use Rattle.oa_history.specs.Kept.{IsFreshDisk};
 
 use oa_disk::{MemoryDisk, Tear};
 use oa_history::{
-    Answer, Asked, Heard, Replies, ServerCall, Session, Stop, checkpointed, formatted, stopped,
+    Answer, Asked, CrashedSession, Replies, ServerCall, Stop, Transcript, checkpointed, formatted,
+    stopped,
 };
 use oa_idl::parse;
 use oa_record::Reply;
@@ -183,7 +184,7 @@ fn lines_of(alloc: Global, answers: &[Answer]) -> String {
 
 /// Returns whether a session has these replies: as lines, or as the bytes written to a stream that
 /// ended after this many requests.
-pub(crate) fn is_answered(alloc: Global, heard: &Heard, requests: usize, due: &[u8]) -> bool {
+pub(crate) fn is_answered(alloc: Global, heard: &Transcript, requests: usize, due: &[u8]) -> bool {
     match &heard.replies {
         Replies::Calls(answers) => {
             let text = lines_of(alloc, answers.as_slice());
@@ -214,7 +215,12 @@ fn place_of(text: &str, least: usize, most: usize) -> Option<usize> {
 
 /// Returns the number of kept requests, from `least` to `most`, according to a session that reads
 /// the three properties; None if there is no such number.
-pub(crate) fn place_in(alloc: Global, heard: &Heard, least: usize, most: usize) -> Option<usize> {
+pub(crate) fn place_in(
+    alloc: Global,
+    heard: &Transcript,
+    least: usize,
+    most: usize,
+) -> Option<usize> {
     match &heard.replies {
         Replies::Calls(answers) => {
             let text = lines_of(alloc, answers.as_slice());
@@ -291,11 +297,15 @@ pub(crate) fn left_by(disk: &MemoryDisk, tear: Tear) -> Option<MemoryDisk>
 
 /// Runs a session of these calls to its end. Returns its replies and the disk after it; None if it
 /// cannot be run.
-fn played(alloc: Global, disk: MemoryDisk, calls: Vec<ServerCall>) -> Option<(Heard, MemoryDisk)>
+fn played(
+    alloc: Global,
+    disk: MemoryDisk,
+    calls: Vec<ServerCall>,
+) -> Option<(Transcript, MemoryDisk)>
     requires { IsFreshDisk disk }
     ensures { IfSome result (λ r. IsFreshDisk r.1) }
 {
-    let session = Session {
+    let session = CrashedSession {
         asked: Asked::Calls(calls),
         moment: END,
         tear: Tear::Lost,

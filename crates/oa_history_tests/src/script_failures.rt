@@ -7,7 +7,7 @@ use crate::script::{
     next_store, read_by, read_of, second,
 };
 use oa_disk::{DeviceFault, MemoryDisk, Tear};
-use oa_history::{ServerCall, Survived, Told, survive, withstood};
+use oa_history::{CallOutcome, FaultHistory, ServerCall, run_with_faults, session_with_faults};
 use oa_model::HResult;
 use oa_server::Server;
 use oa_typelib::Library;
@@ -27,7 +27,7 @@ struct Due {
 /// Returns the expected state after calls with these replies, or `None` if the replies or the
 /// counts of failures are wrong. Successful requests come first, then those of the group that
 /// failed, and then all others.
-fn due_of_calls(all: &[Told], first: usize) -> Option<Due> {
+fn due_of_calls(all: &[CallOutcome], first: usize) -> Option<Due> {
     let mut least = first;
     let mut most = first;
     let mut late = false;
@@ -59,7 +59,11 @@ fn due_of_calls(all: &[Told], first: usize) -> Option<Due> {
 
 /// Returns the expected state after these calls. An open that fails returns the kind of call that
 /// failed: the first call is a sync, the others are reads.
-fn due_of(told: &Result<Vec<Told>, DeviceFault>, first: usize, first_failing: u64) -> Option<Due> {
+fn due_of(
+    told: &Result<Vec<CallOutcome>, DeviceFault>,
+    first: usize,
+    first_failing: u64,
+) -> Option<Due> {
     match told {
         Ok(all) => due_of_calls(all.as_slice(), first),
         Err(fault) => {
@@ -116,7 +120,7 @@ fn kind_of(due: Due, place: usize) -> Option<usize> {
 /// that are kept on the disk that they returned, and the number of power losses that were tried.
 fn found_behind(
     alloc: Global,
-    told: &Result<Vec<Told>, DeviceFault>,
+    told: &Result<Vec<CallOutcome>, DeviceFault>,
     back: MemoryDisk,
     first: usize,
     first_failing: u64,
@@ -136,7 +140,7 @@ fn failed(
     first_failing: u64,
 ) -> Option<(Due, usize, u64)> {
     let disk = left_by(disk, Tear::Kept)?;
-    let (told, back) = withstood(alloc, disk, calls, first_failing).ok()?;
+    let (told, back) = session_with_faults(alloc, disk, calls, first_failing).ok()?;
     found_behind(alloc, &told, back, first, first_failing)
 }
 
@@ -164,11 +168,11 @@ fn failures(
     None
 }
 
-/// Returns the expected state after the calls of `survive`, and how many of the requests are kept.
+/// Returns the expected state after the calls of `run_with_faults`, and how many of the requests are kept.
 fn found_by(
     alloc: Global,
     library: &Library,
-    survived: &mut Survived,
+    survived: &mut FaultHistory,
     first_failing: u64,
 ) -> Option<(Due, usize)> {
     let due = due_of(&survived.told, 0, first_failing)?;
@@ -180,18 +184,18 @@ fn found_by(
     }
 }
 
-/// Runs these calls with `survive` on a new store, on a disk that fails from call `first_failing`
+/// Runs these calls with `run_with_faults` on a new store, on a disk that fails from call `first_failing`
 /// on.
 fn survived(alloc: Global, calls: &[ServerCall], first_failing: u64) -> Option<(Due, usize)> {
     let library = library(alloc)?;
     let disk = new_disk(alloc)?;
-    match survive(alloc, &library, BANK, disk, calls, first_failing) {
+    match run_with_faults(alloc, &library, BANK, disk, calls, first_failing) {
         Ok(mut survived) => found_by(alloc, &library, &mut survived, first_failing),
         Err(_) => None,
     }
 }
 
-/// Runs the first session as `failures` does, but with `survive`, without power losses, and checks
+/// Runs the first session as `failures` does, but with `run_with_faults`, without power losses, and checks
 /// the library and the table that it returns.
 fn survivals(alloc: Global, group: usize) -> Option<[u64; 4]>
     requires { 1 ≤ group }

@@ -1,4 +1,4 @@
-//! The script as histories of `relive`. In each, one of the three steps crashes, at each point in
+//! The script as histories of `run_history`. In each, one of the three steps crashes, at each point in
 //! time with each tear, and then the open after it at each of its own points, one after another.
 //! The sessions are calls or streams. A session after all crashes and the server that the history
 //! returns read what is kept.
@@ -11,7 +11,9 @@ use crate::script::{
     read_by, reads, replies, second,
 };
 use oa_frame::Framing;
-use oa_history::{Asked, Heard, Input, Lived, Session, Step, Stop, relive};
+use oa_history::{
+    Asked, CrashHistory, CrashedSession, Step, Stop, StreamInput, Transcript, run_history,
+};
 use oa_typelib::Library;
 use std::alloc::Global;
 use std::rt::HostRuntime;
@@ -56,7 +58,7 @@ fn asked_of(alloc: Global, lines: &[&str], way: Way) -> Option<Asked> {
     match way.framing {
         Some(framing) => {
             let bytes = bytes_of(alloc, lines, framing)?;
-            Some(Asked::Stream(Input::new(bytes, framing, way.group)))
+            Some(Asked::Stream(StreamInput::new(bytes, framing, way.group)))
         }
         None => Some(Asked::Calls(calls_of(alloc, lines, way.group)?)),
     }
@@ -64,12 +66,12 @@ fn asked_of(alloc: Global, lines: &[&str], way: Way) -> Option<Asked> {
 
 /// Adds a session with this input.
 fn add(steps: &mut Vec<Step>, asked: Asked, stop: Stop) -> Option<()> {
-    let session = Session {
+    let session = CrashedSession {
         asked,
         moment: stop.moment,
         tear: stop.tear,
     };
-    steps.push(Step::Session(session)).ok()
+    steps.push(Step::CrashedSession(session)).ok()
 }
 
 /// Adds one of the three steps of the script: a session, a checkpoint, and another session.
@@ -112,7 +114,7 @@ static BOUNDS: [(usize, usize); 3] = [(0, 5), (5, 5), (5, 7)];
 
 /// Returns whether a step of the script in this form has the replies to the requests from number
 /// `from` to before number `to`.
-fn is_due(alloc: Global, heard: &Heard, way: Way, from: usize, to: usize) -> Option<bool> {
+fn is_due(alloc: Global, heard: &Transcript, way: Way, from: usize, to: usize) -> Option<bool> {
     let framing = way.framing.unwrap_or(Framing::HexLines);
     let due = bytes_of(alloc, replies(from, to)?, framing)?;
     Some(is_answered(alloc, heard, to.saturating_sub(from), due.as_slice()))
@@ -120,7 +122,13 @@ fn is_due(alloc: Global, heard: &Heard, way: Way, from: usize, to: usize) -> Opt
 
 /// Returns the number of kept requests. None if the step has other replies, or a group that was
 /// committed before the crash is lost.
-fn kept_of(alloc: Global, heard: &[Heard], step: usize, way: Way, stop: Stop) -> Option<usize> {
+fn kept_of(
+    alloc: Global,
+    heard: &[Transcript],
+    step: usize,
+    way: Way,
+    stop: Stop,
+) -> Option<usize> {
     let (before, behind) = *BOUNDS.get(step)?;
     if is_due(alloc, heard.get(step)?, way, before, behind) != Some(true) {
         return None;
@@ -136,7 +144,7 @@ fn kept_of(alloc: Global, heard: &[Heard], step: usize, way: Way, stop: Stop) ->
 fn ends_of(
     alloc: Global,
     library: &Library,
-    lived: &mut Lived,
+    lived: &mut CrashHistory,
     step: usize,
     way: Way,
     stop: Stop,
@@ -158,7 +166,7 @@ fn history(alloc: Global, step: usize, way: Way, stop: Stop) -> Option<(u64, u64
     add_all(alloc, &mut steps, step, way, stop)?;
     let library = library(alloc)?;
     let disk = new_disk(alloc)?;
-    match relive(alloc, &library, BANK, disk, steps.as_slice()) {
+    match run_history(alloc, &library, BANK, disk, steps.as_slice()) {
         Ok(mut lived) => ends_of(alloc, &library, &mut lived, step, way, stop),
         Err(_) => None,
     }

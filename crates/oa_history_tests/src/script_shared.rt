@@ -1,4 +1,4 @@
-//! The script as histories of `relive` with many clients, which make the requests of the two
+//! The script as histories of `run_history` with many clients, which make the requests of the two
 //! sessions in turn. Each record comes in two frames, and the first frame of the next client is
 //! between them. One of the three steps crashes, at each point in time with each tear. The server
 //! that the history returns reads what is kept.
@@ -9,7 +9,9 @@ use crate::counts::{checkpoint_moments, groups_over, session_moments};
 use crate::script::{
     BANK, END, TEARS, are_told, expect, first, library, new_disk, read_by, replies, second,
 };
-use oa_history::{Asked, Heard, Lived, Replies, Session, SharedInput, Step, Stop, relive};
+use oa_history::{
+    Asked, CrashHistory, CrashedSession, Replies, SharedInput, Step, Stop, Transcript, run_history,
+};
 use oa_server::SessionEnd;
 use oa_typelib::Library;
 use std::alloc::Global;
@@ -112,12 +114,12 @@ fn due_frames(alloc: Global, lines: &[&str], way: Way) -> Option<Vec<u8>> {
 
 /// Adds a session with these requests.
 fn add(alloc: Global, steps: &mut Vec<Step>, lines: &[&str], way: Way, stop: Stop) -> Option<()> {
-    let session = Session {
+    let session = CrashedSession {
         asked: Asked::Frames(SharedInput::new(frames_of(alloc, lines, way)?, way.group)),
         moment: stop.moment,
         tear: stop.tear,
     };
-    steps.push(Step::Session(session)).ok()
+    steps.push(Step::CrashedSession(session)).ok()
 }
 
 /// Adds one of the three steps of the script: a session, a checkpoint, and another session.
@@ -148,7 +150,7 @@ static BOUNDS: [(usize, usize); 3] = [(0, 5), (5, 5), (5, 7)];
 
 /// Returns the last point in time of a step whose replies are these frames, or `None` if it has
 /// other replies.
-fn end_of(heard: &Heard, due: &[u8]) -> Option<u64> {
+fn end_of(heard: &Transcript, due: &[u8]) -> Option<u64> {
     match &heard.replies {
         Replies::Frames(written) => {
             if written.output.bytes() == due && written.why == SessionEnd::Closed {
@@ -181,7 +183,7 @@ fn least_of(way: Way, stop: Stop, before: usize, behind: usize) -> Option<usize>
 fn end_in(
     alloc: Global,
     library: &Library,
-    lived: &mut Lived,
+    lived: &mut CrashHistory,
     step: usize,
     way: Way,
     stop: Stop,
@@ -203,7 +205,7 @@ fn history(alloc: Global, step: usize, way: Way, stop: Stop) -> Option<u64> {
     let steps = steps_to(alloc, step, way, stop)?;
     let library = library(alloc)?;
     let disk = new_disk(alloc)?;
-    match relive(alloc, &library, BANK, disk, steps.as_slice()) {
+    match run_history(alloc, &library, BANK, disk, steps.as_slice()) {
         Ok(mut lived) => end_in(alloc, &library, &mut lived, step, way, stop),
         Err(_) => None,
     }

@@ -15,7 +15,7 @@ use Rattle.oa_tokens.specs.Tokens.{AreTokens}
 use Rattle.oa_idl.specs.Forms.{Word, Then, ◌▸◌, nothing, BeginsWithWords}
 use Rattle.oa_idl.specs.Words.{passes, word_of, words_of}
 use Rattle.oa_idl.specs.Reading.ReadStep.{Got, Stuck}
-use Rattle.oa_idl.specs.Grammar.{sign, library}
+use Rattle.oa_idl.specs.Grammar.{symbol, library}
 use Rattle.oa_idl.specs.GrammarReading.{library_at}
 use Rattle.oa_idl.specs.Limits.{KeepsLimit}
 use Rattle.oa_idl.specs.TextLimits.{limit_of}
@@ -53,7 +53,7 @@ closed_after text close f =
       is = c.is;
     }
 
-closed_sign : (text : List Word) → (sign [] ▸ nothing) text → Closed text
+closed_sign : (text : List Word) → (symbol [] ▸ nothing) text → Closed text
 closed_sign text f = record { front = []; word = f.first.word; parts = f.parts ∙ ap (λ (ws : List Word). f.front ++ ws) f.second ∙ append-nil f.front ∙ f.first.parts; is = f.first.is }
 
 closed_text : (t : TreeValue) (text : List Word) → library t text → Closed text

@@ -6,14 +6,14 @@ use Rattle.oa_idl.specs.declared.stop.TreeLimit.{TreeLimit}
 use Rattle.oa_idl.specs.declared.stop.Stop.{Stop}
 use Rattle.oa_idl.specs.declared.stop.Stop.TheVariants.{Syntax}
 use Rattle.oa_idl.specs.Forms.{Word, Then, ◌▸◌, given, this, optional}
-use Rattle.oa_idl.specs.Reading.{Reading, and_then, bind, give, heads, done, choose, later_words, this_at}
+use Rattle.oa_idl.specs.Reading.{Parser, and_then, bind, give, heads, done, choose, later_words, this_at}
 use Rattle.oa_idl.specs.Reading.{perhaps_at}
 use Rattle.oa_idl.specs.Reading.ReadStep.{Got, Stuck}
 use Rattle.oa_idl.proofs.Parses.{Parses, Stops, Takes, begins_heads, got, got_is, stuck_at, test_cases}
 use Rattle.oa_idl.proofs.PartParses.{skip_parses}
 
 -- A parser of a part of a form accepts only sequences of the form.
-part_takes : {n : ℕ} {C : Type 0} {R : C → Type 0} {F A : C → List Word → Type 0} {K : TreeLimit → C → Type 0} {Q : C → Type 0} {read : Reading C}
+part_takes : {n : ℕ} {C : Type 0} {R : C → Type 0} {F A : C → List Word → Type 0} {K : TreeLimit → C → Type 0} {Q : C → Type 0} {read : Parser C}
     → Parses n R A K Q read → ((c : C) (text : List Word) → R c → A c text → F c text)
     → (words : List Word) (x : C) (left : List Word) → length words ≤ n → read words ≡ Got x left → (R x × Q x) × Takes (F x) words left
 part_takes r from words x left le e =
@@ -21,7 +21,7 @@ part_takes r from words x left le e =
     (h.0, record { text = h.1.text; parts = h.1.parts; form = from x h.1.text h.0.0 h.1.form })
 
 -- It stops where the form does, if each sequence that begins with these words is of the part.
-part_stops : {n : ℕ} {C : Type 0} {R : C → Type 0} {F A : C → List Word → Type 0} {K : TreeLimit → C → Type 0} {Q : C → Type 0} {read : Reading C}
+part_stops : {n : ℕ} {C : Type 0} {R : C → Type 0} {F A : C → List Word → Type 0} {K : TreeLimit → C → Type 0} {Q : C → Type 0} {read : Parser C}
     → Parses n R A K Q read → (test : Word → Bool) (words : List Word)
     → ((c : C) (text more : List Word) → R c → F c text → heads test (text ++ more) ≡ heads test words → A c text)
     → (why : Stop) (left : List Word) → length words ≤ n → read words ≡ Stuck why left → Stops R F K words why left
@@ -38,7 +38,7 @@ part_stops r test words into why left le e =
 
 -- A is the part of F that begins with a word that passes the test, B the part that begins with another
 pub choose_parses : {n : ℕ} {C : Type 0} {R : C → Type 0} {F A B : C → List Word → Type 0} {K : TreeLimit → C → Type 0} {Q : C
-    → Type 0} {first other : Reading C} (test : Word → Bool)
+    → Type 0} {first other : Parser C} (test : Word → Bool)
     → ((c : C) (text more : List Word) → R c → F c text → heads test (text ++ more) ≡ true → A c text)
     → ((c : C) (text more : List Word) → R c → F c text → heads test (text ++ more) ≡ false → B c text)
     → ((c : C) (text : List Word) → R c → A c text → F c text) → ((c : C) (text : List Word) → R c → B c text → F c text)
@@ -88,7 +88,7 @@ then_heads test v text more begins f = ap (λ (ws : List Word). heads test (ws +
 
 -- An optional word, before words that never begin with it.
 pub perhaps_parses : {n : ℕ} {C : Type 0} {R : C → Type 0} {G : C → List Word → Type 0} {L : TreeLimit → C → Type 0} {Q : C
-    → Type 0} {read : Reading C} (test : Word → Bool)
+    → Type 0} {read : Parser C} (test : Word → Bool)
     → ((c : C) (text more : List Word) → R c → G c text → heads test (text ++ more) ≡ false)
     → Parses n R G L Q read → Parses n R (λ c. optional (this test) ▸ G c) L Q (bind (perhaps_at test) (λ _. read))
 unfolding bind choose this_at perhaps_at

@@ -7,7 +7,7 @@ use Rattle.oa_idl.specs.declared.stop.Stop.{Stop}
 use Rattle.oa_idl.specs.declared.stop.Stop.TheVariants.{Syntax, Memory}
 use Rattle.oa_idl.specs.declared.stop.Stop.TheVariants as stops
 use Rattle.oa_idl.specs.Forms.{Word, Then, ◌▸◌, nothing, given, this, one, BeginsWithWords}
-use Rattle.oa_idl.specs.Reading.{Reading, bind, give, this_at}
+use Rattle.oa_idl.specs.Reading.{Parser, bind, give, this_at}
 use Rattle.oa_idl.specs.Reading.{one_at, require, demand}
 use Rattle.oa_idl.specs.Words.{never_over}
 use Rattle.oa_idl.specs.Reading.ReadStep.{Stuck}
@@ -17,7 +17,7 @@ use Rattle.oa_idl.proofs.ChoiceParses.{clash}
 
 -- A parser with the same results.
 pub alike_parses : {n : ℕ} {C : Type 0} {R : C → Type 0} {F : C → List Word → Type 0} {K : TreeLimit → C → Type 0} {Q : C
-    → Type 0} {f g : Reading C} → ((words : List Word) → f words ≡ g words) → Parses n R F K Q f → Parses n R F K Q g
+    → Type 0} {f g : Parser C} → ((words : List Word) → f words ≡ g words) → Parses n R F K Q f → Parses n R F K Q g
 alike_parses alike r = record {
   same = r.same;
   takes = λ words x left le e. r.takes words x left le (alike words ∙ e);
@@ -26,7 +26,7 @@ alike_parses alike r = record {
 
 -- Only if a test holds.
 pub require_parses : {n : ℕ} {C : Type 0} {R : C → Type 0} {F : C → List Word → Type 0} {K : TreeLimit → C → Type 0} {Q : C
-    → Type 0} {read : Reading C} (b : Bool) → Parses n R F K Q read → Parses n R (λ c ws. (b ≡ true) × F c ws) K Q (require b read)
+    → Type 0} {read : Parser C} (b : Bool) → Parses n R F K Q read → Parses n R (λ c ws. (b ≡ true) × F c ws) K Q (require b read)
 unfolding require
 require_parses true r = fact_parses (said_parses (λ c h. (h, refl)) (λ c h. h.0) (λ c text h f. f) (λ c text h f. f) (λ c h. h) r)
 require_parses {n} {C} {R} {F} {K} {Q} false r = record {
@@ -69,7 +69,7 @@ end_parses test v hr hq only = said_parses {F = λ _. this test ▸ nothing} (λ
 
 -- A last part, which determines the value.
 pub end_part_parses : {n : ℕ} {A C : Type 0} {F : A → List Word → Type 0} {K : TreeLimit → A → Type 0} {P : A → Type 0} {R : C
-    → Type 0} {L : TreeLimit → C → Type 0} {Q : C → Type 0} {read : Reading A}
+    → Type 0} {L : TreeLimit → C → Type 0} {Q : C → Type 0} {read : Parser A}
     (proj : C → A) (v : A → C) → Parses n Always F K P read → ((l : TreeLimit) (c : C) → R c → L l c → K l (proj c))
     → ((a : A) → R (v a) × (proj (v a) ≡ a)) → ((a : A) → P a → Q (v a)) → ((a : A) (c : C) → R c × (proj c ≡ a) → c ≡ v a)
     → Parses n R (λ c. F (proj c)) L Q (bind read (λ a. give (v a)))
@@ -78,7 +78,7 @@ end_part_parses {F = F} proj v r has hr hq only = said_parses {F = λ c. F (proj
 
 -- As above, with a stronger limit.
 pub limit_parses : {n : ℕ} {C : Type 0} {R : C → Type 0} {F : C → List Word → Type 0} {K L : TreeLimit → C → Type 0} {Q : C
-    → Type 0} {read : Reading C} → ((l : TreeLimit) (c : C) → L l c → K l c) → Parses n R F K Q read → Parses n R F L Q read
+    → Type 0} {read : Parser C} → ((l : TreeLimit) (c : C) → L l c → K l c) → Parses n R F K Q read → Parses n R F L Q read
 limit_parses {n} {C} {R} {F} {K} {L} {Q} {read} has r = record {
   same = r.same;
   takes = r.takes;

@@ -7,7 +7,7 @@ use Rattle.oa_idl.specs.declared.stop.TreeLimit.{TreeLimit}
 use Rattle.oa_idl.specs.declared.stop.Stop.{Stop}
 use Rattle.oa_idl.specs.declared.stop.Stop.TheVariants.{Syntax}
 use Rattle.oa_idl.specs.Forms.{Word, ◌▸◌, given, this, optional, with, listed, gathered, nowhere, BeginsWithWords}
-use Rattle.oa_idl.specs.Reading.{ReadStep, Reading, and_then, bind, give, fail, heads, done, choose, later_words, perhaps_at, until, list_at}
+use Rattle.oa_idl.specs.Reading.{ReadStep, Parser, and_then, bind, give, fail, heads, done, choose, later_words, perhaps_at, until, list_at}
 use Rattle.oa_idl.specs.Reading.{gather, gather_at}
 use Rattle.oa_idl.specs.Reading.ReadStep.{Got, Stuck}
 use Rattle.oa_idl.proofs.Parses.{Parses, Always, NoLimit, stuck_at, syntax_stops}
@@ -199,7 +199,7 @@ module _ {S A B : Type 0} {F : S → A → List Word → Type 0} {item : S → L
     heads_nowhere y [] = refl
     heads_nowhere y (w ∷ words) = refl
 
-    abbrev step : S → Reading S
+    abbrev step : S → Parser S
     step s = bind (item s) (λ x. give (grow s x))
 
     no_limits : (l : TreeLimit) (s : S) (xs : List A) (b : B) → KeepsFrom {A = A} {B = B} grow (λ v x. Unit {0}) (λ v b. Unit {0}) s xs b

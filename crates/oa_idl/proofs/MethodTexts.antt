@@ -18,7 +18,7 @@ use Rattle.oa_idl.specs.MethodValues.{MethodValue}
 use Rattle.oa_idl.specs.Forms.{Word, ◌▸◌, where_is, listed, nowhere}
 use Rattle.oa_idl.specs.Words.{passes, plain_type, name_of, over}
 use Rattle.oa_idl.specs.Reading.{heads, done, list_at}
-use Rattle.oa_idl.specs.Grammar.{sign, one_more, closing, MethodAttribute, method_attribute, no_method, is_form, method_may}
+use Rattle.oa_idl.specs.Grammar.{symbol, one_more, closing, MethodAttribute, method_attribute, no_method, is_form, method_may}
 use Rattle.oa_idl.specs.Grammar.{method_grow, method_finish, method_head, may_be_void, may_have_type, result_type, method_body, method}
 use Rattle.oa_idl.specs.Grammar.{methods}
 use Rattle.oa_idl.specs.Grammar.MethodAttribute.{MethodId, Propget, Propput, MethodHelp}
@@ -231,14 +231,14 @@ abbrev ms_of : List MethodValue × Unit {0} → List MethodValue
 ms_of p = p.0
 
 section : ℕ → List MethodValue → List Word → Type 0
-section n ms = sign (codes "methods") ▸ sign (codes ":") ▸ listed (λ k. method) one_more nowhere closing n ms tt
+section n ms = symbol (codes "methods") ▸ symbol (codes ":") ▸ listed (λ k. method) one_more nowhere closing n ms tt
 
 pub methods_parses : {n : ℕ} (count : ℕ) → Parses n Always (methods count) (λ l ms. MethodsKeep count l ms) (λ ms. MethodsKept count ms)
     (methods_at count)
 unfolding methods_at section
-methods_parses count = choose_parses {A = section count} {B = λ ms ws. (ms ≡ []) × sign (codes "}") ws} (passes (codes "methods"))
-    (λ ms text more _ f is. ⊎_elim (λ (k : section count ms text). k) (λ (k : where_is (ms ≡ []) (sign (codes "}")) text). absurd (clash is (one_sign_heads (codes "methods") (codes "}") refl text more k.1))) f)
-    (λ ms text more _ f is. ⊎_elim (λ (k : section count ms text). absurd (clash (same_heads (codes "methods") text more k) is)) (λ (k : where_is (ms ≡ []) (sign (codes "}")) text). k) f)
+methods_parses count = choose_parses {A = section count} {B = λ ms ws. (ms ≡ []) × symbol (codes "}") ws} (passes (codes "methods"))
+    (λ ms text more _ f is. ⊎_elim (λ (k : section count ms text). k) (λ (k : where_is (ms ≡ []) (symbol (codes "}")) text). absurd (clash is (one_sign_heads (codes "methods") (codes "}") refl text more k.1))) f)
+    (λ ms text more _ f is. ⊎_elim (λ (k : section count ms text). absurd (clash (same_heads (codes "methods") text more k) is)) (λ (k : where_is (ms ≡ []) (symbol (codes "}")) text). k) f)
     (λ ms text _ f. inl f) (λ ms text _ f. inr f)
     (skip_parses (passes (codes "methods")) (skip_parses (passes (codes ":")) (end_part_parses (λ ms. both ms tt) ms_of (method_list_parses count) (λ l ms h k. k) (λ a. (tt, whole a)) (λ a kept. kept) (λ a ms h. ap ms_of h.1))))
     (fact_parses (end_parses (passes (codes "}")) [] (tt, refl) tt (λ ms h. h.1)))
@@ -253,14 +253,14 @@ or_right false = refl
 pub methods_heads : (n : ℕ) (ms : List MethodValue) (text more : List Word) → methods n ms text
     → heads ends_properties (text ++ more) ≡ true
 methods_heads n ms text more f = ⊎_elim
-    (λ (k : (sign (codes "methods") ▸ sign (codes ":") ▸ listed (λ j. method) one_more nowhere closing n ms tt) text). first_heads ends_properties (passes (codes "methods")) true (λ w is. ap (λ (b : Bool). b || passes (codes "}") w) is) text more k)
-    (λ (k : where_is (ms ≡ []) (sign (codes "}")) text). ap (λ (ws : List Word). heads ends_properties (ws ++ more)) k.1.parts ∙ ap (λ (b : Bool). passes (codes "methods") k.1.word || b) k.1.is ∙ or_right (passes (codes "methods") k.1.word)) f
+    (λ (k : (symbol (codes "methods") ▸ symbol (codes ":") ▸ listed (λ j. method) one_more nowhere closing n ms tt) text). first_heads ends_properties (passes (codes "methods")) true (λ w is. ap (λ (b : Bool). b || passes (codes "}") w) is) text more k)
+    (λ (k : where_is (ms ≡ []) (symbol (codes "}")) text). ap (λ (ws : List Word). heads ends_properties (ws ++ more)) k.1.parts ∙ ap (λ (b : Bool). passes (codes "methods") k.1.word || b) k.1.is ∙ or_right (passes (codes "methods") k.1.word)) f
 
 pub methods_begin : (n : ℕ) (ms : List MethodValue) (text more : List Word) → methods n ms text
     → heads (passes (codes "properties")) (text ++ more) ≡ false
 methods_begin n ms text more f = ⊎_elim
-    (λ (k : (sign (codes "methods") ▸ sign (codes ":") ▸ listed (λ j. method) one_more nowhere closing n ms tt) text). sign_heads (codes "properties") (codes "methods") refl text more k)
-    (λ (k : where_is (ms ≡ []) (sign (codes "}")) text). one_sign_heads (codes "properties") (codes "}") refl text more k.1) f
+    (λ (k : (symbol (codes "methods") ▸ symbol (codes ":") ▸ listed (λ j. method) one_more nowhere closing n ms tt) text). sign_heads (codes "properties") (codes "methods") refl text more k)
+    (λ (k : where_is (ms ≡ []) (symbol (codes "}")) text). one_sign_heads (codes "properties") (codes "}") refl text more k.1) f
 
 pub open_ends_nothing : (w : Word) → passes (codes "[") w ≡ true → ends_properties w ≡ false
 open_ends_nothing w is = ap (λ (b : Bool). b || passes (codes "}") w) (other_sign (codes "methods") (codes "[") refl w is) ∙ other_sign (codes "}") (codes "[") refl w is

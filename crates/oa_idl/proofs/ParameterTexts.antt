@@ -14,7 +14,7 @@ use Rattle.oa_idl.specs.declared.seen.ParameterSeen.{ParameterSeen}
 use Rattle.oa_idl.specs.Forms.{Word, Then, ◌▸◌, one, where_is, listed, nowhere}
 use Rattle.oa_idl.specs.Words.{passes, plain_type, is_text, name_of, over, amount_of, characters_of}
 use Rattle.oa_idl.specs.Reading.{heads, done}
-use Rattle.oa_idl.specs.Grammar.{sign, one_more, amount, literal, ParameterAttribute, parameter_attribute, no_parameter, parameter_may}
+use Rattle.oa_idl.specs.Grammar.{symbol, one_more, amount, literal, ParameterAttribute, parameter_attribute, no_parameter, parameter_may}
 use Rattle.oa_idl.specs.Grammar.{parameter_grow, parameter_finish, parameter_head, head_of_parameter, typed, parameter, separated}
 use Rattle.oa_idl.specs.Grammar.{next_parameter, may_end, last_parameter}
 use Rattle.oa_idl.specs.Grammar.ParameterAttribute.{IsIn, IsOptional, HasDefault}
@@ -42,14 +42,14 @@ use Rattle.oa_idl.proofs.Texts.{full_left, full_middle, full_right, value_type_p
 amount_heads : (test : Word → Bool) → ((w : Word) → passes (codes "-") w ≡ true → test w ≡ false)
     → ((i : ℤ) (w : Word) → amount_of false w ≡ Some i → test w ≡ false) → (i : ℤ) (text more : List Word) → amount i text
     → heads test (text ++ more) ≡ false
-amount_heads test minus number i text more f = ⊎_elim (λ (k : (sign (codes "-") ▸ one (amount_of true) i) text). first_heads test (passes (codes "-")) false minus text more k)
+amount_heads test minus number i text more f = ⊎_elim (λ (k : (symbol (codes "-") ▸ one (amount_of true) i) text). first_heads test (passes (codes "-")) false minus text more k)
     (λ (k : one (amount_of false) i text). one_heads (amount_of false) test i (λ w e. number i w e) text more k) f
 
 amount_parses : {n : ℕ} → Parses n Always amount NoLimit Always amount_at
 unfolding amount_at
-amount_parses = choose_parses {A = λ i. sign (codes "-") ▸ one (amount_of true) i} {B = one (amount_of false)} (passes (codes "-"))
-    (λ i text more _ f is. ⊎_elim (λ (k : (sign (codes "-") ▸ one (amount_of true) i) text). k) (λ (k : one (amount_of false) i text). absurd (clash is (plain_heads i text more k))) f)
-    (λ i text more _ f is. ⊎_elim (λ (k : (sign (codes "-") ▸ one (amount_of true) i) text). absurd (clash (same_heads (codes "-") text more k) is)) (λ (k : one (amount_of false) i text). k) f)
+amount_parses = choose_parses {A = λ i. symbol (codes "-") ▸ one (amount_of true) i} {B = one (amount_of false)} (passes (codes "-"))
+    (λ i text more _ f is. ⊎_elim (λ (k : (symbol (codes "-") ▸ one (amount_of true) i) text). k) (λ (k : one (amount_of false) i text). absurd (clash is (plain_heads i text more k))) f)
+    (λ i text more _ f is. ⊎_elim (λ (k : (symbol (codes "-") ▸ one (amount_of true) i) text). absurd (clash (same_heads (codes "-") text more k) is)) (λ (k : one (amount_of false) i text). k) f)
     (λ i text _ f. inl f) (λ i text _ f. inr f)
     (skip_parses (passes (codes "-")) (sure_parses (amount_of true))) (sure_parses (amount_of false))
   where
@@ -140,7 +140,7 @@ literal_parses = tagged_parses {F = literal} (passes (codes "TRUE")) is_true tru
 -- ---- attributes
 
 default_parses : {n : ℕ}
-    → Parses n Always (λ v. sign (codes "defaultvalue") ▸ sign (codes "(") ▸ literal v ▸ sign (codes ")")) NoLimit Always default_at
+    → Parses n Always (λ v. symbol (codes "defaultvalue") ▸ symbol (codes "(") ▸ literal v ▸ symbol (codes ")")) NoLimit Always default_at
 unfolding default_at
 default_parses = skip_parses (passes (codes "defaultvalue")) (skip_parses (passes (codes "(")) (part_parses (λ v. v) literal_parses (λ l v h k. tt) (λ v. end_parses (passes (codes ")")) v (tt, refl) (λ _. tt) (λ c h. h.1))))
 

@@ -8,7 +8,7 @@ use Rattle.oa_idl.specs.declared.stop.Stop.{Stop}
 use Rattle.oa_idl.specs.declared.stop.Stop.TheVariants.{Syntax, Memory}
 use Rattle.oa_idl.specs.declared.stop.Stop.TheVariants as stops
 use Rattle.oa_idl.specs.Forms.{Word, ◌▸◌, nothing, this, one, with, BeginsWithWords}
-use Rattle.oa_idl.specs.Reading.{Reading, bind, give, done, this_at, meaning_of, unless_over}
+use Rattle.oa_idl.specs.Reading.{Parser, bind, give, done, this_at, meaning_of, unless_over}
 use Rattle.oa_idl.specs.Reading.{if_meant, one_at}
 use Rattle.oa_idl.specs.Words.{NamedAt}
 use Rattle.oa_idl.specs.Reading.ReadStep.{Got, Stuck}
@@ -16,7 +16,7 @@ use Rattle.oa_idl.proofs.Parses.{Always, Keeps, Later, Parses, Stops, StopsAt, T
 
 -- A part that determines the following ones, if H is known of its value.
 pub with_known_parses : {n m : ℕ} {A C : Type 0} {F : A → List Word → Type 0} {K : TreeLimit → A → Type 0} {P H : A → Type 0} {R : C
-    → Type 0} {G : A → C → List Word → Type 0} {L : TreeLimit → C → Type 0} {Q : C → Type 0} {read : Reading A} {next : A → Reading C}
+    → Type 0} {G : A → C → List Word → Type 0} {L : TreeLimit → C → Type 0} {Q : C → Type 0} {read : Parser A} {next : A → Parser C}
     → Parses n Always F K P read
     → ((a : A) (text left : List Word) → F a text → length (text ++ left) ≤ n → length left ≤ m)
     → ((l : TreeLimit) (a : A) (c : C) (text : List Word) → R c → G a c text → L l c → K l a)
@@ -79,7 +79,7 @@ with_known_parses {n} {m} {A} {C} {F} {K} {P} {H} {R} {G} {L} {Q} {read} {next} 
 
 -- A part that determines the following ones.
 pub with_parses : {n m : ℕ} {A C : Type 0} {F : A → List Word → Type 0} {K : TreeLimit → A → Type 0} {P : A → Type 0} {R : C
-    → Type 0} {G : A → C → List Word → Type 0} {L : TreeLimit → C → Type 0} {Q : C → Type 0} {read : Reading A} {next : A → Reading C}
+    → Type 0} {G : A → C → List Word → Type 0} {L : TreeLimit → C → Type 0} {Q : C → Type 0} {read : Parser A} {next : A → Parser C}
     → Parses n Always F K P read
     → ((a : A) (text left : List Word) → F a text → length (text ++ left) ≤ n → length left ≤ m)
     → ((l : TreeLimit) (a : A) (c : C) (text : List Word) → R c → G a c text → L l c → K l a)
@@ -89,7 +89,7 @@ with_parses r less has then = with_known_parses {H = Always} r less has (λ a te
 
 -- The same sequences, by another form.
 pub said_parses : {n : ℕ} {C : Type 0} {R S : C → Type 0} {F G : C → List Word → Type 0} {K : TreeLimit → C → Type 0} {P Q : C
-    → Type 0} {read : Reading C}
+    → Type 0} {read : Parser C}
     → ((c : C) → R c → S c) → ((c : C) → S c → R c) → ((c : C) (text : List Word) → R c → F c text → G c text)
     → ((c : C) (text : List Word) → S c → G c text → F c text) → ((c : C) → P c → Q c)
     → Parses n R F K P read → Parses n S G K Q read
@@ -111,7 +111,7 @@ said_parses to from there back known r = record {
 
 -- A fact that the form implies.
 pub fact_parses : {n : ℕ} {C : Type 0} {R P : C → Type 0} {F : C → List Word → Type 0} {K : TreeLimit → C → Type 0} {Q : C
-    → Type 0} {read : Reading C} → Parses n (λ c. R c × P c) F K Q read → Parses n R (λ c ws. P c × F c ws) K Q read
+    → Type 0} {read : Parser C} → Parses n (λ c. R c × P c) F K Q read → Parses n R (λ c ws. P c × F c ws) K Q read
 fact_parses r = record {
   same = λ x y f g s t hx hy k h e. r.same x y f g s t (hx, k.0) (hy, h.0) k.1 h.1 e;
   takes = λ words x left le e.
@@ -129,7 +129,7 @@ enough F n a text left f le = omega (arith, le, length-append text left)
 
 -- a part of which the value keeps proj
 pub part_parses : {n : ℕ} {A C : Type 0} {F : A → List Word → Type 0} {K : TreeLimit → A → Type 0} {P : A → Type 0} {R : C → Type 0} {G : C
-    → List Word → Type 0} {L : TreeLimit → C → Type 0} {Q : C → Type 0} {read : Reading A} {next : A → Reading C}
+    → List Word → Type 0} {L : TreeLimit → C → Type 0} {Q : C → Type 0} {read : Parser A} {next : A → Parser C}
     (proj : C → A)
     → Parses n Always F K P read
     → ((l : TreeLimit) (c : C) → R c → L l c → K l (proj c))
@@ -147,7 +147,7 @@ part_parses {n} {A} {C} {F} {K} {P} {R} {G} {L} {Q} {read} {next} proj r has the
 
 -- a word that says nothing
 pub skip_parses : {n : ℕ} {C : Type 0} {R : C → Type 0} {G : C → List Word → Type 0} {L : TreeLimit → C → Type 0} {Q : C
-    → Type 0} {read : Reading C} (test : Word → Bool)
+    → Type 0} {read : Parser C} (test : Word → Bool)
     → Parses n R G L Q read → Parses n R (λ c. this test ▸ G c) L Q (bind (this_at test) (λ _. read))
 skip_parses {n} {C} {R} {G} {L} {Q} {read} test r =
     part_parses {G = G} (λ c. done) (this_parses test) (λ l c h k. tt) (λ a. said_parses (λ c h. (h, refl)) (λ c h. h.0) (λ c ws h g. g) (λ c ws h g. g) (λ c h _. h) r)

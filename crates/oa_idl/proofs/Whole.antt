@@ -11,7 +11,7 @@ use Rattle.oa_idl.specs.declared.parts.Property.{Property}
 use Rattle.oa_idl.specs.declared.parts.Entry.{Entry}
 use Rattle.oa_idl.specs.declared.items.Item.{Item}
 use Rattle.oa_idl.specs.declared.items.Item.TheVariants as items
-use Rattle.oa_idl.specs.declared.seen.Head.{Head}
+use Rattle.oa_idl.specs.declared.seen.HeadValues.{HeadValues}
 use Rattle.oa_idl.specs.declared.seen.EntriesSeen.{EntriesSeen}
 use Rattle.oa_idl.specs.declared.seen.ItemsSeen.{ItemsSeen}
 use Rattle.oa_idl.specs.Trees.{TreeValue}
@@ -19,12 +19,12 @@ use Rattle.oa_idl.specs.Forms.{Word, ◌▸◌, given, where_is, with, listed, n
 use Rattle.oa_idl.specs.MethodValues.{MethodValue}
 use Rattle.oa_idl.specs.Words.{passes, is_text, name_of, over, too_long}
 use Rattle.oa_idl.specs.Reading.{bind, give, heads, done, list_at}
-use Rattle.oa_idl.specs.Grammar.{sign, head, property, one_more, closing, methods, members, interface, entry_word, named, entry_by}
-use Rattle.oa_idl.specs.Grammar.{no_entry, entry_grow, entry, last_entry, coclass, guid_of_item, body, item, no_items}
-use Rattle.oa_idl.specs.Grammar.{items_grow, LibraryContent, importing, element, semicolon_after, elements_grow, items_in, elements, library}
+use Rattle.oa_idl.specs.Grammar.{symbol, head, property, one_more, closing, methods, members, interface, entry_word, named, entry_by}
+use Rattle.oa_idl.specs.Grammar.{no_entry, entry_grow, entry, last_entry, coclass, guid_of_item, item_body, item, no_items}
+use Rattle.oa_idl.specs.Grammar.{items_grow, LibraryContent, importing, element, semicolon_after, elements_grow, items_in, library_contents, library}
 use Rattle.oa_idl.specs.Grammar.LibraryContent.{Import, OfItem}
-use Rattle.oa_idl.specs.GrammarReading.{property_at, closing_at, methods_at, ends_properties, members_at, interface_at, named_at, entry_at}
-use Rattle.oa_idl.specs.GrammarReading.{last_entry_at, entries_at, coclass_at, item_at, import_at, element_at, elements_within, elements_at}
+use Rattle.oa_idl.specs.GrammarReading.{property_at, closing_at, methods_at, ends_properties, members_at, interface_at, named_entry_at, entry_at}
+use Rattle.oa_idl.specs.GrammarReading.{last_entry_at, entries_at, coclass_at, item_at, import_at, content_at, elements_within, library_contents_at}
 use Rattle.oa_idl.specs.GrammarReading.{library_at}
 use Rattle.oa_idl.proofs.NameLimits.{over_named, long_named}
 use Rattle.oa_idl.proofs.Parses.{Parses, Always, NoLimit}
@@ -88,7 +88,7 @@ abbrev methods_in : Members → List MethodValue
 methods_in p = p.1
 
 section : Members → List Word → Type 0
-section p = sign (codes "properties") ▸ sign (codes ":") ▸ listed (λ n. property) one_more nowhere methods 0 p.0 p.1
+section p = symbol (codes "properties") ▸ symbol (codes ":") ▸ listed (λ n. property) one_more nowhere methods 0 p.0 p.1
 
 list_members_parses : {n : ℕ} → Parses n Always (λ (p : Members). listed (λ n. property) one_more nowhere methods 0 p.0 p.1)
     (λ l p. MembersKeep l p.0 p.1) (λ p. MembersKept p.0 p.1) (list_at ends_properties nowhere property_at one_more methods_at 0)
@@ -190,8 +190,8 @@ interface_parses s guid = fact_parses (skip_parses (passes (codes "dispinterface
 -- ---- entries
 
 named_parses : {n : ℕ} (b : Bool) → Parses n (λ e. Always e × (e.is_default ≡ b)) named (λ l e. too_long e.interface ≡ Some l → ⊥)
-    (λ e. too_long e.interface ≡ None) (named_at b)
-unfolding named_at
+    (λ e. too_long e.interface ≡ None) (named_entry_at b)
+unfolding named_entry_at
 named_parses b = skip_parses entry_word (part_parses (λ e. e.interface) (one_parses name_of too_long long_named) (λ l e h k. k) (λ name. skip_parses (passes (codes ";"))
     (give_parses (record { is_default = b; interface = name }) ((tt, refl), refl) (λ kept. kept) (λ e h. λ i. record { is_default = h.0.1 i; interface = h.1 i }))))
 
@@ -211,7 +211,7 @@ named_heads : (a : List ℕ) → bytes_eq (codes "dispinterface") a ≡ false �
 named_heads a x y e text more f = then_heads (passes a) false text more (λ front left h. ap (λ (ws : List Word). heads (passes a) (ws ++ left)) h.parts ∙ entry_word_other a x y h.word h.is) f
 
 default_form : Entry → List Word → Type 0
-default_form e = sign (codes "[") ▸ sign (codes "default") ▸ sign (codes "]") ▸ named e
+default_form e = symbol (codes "[") ▸ symbol (codes "default") ▸ symbol (codes "]") ▸ named e
 
 entry_parses : {n : ℕ} (s : EntriesSeen) → Parses n Always (entry s) (λ l e. too_long e.interface ≡ Some l → ⊥)
     (λ e. too_long e.interface ≡ None) (entry_at s)
@@ -276,27 +276,27 @@ coclass_parses s guid = fact_parses (skip_parses (passes (codes "coclass")) (par
 
 item_parses : {n : ℕ} (s : ItemsSeen) → Parses n Always item (ItemKeeps s) (ItemKept s) (item_at s)
 unfolding item_at
-item_parses {n} s = with_parses {G = λ h x ws. (h.guid ≡ guid_of_item x) × body x ws} (head_parses false) (enough (head false) n) (λ l h x text _ g k. tt) (λ h.
+item_parses {n} s = with_parses {G = λ h x ws. (h.guid ≡ guid_of_item x) × item_body x ws} (head_parses false) (enough (head false) n) (λ l h x text _ g k. tt) (λ h.
     fact_parses (choose_parses {A = λ x ws. (is_interface x ≡ true) × interface (title x) (members_of x).0 (members_of x).1 ws} {B = λ x ws. (is_interface x ≡ false) × coclass (title x) (entries_of x) ws} (passes (codes "dispinterface"))
     (λ x text more _ f is. yes x text more f is) (λ x text more _ f is. other x text more f is) (λ x text _ f. from_yes x text f) (λ x text _ f. from_other x text f)
     (said_parses (λ c h. h) (λ c h. h) (λ c t h f. f) (λ c t h f. f) (λ c h _. h) (interface_parses s h.guid)) (said_parses (λ c h. h) (λ c h. h) (λ c t h f. f) (λ c t h f. f) (λ c h _. h) (coclass_parses s h.guid))))
   where
-    yes : (x : Item) (text more : List Word) → body x text → heads (passes (codes "dispinterface")) (text ++ more) ≡ true
+    yes : (x : Item) (text more : List Word) → item_body x text → heads (passes (codes "dispinterface")) (text ++ more) ≡ true
         → (is_interface x ≡ true) × interface (title x) (members_of x).0 (members_of x).1 text
     yes (items.Interface d) text more f is = (refl, f)
     yes (items.Coclass c) text more f is = absurd (clash is (sign_heads (codes "dispinterface") (codes "coclass") refl text more f))
 
-    other : (x : Item) (text more : List Word) → body x text → heads (passes (codes "dispinterface")) (text ++ more) ≡ false
+    other : (x : Item) (text more : List Word) → item_body x text → heads (passes (codes "dispinterface")) (text ++ more) ≡ false
         → (is_interface x ≡ false) × coclass (title x) (entries_of x) text
     other (items.Interface d) text more f is = absurd (clash (same_heads (codes "dispinterface") text more f) is)
     other (items.Coclass c) text more f is = (refl, f)
 
     from_yes : (x : Item) (text : List Word) → (is_interface x ≡ true) × interface (title x) (members_of x).0 (members_of x).1 text
-        → body x text
+        → item_body x text
     from_yes (items.Interface d) text f = f.1
     from_yes (items.Coclass c) text f = absurd (clash f.0 refl)
 
-    from_other : (x : Item) (text : List Word) → (is_interface x ≡ false) × coclass (title x) (entries_of x) text → body x text
+    from_other : (x : Item) (text : List Word) → (is_interface x ≡ false) × coclass (title x) (entries_of x) text → item_body x text
     from_other (items.Interface d) text f = absurd (clash refl f.0)
     from_other (items.Coclass c) text f = f.1
 
@@ -349,8 +349,8 @@ import_parses : {n : ℕ} → Parses n Always (λ (_ : Unit {0}). importing) NoL
 unfolding import_at
 import_parses = skip_parses (passes (codes "importlib")) (skip_parses (passes (codes "(")) (skip_parses is_text (skip_parses (passes (codes ")")) (this_parses (passes (codes ";"))))))
 
-element_parses : {n : ℕ} (s : ItemsSeen) → Parses n Always element (ContentKeeps s) (ContentKept s) (element_at s)
-unfolding element element_at
+element_parses : {n : ℕ} (s : ItemsSeen) → Parses n Always element (ContentKeeps s) (ContentKept s) (content_at s)
+unfolding element content_at
 element_parses s = tagged_parses {F = element} (passes (codes "importlib")) is_import import_heads
     (branch_parses {F = element} (λ (_ : Unit {0}). Import) (λ _. done) only_import (λ a. ((tt, refl), refl)) (λ l c h k. tt) (λ a h. tt) import_parses)
     (branch_parses {F = element} (λ x. OfItem x) item_in only_item (λ a. ((tt, refl), refl)) (λ l c h k. item_keeps s l c h k) (λ a h. h) (item_parses s))
@@ -375,7 +375,7 @@ not_after (OfItem x) (w ∷ words) h = h
 contents_parses : {n : ℕ} → Parses n Always (λ p. listed (λ s. element) elements_grow semicolon_after closing no_items p.0 p.1)
     (λ l p. KeepsFrom elements_grow (λ s x. ContentKeeps s l x) Nothing no_items p.0 p.1)
     (λ p. KeepsFrom elements_grow ContentKept Nothing no_items p.0 p.1)
-    (list_at (passes (codes "}")) semicolon_after element_at elements_grow closing_at no_items)
+    (list_at (passes (codes "}")) semicolon_after content_at elements_grow closing_at no_items)
 contents_parses {n} = list_parses elements_grow (passes (codes "}")) semicolon_after (λ n s. element_parses s) closing_parses (λ s x text f. element_some x text f) (λ s x text more f. element_heads (codes "}") refl refl x text more f)
     (λ s b text more f. this_heads (passes (codes "}")) text more f) (λ y s x text more f. not_after y (text ++ more) (element_heads (codes ";") refl refl x text more f)) (λ y s b text more f. not_after y (text ++ more) (one_sign_heads (codes ";") (codes "}") refl text more f)) n no_items
 
@@ -397,9 +397,9 @@ contents_kept s [] k = tt
 contents_kept s (Import ∷ es) k = contents_kept s es k.1
 contents_kept s (OfItem x ∷ es) k = (k.0, contents_kept (items_grow s x) es k.1)
 
-elements_parses : {n : ℕ} → Parses n Always elements (λ l xs. ItemsKeep l no_items xs) (λ xs. ItemsKept no_items xs) elements_at
-unfolding elements elements_at elements_within bind list_at
-elements_parses {n} = alike_parses {f = bind (list_at (passes (codes "}")) semicolon_after element_at elements_grow closing_at no_items) (λ (p : List LibraryContent × Unit {0}). give (items_in p.0))} (λ words. refl)
+elements_parses : {n : ℕ} → Parses n Always library_contents (λ l xs. ItemsKeep l no_items xs) (λ xs. ItemsKept no_items xs) library_contents_at
+unfolding library_contents library_contents_at elements_within bind list_at
+elements_parses {n} = alike_parses {f = bind (list_at (passes (codes "}")) semicolon_after content_at elements_grow closing_at no_items) (λ (p : List LibraryContent × Unit {0}). give (items_in p.0))} (λ words. refl)
     (said_parses {F = λ xs. with whole (λ p. given (xs ≡ items_in p.0))} (λ c h. h) (λ c h. h) (λ c t h f. record { value = f.value.0; form = f.form }) (λ c t h f. record { value = both f.value tt; form = f.form }) (λ c h. h)
     (with_parses {G = λ p xs. given (xs ≡ items_in p.0)} contents_parses (enough whole n) (λ l p xs text _ g k. contents_keep l no_items p.0 (subst (λ (ys : List Item). ItemsKeep l no_items ys) g.fact k))
     (λ p. given_parses (items_in p.0) tt (λ kept. contents_kept no_items p.0 kept))))
@@ -414,10 +414,10 @@ TreeKeeps l t = (too_long t.name ≡ Some l → ⊥) × ItemsKeep l no_items t.i
 abbrev pub TreeKept : TreeValue → Type 0
 TreeKept t = (too_long t.name ≡ None) × ItemsKept no_items t.items
 
-head_of_tree : TreeValue → Head
+head_of_tree : TreeValue → HeadValues
 head_of_tree t = record { guid = t.guid; version = t.version }
 
-tree_of : Head → List ℕ → List Item → TreeValue
+tree_of : HeadValues → List ℕ → List Item → TreeValue
 tree_of h name xs = record { guid = h.guid; version = h.version; name = name; items = xs }
 
 pub library_parses : {n : ℕ} → Parses n Always library TreeKeeps TreeKept library_at

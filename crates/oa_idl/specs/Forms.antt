@@ -8,8 +8,8 @@ pub record Word : Type 0 where
   pub text : List ℕ
 
 -- A language: a set of sequences of words.
-abbrev pub Form : Type 1
-Form = List Word → Type 0
+abbrev pub Language : Type 1
+Language = List Word → Type 0
 
 -- A sequence of the first language followed by one of the second.
 pub record Then (F G : List Word → Type 0) (words : List Word) : Type 0 where
@@ -20,11 +20,11 @@ pub record Then (F G : List Word → Type 0) (words : List Word) : Type 0 where
   pub second : G back
 
 infixr 5 ◌▸◌
-abbrev pub ◌▸◌ : Form → Form → Form
+abbrev pub ◌▸◌ : Language → Language → Language
 F ▸ G = Then F G
 
 -- No words.
-abbrev pub nothing : Form
+abbrev pub nothing : Language
 nothing words = words ≡ []
 
 -- No words, and a fact.
@@ -45,15 +45,15 @@ pub record one {A : Type 0} (meaning : Word → Option A) (x : A) (words : List 
   pub is : meaning word ≡ Some x
 
 -- A sequence of the language, or no words.
-abbrev pub optional : Form → Form
+abbrev pub optional : Language → Language
 optional F words = F words ⊎ (words ≡ [])
 
 -- A sequence of one language or of the other.
-abbrev pub either_of : Form → Form → Form
+abbrev pub either_of : Language → Language → Language
 either_of F G words = F words ⊎ G words
 
 -- A sequence of the language, if a fact holds.
-abbrev pub where_is : Type 0 → Form → Form
+abbrev pub where_is : Type 0 → Language → Language
 where_is P F words = P × F words
 
 -- A sequence that encodes some value, followed by one of a language that may depend on this value.
@@ -64,8 +64,9 @@ pub record with {A : Type 0} (F G : A → List Word → Type 0) (words : List Wo
 -- The sequences of a list and its end. A state `s` describes what came before. Each item has the language `F` of the
 -- state and changes the state by `grow`. One word that passes `apart` of the item may follow it. The end has the
 -- language `E` of the last state.
-abbrev pub listed : {S A B : Type 0} → (S → A → Form) → (S → A → S) → (A → Word → Bool) → (S → B → Form) → S → List A
-    → B → Form
+abbrev pub listed : {S A B : Type 0} → (S → A → Language) → (S → A → S) → (A → Word → Bool) → (S → B → Language) → S
+    → List A
+    → B → Language
 listed F grow apart E s [] b = E s b
 listed F grow apart E s (x ∷ xs) b = F s x ▸ optional (this (apart x)) ▸ listed F grow apart E (grow s x) xs b
 

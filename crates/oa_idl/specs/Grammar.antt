@@ -16,7 +16,7 @@ use Rattle.oa_idl.specs.declared.parts.Parameter.{Parameter}
 use Rattle.oa_idl.specs.declared.items.Item.{Item}
 use Rattle.oa_idl.specs.declared.items.Item.TheVariants as items
 use Rattle.oa_idl.specs.declared.seen.HeadSeen.{HeadSeen}
-use Rattle.oa_idl.specs.declared.seen.Head.{Head}
+use Rattle.oa_idl.specs.declared.seen.HeadValues.{HeadValues}
 use Rattle.oa_idl.specs.declared.seen.PropertySeen.{PropertySeen}
 use Rattle.oa_idl.specs.declared.seen.PropertyHead.{PropertyHead}
 use Rattle.oa_idl.specs.declared.seen.EntriesSeen.{EntriesSeen}
@@ -26,33 +26,35 @@ use Rattle.oa_idl.specs.declared.seen.MethodHead.{MethodHead}
 use Rattle.oa_idl.specs.declared.seen.ParameterSeen.{ParameterSeen}
 use Rattle.oa_idl.specs.MethodValues.{MethodValue}
 use Rattle.oa_idl.specs.Trees.{TreeValue}
-use Rattle.oa_idl.specs.Forms.{Word, Form, ◌▸◌, nothing, given, this, one, optional, either_of, where_is, with, listed}
+use Rattle.oa_idl.specs.Forms.{Word, Language, ◌▸◌, nothing, given, this, one, optional, either_of, where_is, with}
+use Rattle.oa_idl.specs.Forms.{listed}
 use Rattle.oa_idl.specs.Forms.{gathered, nowhere}
 use Rattle.oa_idl.specs.Words.{passes, is_text, name_of, guid_of, part_of, id_of, word_type, amount_of, characters_of}
 
 -- One keyword or mark.
-abbrev pub sign : List ℕ → Form
-sign s = this (passes s)
+abbrev pub symbol : List ℕ → Language
+symbol s = this (passes s)
 
 -- ---- lists of attributes: "[" att {"," att} "]"
 
 -- A comma and an attribute that has not come before.
-abbrev pub next_attribute : {S A : Type 0} → (A → Form) → (S → A → Bool) → S → A → Form
-next_attribute attribute may_come s x = where_is (may_come s x ≡ true) (sign (codes ",") ▸ attribute x)
+abbrev pub next_attribute : {S A : Type 0} → (A → Language) → (S → A → Bool) → S → A → Language
+next_attribute attribute may_come s x = where_is (may_come s x ≡ true) (symbol (codes ",") ▸ attribute x)
 
 -- The end of a list of attributes; the required ones must have come before, and `b` is the value of the list.
-abbrev pub last_attribute : {S B : Type 0} → (S → Option B) → S → B → Form
-last_attribute finish s b = where_is (finish s ≡ Some b) (sign (codes "]"))
+abbrev pub last_attribute : {S B : Type 0} → (S → Option B) → S → B → Language
+last_attribute finish s b = where_is (finish s ≡ Some b) (symbol (codes "]"))
 
 -- A list of at least one attribute, none of them twice, with the value `b`.
-abbrev pub attributes : {S A B : Type 0} → (A → Form) → (S → A → Bool) → (S → A → S) → (S → Option B) → S → B → Form
+abbrev pub attributes : {S A B : Type 0} → (A → Language) → (S → A → Bool) → (S → A → S) → (S → Option B) → S → B
+    → Language
 attributes attribute may_come grow finish s b =
-    sign (codes "[") ▸ with (λ x. where_is (may_come s x ≡ true) (attribute x))
+    symbol (codes "[") ▸ with (λ x. where_is (may_come s x ≡ true) (attribute x))
     (λ x. gathered (next_attribute attribute may_come) grow nowhere (last_attribute finish) (grow s x) b)
 
 -- help = "helpstring" "(" string ")"
-abbrev pub help : Form
-help = sign (codes "helpstring") ▸ sign (codes "(") ▸ this is_text ▸ sign (codes ")")
+abbrev pub help : Language
+help = symbol (codes "helpstring") ▸ symbol (codes "(") ▸ this is_text ▸ symbol (codes ")")
 
 -- ---- attrs = "[" att {"," att} "]"    att = "uuid" "(" guid ")" | "version" "(" num ["." num] ")" | help
 
@@ -62,11 +64,11 @@ pub data HeadAttribute : Type 0 where
   Numbered : Version → HeadAttribute
   HeadHelp : HeadAttribute
 
-abbrev pub head_attribute : Bool → HeadAttribute → Form
-head_attribute counts (Guid g) = sign (codes "uuid") ▸ sign (codes "(") ▸ one guid_of g ▸ sign (codes ")")
-head_attribute counts (Numbered v) = sign (codes "version") ▸ sign (codes "(") ▸ one (part_of counts) v.major ▸
-    either_of (sign (codes ".") ▸ one (part_of counts) v.minor ▸ sign (codes ")"))
-    (where_is (v.minor ≡ 0) (sign (codes ")")))
+abbrev pub head_attribute : Bool → HeadAttribute → Language
+head_attribute counts (Guid g) = symbol (codes "uuid") ▸ symbol (codes "(") ▸ one guid_of g ▸ symbol (codes ")")
+head_attribute counts (Numbered v) = symbol (codes "version") ▸ symbol (codes "(") ▸ one (part_of counts) v.major ▸
+    either_of (symbol (codes ".") ▸ one (part_of counts) v.minor ▸ symbol (codes ")"))
+    (where_is (v.minor ≡ 0) (symbol (codes ")")))
 head_attribute counts HeadHelp = help
 
 -- No attribute so far. The version is 0.0 if none is given.
@@ -94,24 +96,24 @@ head_grow s (Numbered v) =
 head_grow s HeadHelp = record { uuid = s.uuid; version = s.version; help = true; head = s.head }
 
 -- The value of the list, in which a `uuid` is required.
-abbrev pub head_finish : HeadSeen → Option Head
+abbrev pub head_finish : HeadSeen → Option HeadValues
 head_finish s = if s.uuid then Some s.head else None
 
 -- The attributes of a library, whose version counts, or of an item, whose version is ignored.
-unfoldable pub head : Bool → Head → Form
+unfoldable pub head : Bool → HeadValues → Language
 head counts h = attributes (head_attribute counts) head_may head_grow head_finish no_head h
 
 -- ---- type = a type word | "SAFEARRAY" "(" type word of an element ")"
 
 -- The name of a scalar type.
-abbrev pub type_word : Bool → VarType → Form
+abbrev pub type_word : Bool → VarType → Language
 type_word in_array t =
-    either_of (sign (codes "unsigned") ▸ one (word_type in_array true) t) (one (word_type in_array false) t)
+    either_of (symbol (codes "unsigned") ▸ one (word_type in_array true) t) (one (word_type in_array false) t)
 
 -- A scalar type, or an array type with the type of its elements.
-unfoldable pub value_type : ValueType → Form
+unfoldable pub value_type : ValueType → Language
 value_type (values.One t) = type_word false t
-value_type (values.Array t) = sign (codes "SAFEARRAY") ▸ sign (codes "(") ▸ type_word true t ▸ sign (codes ")")
+value_type (values.Array t) = symbol (codes "SAFEARRAY") ▸ symbol (codes "(") ▸ type_word true t ▸ symbol (codes ")")
 
 -- ---- prop = "[" att {"," att} "]" type name ";"    att = "id" "(" ["-"] num ")" | "readonly" | help
 
@@ -122,12 +124,12 @@ pub data PropertyAttribute : Type 0 where
   PropertyHelp : PropertyAttribute
 
 -- The number of an `id` with its sign.
-abbrev pub id_form : ℤ → Form
-id_form i = either_of (sign (codes "-") ▸ one (id_of true) i) (one (id_of false) i)
+abbrev pub id_form : ℤ → Language
+id_form i = either_of (symbol (codes "-") ▸ one (id_of true) i) (one (id_of false) i)
 
-abbrev pub property_attribute : PropertyAttribute → Form
-property_attribute (Id i) = sign (codes "id") ▸ sign (codes "(") ▸ id_form i ▸ sign (codes ")")
-property_attribute Readonly = sign (codes "readonly")
+abbrev pub property_attribute : PropertyAttribute → Language
+property_attribute (Id i) = symbol (codes "id") ▸ symbol (codes "(") ▸ id_form i ▸ symbol (codes ")")
+property_attribute Readonly = symbol (codes "readonly")
 property_attribute PropertyHelp = help
 
 -- No attribute so far.
@@ -155,15 +157,15 @@ abbrev pub property_finish : PropertySeen → Option PropertyHead
 property_finish s = property_head_of s.id s.readonly
 
 -- The attributes of a property.
-unfoldable pub property_head : PropertyHead → Form
+unfoldable pub property_head : PropertyHead → Language
 property_head h = attributes property_attribute property_may property_grow property_finish no_property h
 
-abbrev pub property : Property → Form
+abbrev pub property : Property → Language
 property p = property_head (record {
   id = p.id;
   readonly =
       p.readonly;
-}) ▸ value_type p.value_type ▸ one name_of p.name ▸ sign (codes ";") ▸ nothing
+}) ▸ value_type p.value_type ▸ one name_of p.name ▸ symbol (codes ";") ▸ nothing
 
 -- ---- param = ["[" patt {"," patt} "]"] type name    patt = "in" | "optional" | "defaultvalue" "(" literal ")"
 
@@ -172,18 +174,18 @@ abbrev pub one_more : {A : Type 0} → ℕ → A → ℕ
 one_more n x = n + 1
 
 -- The closing brace.
-abbrev pub closing : {S : Type 0} → S → Unit {0} → Form
-closing s x = sign (codes "}")
+abbrev pub closing : {S : Type 0} → S → Unit {0} → Language
+closing s x = symbol (codes "}")
 
 -- literal = ["-"] number | string | "TRUE" | "FALSE"
-abbrev pub amount : ℤ → Form
-amount i = either_of (sign (codes "-") ▸ one (amount_of true) i) (one (amount_of false) i)
+abbrev pub amount : ℤ → Language
+amount i = either_of (symbol (codes "-") ▸ one (amount_of true) i) (one (amount_of false) i)
 
-unfoldable pub literal : Literal → Form
+unfoldable pub literal : Literal → Language
 literal (literals.Number i) = amount i
 literal (literals.Text cs) = one characters_of cs
-literal (literals.Bool true) = sign (codes "TRUE")
-literal (literals.Bool false) = sign (codes "FALSE")
+literal (literals.Bool true) = symbol (codes "TRUE")
+literal (literals.Bool false) = symbol (codes "FALSE")
 
 -- An attribute of a parameter.
 pub data ParameterAttribute : Type 0 where
@@ -191,10 +193,10 @@ pub data ParameterAttribute : Type 0 where
   IsOptional : ParameterAttribute
   HasDefault : Literal → ParameterAttribute
 
-abbrev pub parameter_attribute : ParameterAttribute → Form
-parameter_attribute IsIn = sign (codes "in")
-parameter_attribute IsOptional = sign (codes "optional")
-parameter_attribute (HasDefault v) = sign (codes "defaultvalue") ▸ sign (codes "(") ▸ literal v ▸ sign (codes ")")
+abbrev pub parameter_attribute : ParameterAttribute → Language
+parameter_attribute IsIn = symbol (codes "in")
+parameter_attribute IsOptional = symbol (codes "optional")
+parameter_attribute (HasDefault v) = symbol (codes "defaultvalue") ▸ symbol (codes "(") ▸ literal v ▸ symbol (codes ")")
 
 -- No attribute so far.
 abbrev pub no_parameter : ParameterSeen
@@ -217,18 +219,18 @@ abbrev pub parameter_finish : ParameterSeen → Option ParameterSeen
 parameter_finish s = Some s
 
 -- The attributes of a parameter.
-unfoldable pub parameter_head : ParameterSeen → Form
+unfoldable pub parameter_head : ParameterSeen → Language
 parameter_head h = attributes parameter_attribute parameter_may parameter_grow parameter_finish no_parameter h
 
 abbrev pub head_of_parameter : Parameter → ParameterSeen
 head_of_parameter p = record { is_in = p.is_in; is_optional = p.is_optional; default = p.default }
 
 -- The type and name of a parameter.
-abbrev pub typed : Parameter → Form
+abbrev pub typed : Parameter → Language
 typed p = value_type p.value_type ▸ one name_of p.name ▸ nothing
 
 -- A parameter, with a list of attributes or without any.
-unfoldable pub parameter : Parameter → Form
+unfoldable pub parameter : Parameter → Language
 parameter p =
     either_of (parameter_head (head_of_parameter p) ▸ typed p) (where_is (head_of_parameter p ≡ no_parameter) (typed p))
 
@@ -243,13 +245,13 @@ pub data MethodAttribute : Type 0 where
   MethodHelp : MethodAttribute
 
 -- An `id`.
-abbrev pub numbered : ℤ → Form
-numbered i = sign (codes "id") ▸ sign (codes "(") ▸ id_form i ▸ sign (codes ")")
+abbrev pub numbered : ℤ → Language
+numbered i = symbol (codes "id") ▸ symbol (codes "(") ▸ id_form i ▸ symbol (codes ")")
 
-abbrev pub method_attribute : MethodAttribute → Form
+abbrev pub method_attribute : MethodAttribute → Language
 method_attribute (MethodId i) = numbered i
-method_attribute Propget = sign (codes "propget")
-method_attribute Propput = sign (codes "propput")
+method_attribute Propget = symbol (codes "propget")
+method_attribute Propput = symbol (codes "propput")
 method_attribute MethodHelp = help
 
 -- No attribute so far.
@@ -285,7 +287,7 @@ abbrev pub method_finish : MethodSeen → Option MethodHead
 method_finish s = method_head_of s.id s.kind
 
 -- The attributes of a method.
-unfoldable pub method_head : MethodHead → Form
+unfoldable pub method_head : MethodHead → Language
 method_head h = attributes method_attribute method_may method_grow method_finish no_method h
 
 -- The result may be void: that of a get never is, that of a put always.
@@ -300,16 +302,16 @@ may_have_type forms.Method = true
 may_have_type forms.Get = true
 may_have_type forms.Put = false
 
-unfoldable pub result_type : MethodKind → Option ValueType → Form
-result_type k None = where_is (may_be_void k ≡ true) (sign (codes "void"))
+unfoldable pub result_type : MethodKind → Option ValueType → Language
+result_type k None = where_is (may_be_void k ≡ true) (symbol (codes "void"))
 result_type k (Some t) = where_is (may_have_type k ≡ true) (value_type t)
 
 -- A parameter, with a comma before it unless it is the first.
-abbrev pub separated : Bool → Parameter → Form
+abbrev pub separated : Bool → Parameter → Language
 separated true p = parameter p
-separated false p = sign (codes ",") ▸ parameter p
+separated false p = symbol (codes ",") ▸ parameter p
 
-abbrev pub next_parameter : ℕ → Parameter → Form
+abbrev pub next_parameter : ℕ → Parameter → Language
 next_parameter n p = separated (n == 0) p
 
 -- The list of parameters may end after `n`: a put has at least one.
@@ -319,36 +321,37 @@ may_end forms.Get n = true
 may_end forms.Put n = not (n == 0)
 
 -- The bracket that closes the parameters.
-abbrev pub last_parameter : MethodKind → ℕ → Unit {0} → Form
-last_parameter k n x = where_is (may_end k n ≡ true) (sign (codes ")"))
+abbrev pub last_parameter : MethodKind → ℕ → Unit {0} → Language
+last_parameter k n x = where_is (may_end k n ≡ true) (symbol (codes ")"))
 
 -- The rest of a method, after its attributes.
-abbrev pub method_body : MethodKind → MethodValue → Form
+abbrev pub method_body : MethodKind → MethodValue → Language
 method_body k m =
-    result_type k m.value_type ▸ one name_of m.name ▸ sign (codes "(")
-    ▸ listed next_parameter one_more nowhere (last_parameter k) 0 m.parameters tt ▸ sign (codes ";") ▸ nothing
+    result_type k m.value_type ▸ one name_of m.name ▸ symbol (codes "(")
+    ▸ listed next_parameter one_more nowhere (last_parameter k) 0 m.parameters tt ▸ symbol (codes ";") ▸ nothing
 
-unfoldable pub method : MethodValue → Form
+unfoldable pub method : MethodValue → Language
 method m = method_head (record { id = m.id; kind = m.kind }) ▸ method_body m.kind m
 
 -- ---- disp = attrs "dispinterface" name "{" ["properties" ":" {prop}] ["methods" ":" {method}] "}"
 
 -- The second section, after `n` members of the first, and the brace that closes the interface. The section may be
 -- missing.
-abbrev pub methods : ℕ → List MethodValue → Form
+abbrev pub methods : ℕ → List MethodValue → Language
 methods n ms =
-    either_of (sign (codes "methods") ▸ sign (codes ":") ▸ listed (λ k. method) one_more nowhere closing n ms tt)
-    (where_is (ms ≡ []) (sign (codes "}")))
+    either_of (symbol (codes "methods") ▸ symbol (codes ":") ▸ listed (λ k. method) one_more nowhere closing n ms tt)
+    (where_is (ms ≡ []) (symbol (codes "}")))
 
 -- Both sections of an interface.
-abbrev pub members : List Property → List MethodValue → Form
+abbrev pub members : List Property → List MethodValue → Language
 members ps ms =
-    either_of (sign (codes "properties") ▸ sign (codes ":") ▸ listed (λ n. property) one_more nowhere methods 0 ps ms)
+    either_of (symbol (codes "properties") ▸ symbol (codes ":") ▸ listed
+    (λ n. property) one_more nowhere methods 0 ps ms)
     (where_is (ps ≡ []) (methods 0 ms))
 
 -- An interface, after its attributes.
-abbrev pub interface : List ℕ → List Property → List MethodValue → Form
-interface name ps ms = sign (codes "dispinterface") ▸ one name_of name ▸ sign (codes "{") ▸ members ps ms ▸ nothing
+abbrev pub interface : List ℕ → List Property → List MethodValue → Language
+interface name ps ms = symbol (codes "dispinterface") ▸ one name_of name ▸ symbol (codes "{") ▸ members ps ms ▸ nothing
 
 -- ---- class = attrs "coclass" name "{" entry {entry} "}"
 --      entry = ["[" "default" "]"] ("dispinterface" | "interface") name ";"
@@ -357,11 +360,11 @@ abbrev pub entry_word : Word → Bool
 entry_word w = passes (codes "dispinterface") w || passes (codes "interface") w
 
 -- An entry, after its `[default]`.
-abbrev pub named : Entry → Form
-named e = this entry_word ▸ one name_of e.interface ▸ sign (codes ";") ▸ nothing
+abbrev pub named : Entry → Language
+named e = this entry_word ▸ one name_of e.interface ▸ symbol (codes ";") ▸ nothing
 
-abbrev pub entry_by : Bool → Entry → Form
-entry_by true e = sign (codes "[") ▸ sign (codes "default") ▸ sign (codes "]") ▸ named e
+abbrev pub entry_by : Bool → Entry → Language
+entry_by true e = symbol (codes "[") ▸ symbol (codes "default") ▸ symbol (codes "]") ▸ named e
 entry_by false e = named e
 
 -- No entry so far.
@@ -376,17 +379,17 @@ entry_may s e = not (e.is_default && s.default)
 abbrev pub entry_grow : EntriesSeen → Entry → EntriesSeen
 entry_grow s e = record { some = true; default = s.default || e.is_default }
 
-abbrev pub entry : EntriesSeen → Entry → Form
+abbrev pub entry : EntriesSeen → Entry → Language
 entry s e = where_is (entry_may s e ≡ true) (entry_by e.is_default e)
 
 -- The closing brace, after at least one entry.
-abbrev pub last_entry : EntriesSeen → Unit {0} → Form
-last_entry s x = where_is (s.some ≡ true) (sign (codes "}"))
+abbrev pub last_entry : EntriesSeen → Unit {0} → Language
+last_entry s x = where_is (s.some ≡ true) (symbol (codes "}"))
 
 -- A coclass, after its attributes.
-abbrev pub coclass : List ℕ → List Entry → Form
+abbrev pub coclass : List ℕ → List Entry → Language
 coclass name es =
-    sign (codes "coclass") ▸ one name_of name ▸ sign (codes "{")
+    symbol (codes "coclass") ▸ one name_of name ▸ symbol (codes "{")
     ▸ listed entry entry_grow nowhere last_entry no_entry es tt ▸ nothing
 
 -- ---- text = attrs "library" name "{" {import | (disp | class) [";"]} "}" [";"]
@@ -397,23 +400,23 @@ guid_of_item (items.Interface d) = d.guid
 guid_of_item (items.Coclass c) = c.guid
 
 -- An item, after its attributes.
-abbrev pub body : Item → Form
-body (items.Interface d) = interface d.name d.properties d.methods
-body (items.Coclass c) = coclass c.name c.entries
+abbrev pub item_body : Item → Language
+item_body (items.Interface d) = interface d.name d.properties d.methods
+item_body (items.Coclass c) = coclass c.name c.entries
 
 -- An item with its attributes.
-abbrev pub item : Item → Form
-item x = with (head false) (λ h. where_is (h.guid ≡ guid_of_item x) (body x))
+abbrev pub item : Item → Language
+item x = with (head false) (λ h. where_is (h.guid ≡ guid_of_item x) (item_body x))
 
 -- An element of a library: an import, which is ignored, or an item.
 pub data LibraryContent : Type 0 where
   Import : LibraryContent
   OfItem : Item → LibraryContent
 
-abbrev pub importing : Form
-importing = sign (codes "importlib") ▸ sign (codes "(") ▸ this is_text ▸ sign (codes ")") ▸ sign (codes ";")
+abbrev pub importing : Language
+importing = symbol (codes "importlib") ▸ symbol (codes "(") ▸ this is_text ▸ symbol (codes ")") ▸ symbol (codes ";")
 
-unfoldable pub element : LibraryContent → Form
+unfoldable pub element : LibraryContent → Language
 element Import = importing
 element (OfItem x) = item x
 
@@ -442,13 +445,13 @@ items_in (Import ∷ es) = items_in es
 items_in (OfItem x ∷ es) = x ∷ items_in es
 
 -- The elements of a library whose items are these, and the closing brace.
-unfoldable pub elements : List Item → Form
-elements xs =
+unfoldable pub library_contents : List Item → Language
+library_contents xs =
     with (λ es. listed (λ s. element) elements_grow semicolon_after closing no_items es tt)
     (λ es. given (xs ≡ items_in es))
 
 -- A whole text.
-abbrev pub library : TreeValue → Form
-library t = head true (record { guid = t.guid; version = t.version }) ▸ sign (codes "library") ▸ one name_of t.name
-    ▸ sign (codes "{") ▸
-    elements t.items ▸ optional (sign (codes ";")) ▸ sign [] ▸ nothing
+abbrev pub library : TreeValue → Language
+library t = head true (record { guid = t.guid; version = t.version }) ▸ symbol (codes "library") ▸ one name_of t.name
+    ▸ symbol (codes "{") ▸
+    library_contents t.items ▸ optional (symbol (codes ";")) ▸ symbol [] ▸ nothing

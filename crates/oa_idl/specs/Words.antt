@@ -201,14 +201,14 @@ id_of negative w = if same_kind w.kind kinds.Number then id_from negative (is_he
 -- ---- defaults of parameters
 
 -- The number of a default with its sign.
-abbrev pub signed : Bool → ℕ → ℤ
-signed true n = neg_ℤ (pos n)
-signed false n = pos n
+abbrev pub signed_number : Bool → ℕ → ℤ
+signed_number true n = neg_ℤ (pos n)
+signed_number false n = pos n
 
 -- The number of a default with its sign, if there is one.
 abbrev pub amount_from : Bool → Option ℕ → Option ℤ
 amount_from negative None = None
-amount_from negative (Some n) = Some (signed negative n)
+amount_from negative (Some n) = Some (signed_number negative n)
 
 -- The number of a default in a word.
 unfoldable pub amount_of : Bool → Word → Option ℤ

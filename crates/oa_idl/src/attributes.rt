@@ -7,11 +7,11 @@ ghost use Rattle.oa_idl.specs.Reading.{ReadsWords, done, gather};
 ghost use Rattle.oa_idl.specs.Grammar.{head_grow, head_finish, property_grow, property_finish};
 ghost use Rattle.oa_idl.specs.Grammar.HeadAttribute.{Guid, Numbered};
 ghost use Rattle.oa_idl.specs.GrammarReading.{grown_at, next_grown_at, last_at, help_at, minor_at, head_attribute_at, head_full, head_at};
-ghost use Rattle.oa_idl.specs.GrammarReading.{uuid_at, version_at, signed_at, numbered_at, property_attribute_at, property_full, property_head_at};
+ghost use Rattle.oa_idl.specs.GrammarReading.{uuid_at, version_at, signed_number_at, numbered_at, property_attribute_at, property_full, property_head_at};
 
 use crate::parts::Version;
 use crate::reader::Reader;
-use crate::seen::{Head, HeadSeen, PropertyHead, PropertySeen};
+use crate::seen::{HeadSeen, HeadValues, PropertyHead, PropertySeen};
 use crate::stop::Stop;
 use uuid::Uuid;
 
@@ -81,7 +81,7 @@ fn head_attribute(r: &mut Reader<'_>, counts: bool, seen: HeadSeen) -> Result<He
         let guid = uuid(r)?;
         return Ok(HeadSeen {
             uuid: true,
-            head: Head { guid, ..seen.head },
+            head: HeadValues { guid, ..seen.head },
             ..seen
         });
     }
@@ -92,7 +92,7 @@ fn head_attribute(r: &mut Reader<'_>, counts: bool, seen: HeadSeen) -> Result<He
         let version = version(r, counts)?;
         return Ok(HeadSeen {
             version: true,
-            head: Head {
+            head: HeadValues {
                 version,
                 ..seen.head
             },
@@ -120,7 +120,7 @@ fn next_head_attribute(r: &mut Reader<'_>, counts: bool, seen: HeadSeen) -> Resu
 
 /// Reads the bracket that closes the list. There must be a `uuid`. Err: `Syntax`.
 #[tactic(auto, unfolding(crate::proofs::OnReadings::combinators))]
-fn last_head_attribute(r: &mut Reader<'_>, seen: HeadSeen) -> Result<Head, Stop>
+fn last_head_attribute(r: &mut Reader<'_>, seen: HeadSeen) -> Result<HeadValues, Stop>
     ensures { ReadsWords (λ h. h) result r.new (last_at head_finish seen r.old) }
 {
     if !seen.uuid {
@@ -138,7 +138,7 @@ fn more_head_attributes(
     counts: bool,
     seen: HeadSeen,
     room: usize,
-) -> Result<Head, Stop>
+) -> Result<HeadValues, Stop>
     ensures { ReadsWords (λ h. h) result r.new (gather (passes (codes "]")) (next_grown_at (head_attribute_at counts) head_grow head_full)
         (last_at head_finish) room seen r.old) }
 {
@@ -155,7 +155,7 @@ fn more_head_attributes(
 /// Reads the attributes of a library, whose version counts, or of an item, whose version is
 /// ignored. Err: `Syntax`.
 #[tactic(auto, unfolding(crate::proofs::OnReadings::combinators, crate::specs::GrammarReading::head_at))]
-pub(crate) fn head(r: &mut Reader<'_>, counts: bool) -> Result<Head, Stop>
+pub(crate) fn head(r: &mut Reader<'_>, counts: bool) -> Result<HeadValues, Stop>
     ensures { ReadsWords (λ h. h) result r.new (head_at counts r.old) }
 {
     r.take(b"[")?;
@@ -166,7 +166,7 @@ pub(crate) fn head(r: &mut Reader<'_>, counts: bool) -> Result<Head, Stop>
             uuid: false,
             version: false,
             help: false,
-            head: Head {
+            head: HeadValues {
                 guid: Uuid::nil(),
                 version: Version { major: 0, minor: 0 },
             },
@@ -179,9 +179,9 @@ pub(crate) fn head(r: &mut Reader<'_>, counts: bool) -> Result<Head, Stop>
 // ---- of a property
 
 /// Reads the number of an `id` with its sign. Err: `Syntax`.
-#[tactic(auto, unfolding(crate::proofs::OnReadings::combinators, crate::specs::GrammarReading::signed_at))]
+#[tactic(auto, unfolding(crate::proofs::OnReadings::combinators, crate::specs::GrammarReading::signed_number_at))]
 fn signed(r: &mut Reader<'_>) -> Result<i32, Stop>
-    ensures { ReadsWords (λ i. i) result r.new (signed_at r.old) }
+    ensures { ReadsWords (λ i. i) result r.new (signed_number_at r.old) }
 {
     if r.is(b"-") {
         r.take(b"-")?;

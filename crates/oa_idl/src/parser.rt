@@ -7,7 +7,7 @@ ghost use Rattle.oa_idl.specs.Reading.{ReadsWords, done, heads, until};
 ghost use Rattle.oa_idl.specs.IsTree.{IsTree, AnswersText, AnswersTree, place_after};
 ghost use Rattle.oa_idl.specs.Grammar.{one_more, entry_grow, no_entry, items_grow};
 ghost use Rattle.oa_idl.specs.GrammarReading.{type_word_at, value_type_at, property_at, methods_at, ends_properties, members_at};
-ghost use Rattle.oa_idl.specs.GrammarReading.{interface_at, named_at, entry_at, last_entry_at, coclass_at, import_at, item_at};
+ghost use Rattle.oa_idl.specs.GrammarReading.{interface_at, named_entry_at, entry_at, last_entry_at, coclass_at, import_at, item_at};
 ghost use Rattle.oa_idl.specs.GrammarReading.{elements_within, library_at};
 ghost use Rattle.oa_idl.specs.Trees.{TreeValue};
 ghost use Rattle.oa_idl.specs.Parsed.{IsParsed};
@@ -146,9 +146,9 @@ fn interface(alloc: Global, r: &mut Reader<'_>, seen: ItemsSeen, guid: Uuid) -> 
 }
 
 /// Reads an entry, after its `[default]`. Err: `Syntax`, `Limit`, `Memory`.
-#[tactic(auto, unfolding(crate::proofs::OnReadings::combinators, crate::specs::GrammarReading::named_at))]
+#[tactic(auto, unfolding(crate::proofs::OnReadings::combinators, crate::specs::GrammarReading::named_entry_at))]
 fn named(alloc: Global, r: &mut Reader<'_>, is_default: bool) -> Result<Entry, Stop>
-    ensures { ReadsWords (λ e. e) result r.new (named_at is_default r.old) }
+    ensures { ReadsWords (λ e. e) result r.new (named_entry_at is_default r.old) }
 {
     r.entry_word()?;
     let interface = r.name(alloc, TreeLimit::Name, 1, 0)?;

@@ -4,7 +4,7 @@ ghost use Rattle.oa_idl.specs.Words.{word_of, passes, is_text, name_of, over, gu
 ghost use Rattle.oa_idl.specs.Words.{is_hexadecimal, below, part_from, part_of, id_number, id_from, id_of, word_type, same_kind};
 ghost use Rattle.oa_idl.specs.Words.{never_over, amount_from, amount_of, is_printable, is_escaped, characters_from, characters_of};
 ghost use Rattle.oa_idl.specs.Grammar.{entry_word};
-ghost use Rattle.oa_idl.specs.Reading.{ReadsWords, heads, later_words, this_at, one_at, if_meant, done, seen_first, first_of};
+ghost use Rattle.oa_idl.specs.Reading.{ReadsWords, heads, later_words, this_at, one_at, if_meant, done, seen_first, first_word};
 ghost use Rattle.oa_idl.specs.NextWords.{token_text, seen_text};
 ghost use Rattle.oa_idl.specs.declared.stop.Stop.TheVariants.{Syntax};
 ghost use Rattle.uuid.specs.Text.{parsed_hyphenated};
@@ -245,7 +245,7 @@ impl<'a> Reader<'a> {
 
     /// Returns the kind of the next word and its bytes; None if no word is left.
     fn first(&self) -> Option<(TokenKind, &'a [u8])>
-        ensures { seen_first result ≡ first_of self.now }
+        ensures { seen_first result ≡ first_word self.now }
     {
         if self.rest.is_empty() {
             return None;

@@ -12,10 +12,10 @@ use Rattle.std.proofs.lemmas.List.{length-append}
 use Rattle.oa_variant.specs.declared.variant.Variant.{Variant}
 use Rattle.oa_table.specs.Places.{PlaceValue}
 use Rattle.oa_table.specs.Tables.{ObjectValue, TableValue}
-use Rattle.oa_layout.specs.Formats.{Format, counted, coded, made_where, next_by, only, raw, rising, times}
-use Rattle.oa_layout.specs.Numbers.{u32, guid}
-use Rattle.oa_layout.proofs.Exact.{no_prefix}
-use Rattle.oa_image.specs.Tables.{before, cell, cells, is_used, object, older, table, table_image}
+use Rattle.oa_formats.specs.Formats.{Format, counted, coded, made_where, next_by, only, raw, rising, times}
+use Rattle.oa_formats.specs.Numbers.{u32, guid_format}
+use Rattle.oa_formats.proofs.Exact.{no_prefix}
+use Rattle.oa_image.specs.Tables.{cell, cells, is_used, object, older, place_before, table, table_image}
 use Rattle.oa_image.specs.declared.reader.OpenObject.{OpenObject}
 use Rattle.oa_image.specs.declared.reader.OpenTable.{OpenTable}
 use Rattle.oa_image.specs.Reader.{IsOpenTable, TakesEnd, all_objects, object_so_far, with_at_hand, count_at_hand, is_behind, last_number, object_head, object_taken, table_head, table_taken, taken_at_hand}
@@ -103,20 +103,20 @@ unfolding table_head next_by
 head_image t = sym (whole_image t)
 
 pub object_head_is : (number : ℕ) (class : List ℕ) (count : ℕ) → number < 2 ^ 32 → length class ≡ 16 → count < 2 ^ 32 → object_head.Is (number, (class, count))
-unfolding object_head next_by made_where u32 guid
+unfolding object_head next_by made_where u32 guid_format
 object_head_is number class count low long few = (low, (long, few))
 
 pub object_head_parts : (h : ℕ × (List ℕ × ℕ)) → object_head.Is h → (h.0 < 2 ^ 32) × (length h.1.0 ≡ 16) × (h.1.1 < 2 ^ 32)
-unfolding object_head next_by made_where u32 guid
+unfolding object_head next_by made_where u32 guid_format
 object_head_parts h is = (is.0, is.1.0, is.1.1)
 
 pub object_head_bytes : (h : ℕ × (List ℕ × ℕ)) → 0 < length (object_head.image h)
-unfolding object_head next_by made_where u32 guid raw
+unfolding object_head next_by made_where u32 guid_format raw
 object_head_bytes h = omega arith
 
 pub object_image : (o : ℕ × ObjectValue) → object.image o ≡ object_head.image (o.0, (o.1.class, length o.1.cells)) ++ flat_map cell.image o.1.cells
 unfolding object cells only counted times coded made_where object_head next_by
-object_image o = regroup (u32.image o.0) (guid.image o.1.class) (u32.image (length o.1.cells)) (flat_map cell.image o.1.cells)
+object_image o = regroup (u32.image o.0) (guid_format.image o.1.class) (u32.image (length o.1.cells)) (flat_map cell.image o.1.cells)
   where
     regroup : (a b c d : List ℕ) → a ++ (b ++ (c ++ d)) ≡ (a ++ (b ++ c)) ++ d
     regroup a b c d = simp append_assoc refl
@@ -208,19 +208,19 @@ object_comes t bytes whole valid none some is e =
 module _ (t : OpenTable) (o : OpenObject) (bytes : List ℕ) (whole : TableValue) (valid : IsOpenTable (with_at_hand o t)) (some : 0 < o.left) (is : table.Is whole)
     (e : table_taken (with_at_hand o t) ++ bytes ≡ table_image whole) where
   abbrev NextCell : Type 0
-  NextCell = Comes cell (λ next. is_behind before o.cells.items next ≡ true) bytes
+  NextCell = Comes cell (λ next. is_behind place_before o.cells.items next ≡ true) bytes
 
   abbrev there : List ℕ
   there = flat_map cell.image o.cells.items
 
   among_cells : (z : ℕ × ObjectValue) (rest : List ℕ) (cells : List (PlaceValue × Variant)) → length o.cells.items + length cells ≡ length o.cells.items + o.left → AllByRecursion cell.Is cells
-      → rising before (o.cells.items ++ cells) ≡ true → bytes ≡ flat_map cell.image cells ++ rest → NextCell
+      → rising place_before (o.cells.items ++ cells) ≡ true → bytes ≡ flat_map cell.image cells ++ rest → NextCell
   among_cells z rest [] count are rises same = absurd (omega (arith, some, count))
   among_cells z rest (c ∷ cs) count are rises same = record {
     value = c;
     rest = flat_map cell.image cs ++ rest;
     is = are.0;
-    fits = apart before o.cells.items c cs rises;
+    fits = apart place_before o.cells.items c cs rises;
     bytes_are = same ∙ append_assoc (cell.image c) (flat_map cell.image cs) rest;
   }
 
@@ -239,7 +239,7 @@ module _ (t : OpenTable) (o : OpenObject) (bytes : List ℕ) (whole : TableValue
       let many : all ≡ length z.1.cells = ap (λ (h : ℕ × (List ℕ × ℕ)). h.1.1) p.0 in
       let q = list_behind cell o.cells.items z.1.cells bytes rest here.all parts.all (omega (arith, many)) p.1 in
       among_cells z rest q.others (omega (arith, many, ap length q.all, length-append o.cells.items q.others)) q.are
-      (subst (λ all. rising before all ≡ true) q.all parts.rises) q.bytes
+      (subst (λ all. rising place_before all ≡ true) q.all parts.rises) q.bytes
 
   pub cell_comes : NextCell
   cell_comes = by b.others b.count b.are b.bytes_are

@@ -2,10 +2,10 @@
 use Rattle.std.proofs.Common.{◌≡◌, ℕ, ℤ, ◌+◌, ◌≤◌, List, [], ◌∷◌, ◌++◌, length, take, drop, slice_index_or, refl, sym}
 use Rattle.std.specs.Int.{w32, to_le_bytes, cast_unsigned}
 use Rattle.oa_model.specs.Guids.{wire_order}
-use Rattle.oa_layout.specs.Formats.{combinators}
-use Rattle.oa_layout.specs.Numbers.{numbers}
-use Rattle.oa_layout.specs.Values.{scalar_parts, of_type}
-use Rattle.oa_layout.specs.Variants.{contents}
+use Rattle.oa_formats.specs.Formats.{combinators}
+use Rattle.oa_formats.specs.Numbers.{numbers}
+use Rattle.oa_formats.specs.Values.{scalar_parts, of_type}
+use Rattle.oa_formats.specs.Variants.{contents}
 use Rattle.oa_table.specs.declared.name.CellName.{CellName}
 use Rattle.oa_table.specs.declared.event.Event.{Event}
 use Rattle.oa_table.specs.declared.event.Event.TheVariants.{Put}

@@ -18,9 +18,9 @@ use Rattle.oa_table.specs.Places.{PlaceValue, place_cmp, places_total}
 use Rattle.oa_table.specs.Sizes.{table_size}
 use Rattle.oa_table.specs.Tables.{ObjectValue, TableValue}
 use Rattle.oa_ndr.specs.Reading.{Cursor, at}
-use Rattle.oa_layout.specs.Formats.{Format, IsBytes, rising}
-use Rattle.oa_layout.proofs.Exact.{no_prefix}
-use Rattle.oa_image.specs.Tables.{before, cell, object, older, table, table_image, is_used}
+use Rattle.oa_formats.specs.Formats.{Format, IsBytes, rising}
+use Rattle.oa_formats.proofs.Exact.{no_prefix}
+use Rattle.oa_image.specs.Tables.{place_before, cell, object, older, table, table_image, is_used}
 use Rattle.oa_image.specs.declared.reader.OpenObject.{OpenObject}
 use Rattle.oa_image.specs.declared.reader.OpenTable.{OpenTable}
 use Rattle.oa_image.specs.Reader.{BeginsWith, IsBetweenParts, IsOpenTable, TakesEnd, TakesPart, all_objects, is_behind, object_head, object_so_far, object_taken, table_head, table_taken, with_at_hand}
@@ -97,7 +97,7 @@ module _ (t : OpenTable) (o : OpenObject) (cells : Vec (PlaceValue × Variant)) 
       regroup : (a b c d e : List ℕ) → a ++ (b ++ (c ++ (d ++ e))) ≡ (a ++ (b ++ (c ++ d))) ++ e
       regroup a b c d e = simp append_assoc refl
 
-  pub cell_opens : IsOpenTable (with_at_hand o t) → cell.Is c → is_behind before o.cells.items c ≡ true → IsOpenTable (with_at_hand grown t)
+  pub cell_opens : IsOpenTable (with_at_hand o t) → cell.Is c → is_behind place_before o.cells.items c ≡ true → IsOpenTable (with_at_hand grown t)
   cell_opens valid is behind =
       let parts = object_parts (object_so_far o) valid.at_hand.is in
       record {
@@ -110,7 +110,7 @@ module _ (t : OpenTable) (o : OpenObject) (cells : Vec (PlaceValue × Variant)) 
             class = parts.class;
             few = omega (arith, count, valid.at_hand.few);
             all = subst (AllByRecursion cell.Is) (sym pushed) (push_all cell.Is o.cells.items c parts.all is);
-            rises = subst (λ all. rising before all ≡ true) (sym pushed) (joined before o.cells.items c parts.rises behind);
+            rises = subst (λ all. rising place_before all ≡ true) (sym pushed) (joined place_before o.cells.items c parts.rises behind);
           });
           above = valid.at_hand.above;
           used = valid.at_hand.used;
@@ -151,7 +151,7 @@ module _ (t : OpenTable) (number : ℕ) (class : List ℕ) (cells : Vec (PlaceVa
             class = head.1;
             few = omega (arith, ap length empty);
             all = subst (AllByRecursion cell.Is) (sym empty) tt;
-            rises = subst (λ all. rising before all ≡ true) (sym empty) refl;
+            rises = subst (λ all. rising place_before all ≡ true) (sym empty) refl;
           });
           above = above;
           used = used;

@@ -1,5 +1,5 @@
 -- What is read of an image has no locks.
-use Rattle.oa_layout.specs.Formats.{next_by, tagged, case}
+use Rattle.oa_formats.specs.Formats.{next_by, tagged, case}
 use Rattle.oa_table.specs.declared.event.Event.{Event}
 use Rattle.oa_table.specs.declared.event.Event.TheVariants.{Create, Release, Put, PutElement, Redim}
 use Rattle.oa_table.specs.Events.{BringsNoLocks}

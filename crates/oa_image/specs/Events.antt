@@ -12,11 +12,11 @@ use Rattle.oa_variant.specs.Variants.{no_indices}
 use Rattle.oa_table.specs.declared.name.CellName.{CellName}
 use Rattle.oa_table.specs.declared.event.Event.{Event}
 use Rattle.oa_table.specs.declared.event.Event.TheVariants.{Create, Release, Put, PutElement, Redim}
-use Rattle.oa_layout.specs.Formats.{Format, ◌▸◌, tagged, never, case, pick, picked, counted}
-use Rattle.oa_layout.specs.Numbers.{u8, u16, u32, i32, guid}
-use Rattle.oa_layout.specs.Values.{scalar}
-use Rattle.oa_layout.specs.Arrays.{bound}
-use Rattle.oa_layout.specs.Variants.{value}
+use Rattle.oa_formats.specs.Formats.{Format, ◌▸◌, tagged, never, case, pick, picked, counted}
+use Rattle.oa_formats.specs.Numbers.{u8, u16, u32, i32, guid_format}
+use Rattle.oa_formats.specs.Values.{scalar_format}
+use Rattle.oa_formats.specs.Arrays.{bound_format}
+use Rattle.oa_formats.specs.Variants.{value}
 use Rattle.oa_image.specs.Names.{name}
 
 abbrev pub event_kind : Event → ℕ
@@ -80,7 +80,7 @@ is_redim e is = absurd (omega (arith, is))
 
 unfoldable pub create : Format Event
 create =
-    case event_kind 1 (λ p. Create p.0 p.1) (λ e. (event_number e, event_class e)) (u32 ▸ guid) (λ p is. refl)
+    case event_kind 1 (λ p. Create p.0 p.1) (λ e. (event_number e, event_class e)) (u32 ▸ guid_format) (λ p is. refl)
     (λ p. refl) is_create
 
 unfoldable pub release : Format Event
@@ -91,18 +91,18 @@ put =
     case event_kind 3 (λ p. Put p.0 p.1) (λ e. (name_in e, event_value e)) (name ▸ value) (λ p is. refl)
     (λ p. refl) is_put
 
-unfoldable pub indices : Format (List ℤ)
-indices = counted u16 i32
+unfoldable pub indices_format : Format (List ℤ)
+indices_format = counted u16 i32
 
 unfoldable pub put_element : Format Event
 put_element =
     case event_kind 4 (λ p. PutElement p.0 p.1.0 p.1.1) (λ e. (name_in e, (index_in e, event_element e)))
-    (name ▸ indices ▸ scalar)
+    (name ▸ indices_format ▸ scalar_format)
     (λ p is. refl) (λ p. refl) is_put_element
 
 unfoldable pub redim : Format Event
 redim =
-    case event_kind 5 (λ p. Redim p.0 p.1) (λ e. (name_in e, bound_in e)) (name ▸ bound) (λ p is. refl)
+    case event_kind 5 (λ p. Redim p.0 p.1) (λ e. (name_in e, bound_in e)) (name ▸ bound_format) (λ p is. refl)
     (λ p. refl) is_redim
 
 unfoldable pub of_kind : ℕ → Format Event

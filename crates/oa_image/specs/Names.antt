@@ -4,18 +4,18 @@ use Rattle.std.proofs.Common.{List, refl}
 use Rattle.oa_variant.specs.declared.scalar.Scalar.{Scalar}
 use Rattle.oa_table.specs.Places.{PlaceValue}
 use Rattle.oa_table.specs.declared.name.CellName.{CellName}
-use Rattle.oa_layout.specs.Formats.{Format, ◌▸◌, made, counted}
-use Rattle.oa_layout.specs.Numbers.{u16, u32, i32, guid}
-use Rattle.oa_layout.specs.Values.{scalar}
+use Rattle.oa_formats.specs.Formats.{Format, ◌▸◌, made, counted}
+use Rattle.oa_formats.specs.Numbers.{u16, u32, i32, guid_format}
+use Rattle.oa_formats.specs.Values.{scalar_format}
 
 unfoldable pub key : Format (List Scalar)
-key = counted u16 scalar
+key = counted u16 scalar_format
 
 -- interface, DISPID, key
 unfoldable pub place : Format PlaceValue
 place =
     made (λ p. record { interface = p.0; dispid = p.1.0; key = p.1.1 }) (λ p. (p.interface, (p.dispid, p.key)))
-    (guid ▸ i32 ▸ key)
+    (guid_format ▸ i32 ▸ key)
     (λ p. refl) (λ p. refl)
 
 unfoldable pub name : Format CellName

@@ -1,6 +1,6 @@
 -- How many bytes the image of an event has. (This project's choice.)
 use Rattle.std.specs.Prelude.{ℕ, ◌+◌, ◌*◌, length}
-use Rattle.oa_layout.specs.Lengths.{scalar_size, value_size}
+use Rattle.oa_formats.specs.Lengths.{scalar_size, value_size}
 use Rattle.oa_table.specs.Sizes.{place_size}
 use Rattle.oa_table.specs.declared.event.Event.{Event}
 use Rattle.oa_table.specs.declared.event.Event.TheVariants.{Create, Release, Put, PutElement, Redim}

@@ -7,25 +7,26 @@ use Rattle.std.specs.Ordering.{nat_cmp, is_lt}
 use Rattle.oa_variant.specs.declared.variant.Variant.{Variant}
 use Rattle.oa_table.specs.Places.{PlaceValue, place_cmp}
 use Rattle.oa_table.specs.Tables.{ObjectValue, TableValue}
-use Rattle.oa_layout.specs.Formats.{Format, ◌▸◌, made, counted, only, rising}
-use Rattle.oa_layout.specs.Numbers.{u32, guid}
-use Rattle.oa_layout.specs.Variants.{value}
+use Rattle.oa_formats.specs.Formats.{Format, ◌▸◌, made, counted, only, rising}
+use Rattle.oa_formats.specs.Numbers.{u32, guid_format}
+use Rattle.oa_formats.specs.Variants.{value}
 use Rattle.oa_image.specs.Names.{place}
 
 -- a place and its value
 unfoldable pub cell : Format (PlaceValue × Variant)
 cell = place ▸ value
 
-abbrev pub before : PlaceValue × Variant → PlaceValue × Variant → Bool
-before a b = is_lt (place_cmp a.0 b.0)
+abbrev pub place_before : PlaceValue × Variant → PlaceValue × Variant → Bool
+place_before a b = is_lt (place_cmp a.0 b.0)
 
 unfoldable pub cells : Format (List (PlaceValue × Variant))
-cells = only (rising before) (counted u32 cell)
+cells = only (rising place_before) (counted u32 cell)
 
 -- its number, its coclass, its cells
 unfoldable pub object : Format (ℕ × ObjectValue)
 object =
-    made (λ p. (p.0, record { class = p.1.0; cells = p.1.1 })) (λ o. (o.0, (o.1.class, o.1.cells))) (u32 ▸ guid ▸ cells)
+    made (λ p. (p.0, record { class = p.1.0; cells = p.1.1 })) (λ o. (o.0, (o.1.class, o.1.cells)))
+    (u32 ▸ guid_format ▸ cells)
     (λ p. refl)
     (λ o. refl)
 

@@ -1,13 +1,13 @@
 //! Reading the image of a table in stretches.
 ghost use Rattle.std.specs.Prelude.{◌≡◌, ◌<◌, ◌≤◌, ◌++◌, [], length, take, true, ⊤, IfOk, OnOk, MatchOption, None};
 ghost use Rattle.oa_table.specs.Tables.{TableValue};
-ghost use Rattle.oa_image.specs.Reader.{BeginsTable, BeginsWith, IsBetweenParts, IsOpenTable, Takes, TakesEnd, TakesPart, is_behind};
+ghost use Rattle.oa_image.specs.Reader.{BeginsTable, BeginsWith, ConsumesNext, IsBetweenParts, IsOpenTable, TakesEnd, TakesPart, is_behind};
 ghost use Rattle.oa_image.specs.Reader.{object_head, table_head, table_taken, with_at_hand};
 ghost use Rattle.oa_image.specs.Tables as tables;
 ghost use Rattle.oa_image.specs.Tables.{table as a_table, table_image};
 
 use crate::name::PlaceFormat;
-use oa_layout::{ReadFault, ReadImage, VariantFormat, read_guid, read_u32};
+use oa_formats::{ReadFault, ReadImage, VariantFormat, read_guid, read_u32};
 use oa_ndr::Ndr;
 use oa_ordered::OrderedMap;
 use oa_table::{Place, Table};
@@ -25,7 +25,7 @@ impl ReadImage for TableHead {
 
     ghost format = { table_head };
 
-    #[tactic(auto, unfolding(oa_ndr::specs::Reading::steps, oa_layout::specs::Formats::next_by, crate::specs::Reader::table_head))]
+    #[tactic(auto, unfolding(oa_ndr::specs::Reading::steps, oa_formats::specs::Formats::next_by, crate::specs::Reader::table_head))]
     fn read(_alloc: Global, r: &mut Ndr<'_>) -> Result<(u32, u32), ReadFault> {
         let next = read_u32(r)?;
         let count = read_u32(r)?;
@@ -42,7 +42,7 @@ impl ReadImage for ObjectHead {
 
     ghost format = { object_head };
 
-    #[tactic(auto, unfolding(oa_ndr::specs::Reading::steps, oa_layout::specs::Formats::next_by, crate::specs::Reader::object_head))]
+    #[tactic(auto, unfolding(oa_ndr::specs::Reading::steps, oa_formats::specs::Formats::next_by, crate::specs::Reader::object_head))]
     fn read(_alloc: Global, r: &mut Ndr<'_>) -> Result<(u32, (Uuid, u32)), ReadFault> {
         let number = read_u32(r)?;
         let class = read_guid(r)?;
@@ -59,7 +59,7 @@ impl ReadImage for CellFormat {
 
     ghost format = { tables.cell };
 
-    #[tactic(auto, unfolding(oa_ndr::specs::Reading::steps, oa_layout::specs::Formats::next_by, crate::specs::Tables::cell))]
+    #[tactic(auto, unfolding(oa_ndr::specs::Reading::steps, oa_formats::specs::Formats::next_by, crate::specs::Tables::cell))]
     fn read(alloc: Global, r: &mut Ndr<'_>) -> Result<(Place, Variant), ReadFault> {
         let place = PlaceFormat::read(alloc, r)?;
         let value = VariantFormat::read(alloc, r)?;
@@ -114,14 +114,14 @@ fn room_for(count: u32) -> usize {
 
 /// Returns whether a cell's place is before another one's.
 fn is_before(a: &(Place, Variant), b: &(Place, Variant)) -> bool
-    ensures { result ≡ tables.before a.now b.now }
+    ensures { result ≡ tables.place_before a.now b.now }
 {
     a.0.cmp(&b.0) == Ordering::Less
 }
 
 /// Returns whether a cell comes after the cells that were read.
 fn stands_behind(cells: &[(Place, Variant)], next: &(Place, Variant)) -> bool
-    ensures { result ≡ is_behind tables.before cells.now next.now }
+    ensures { result ≡ is_behind tables.place_before cells.now next.now }
 {
     match cells.last() {
         Some(last) => is_before(last, next),
@@ -136,7 +136,7 @@ fn next_cell(
     cells: &[(Place, Variant)],
     bytes: &[u8],
 ) -> Result<Option<((Place, Variant), usize)>, AllocError>
-    ensures { IfOk result (λ found. BeginsWith tables.cell (λ next. is_behind tables.before cells.now next ≡ true) bytes.now found) }
+    ensures { IfOk result (λ found. BeginsWith tables.cell (λ next. is_behind tables.place_before cells.now next ≡ true) bytes.now found) }
 {
     let Some((cell, len)) = read_front::<CellFormat>(alloc, bytes)? else {
         return Ok(None);
@@ -251,7 +251,7 @@ fn take_part(alloc: Global, table: &mut OpenTable, bytes: &[u8]) -> Result<usize
 /// Reads the next parts of a table. Returns their length in bytes. Err: an allocation failed.
 fn take_parts(alloc: Global, table: &mut OpenTable, bytes: &[u8]) -> Result<usize, AllocError>
     requires between { IsBetweenParts table.old }
-    ensures takes { IfOk result (λ n. Takes (table_taken table.old) (table_taken table.new) bytes.now n) }
+    ensures takes { IfOk result (λ n. ConsumesNext (table_taken table.old) (table_taken table.new) bytes.now n) }
     ensures whole { IfOk result (λ n. TakesEnd (table_taken table.old) bytes.now n) }
     ensures between { IsBetweenParts table.new }
 {

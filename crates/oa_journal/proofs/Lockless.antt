@@ -18,7 +18,7 @@ use Rattle.oa_image.specs.Tables.{object, table}
 use Rattle.oa_image.proofs.Unlocked.{brings_none}
 use Rattle.oa_image.proofs.TablesWithImages.{each_value, object_parts, table_parts}
 use Rattle.oa_journal.specs.Replays.{Replays, ReplaysAll, applied_all, followed}
-use Rattle.oa_journal.specs.declared.shape.Shape.{Shape}
+use Rattle.oa_journal.specs.declared.shape.BankFormat.{BankFormat}
 use Rattle.oa_journal.specs.Bank.{IsBank}
 
 value_stays : (value : Variant) → locks_of value ≡ 0 → unlocked value ≡ value
@@ -74,6 +74,6 @@ groups_unlocked : (groups : List (List ℕ)) (old new : TableValue) → unlocked
 groups_unlocked [] old new same is = subst (λ t. unlocked_table t ≡ t) is same
 groups_unlocked (group ∷ groups) old new same is = groups_unlocked groups is.0 new (group_unlocked group old is.0 is.1 same) is.2
 
-pub no_locks : (shape : Shape) (head body : ℕ → ℕ) (library : List ℕ) (now : TableValue) (gate : ℕ)
+pub no_locks : (shape : BankFormat) (head body : ℕ → ℕ) (library : List ℕ) (now : TableValue) (gate : ℕ)
     → IsBank shape head body library now gate → unlocked_table now ≡ now
 no_locks shape head body library now gate bank = groups_unlocked bank.groups bank.first now (image_unlocked bank.first bank.is) bank.makes

@@ -4,7 +4,7 @@ use Rattle.oa_table.specs.declared.event.Event.{Event}
 use Rattle.oa_table.specs.declared.fault.TableFault.{TableFault}
 use Rattle.oa_table.specs.Events.{applied}
 use Rattle.oa_table.specs.Tables.{TableValue}
-use Rattle.oa_layout.specs.Answers.{IsRow}
+use Rattle.oa_formats.specs.Answers.{IsRow}
 use Rattle.oa_image.specs.Events.{event}
 
 -- the table after the next step, if there is a table before it

@@ -2,21 +2,21 @@
 -- the body. The contents of a body are the same in both. (This project's choice.)
 use Rattle.std.specs.Prelude.{ℕ, ◌+◌, ◌*◌, ◌≤◌}
 use Rattle.oa_model.specs.Limits.{group_bytes, max_event_bytes}
-use Rattle.oa_journal.specs.declared.shape.Shape.{Shape}
-use Rattle.oa_journal.specs.declared.shape.Shape.TheVariants.{One, Two}
+use Rattle.oa_journal.specs.declared.shape.BankFormat.{BankFormat}
+use Rattle.oa_journal.specs.declared.shape.BankFormat.TheVariants.{One, Two}
 
 -- the size of the body in bytes
-abbrev pub body_bytes : Shape → ℕ
+abbrev pub body_bytes : BankFormat → ℕ
 body_bytes One = 16777184
 body_bytes (Two size) = size
 
 -- the number of the format, as in the head
-abbrev pub format_of : Shape → ℕ
+abbrev pub format_of : BankFormat → ℕ
 format_of One = 1
 format_of (Two size) = 2
 
 -- the body's size as the head gives it
-abbrev pub told_size : Shape → ℕ
+abbrev pub told_size : BankFormat → ℕ
 told_size One = 0
 told_size (Two size) = size
 
@@ -26,7 +26,7 @@ abbrev pub format_one_bytes : ℕ
 format_one_bytes = 33562624
 
 -- the least size of a disk that has two banks of this format
-abbrev pub disk_bytes : Shape → ℕ
+abbrev pub disk_bytes : BankFormat → ℕ
 disk_bytes One = format_one_bytes
 disk_bytes (Two size) = format_one_bytes + 2 * size
 
@@ -38,12 +38,12 @@ abbrev pub most_bank_bytes : ℕ
 most_bank_bytes = 1073741824
 
 -- a number that lies in the range of the sizes of format 2 exactly if the body's size is one of the format
-abbrev pub measured : Shape → ℕ
+abbrev pub measured : BankFormat → ℕ
 measured One = least_bank_bytes
 measured (Two size) = size
 
 -- the body's size is one of the format
-abbrev pub IsShape : Shape → Type 0
+abbrev pub IsShape : BankFormat → Type 0
 IsShape shape = (least_bank_bytes ≤ measured shape) × (measured shape ≤ most_bank_bytes)
 
 -- the default size of a body in a new store, in bytes

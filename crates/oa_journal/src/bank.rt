@@ -10,7 +10,7 @@ ghost use Rattle.oa_journal.specs.Damages.{HasNoHeader, IsDamagedBank};
 ghost use Rattle.oa_journal.specs.Reads.{OnlyReads};
 ghost use Rattle.oa_journal.specs.Shapes.{body_bytes, IsShape};
 
-use crate::Shape;
+use crate::BankFormat;
 use crate::batch::{append_group, lay_out};
 use crate::layout::{BodyBytes, header_bytes};
 use crate::reading::{library_at, table_at};
@@ -73,7 +73,7 @@ impl From<DeviceFault> for BankFault {
 /// and the place of the closed gate in the body.
 #[derive(Drop, Debug, PartialEq, Eq)]
 pub struct Bank {
-    shape: Shape,
+    shape: BankFormat,
     head: u64,
     body: u64,
     gate: u32,
@@ -94,7 +94,7 @@ impl Bank {
     /// Makes the bank of that format with its head and its body at these places of a disk, in bytes
     /// from its start. A bank of format 1 can only be read, for a dump or an upgrade. Until the
     /// bank is written or read, its free space is 1 byte: no group fits.
-    pub fn at(head: u64, body: u64, shape: Shape) -> Bank
+    pub fn at(head: u64, body: u64, shape: BankFormat) -> Bank
         requires known { IsShape shape }
         requires on_a_disk { head + 32 < 2 ^ 63 }
         requires body_on_a_disk { body + body_bytes shape < 2 ^ 63 }

@@ -19,8 +19,8 @@ mod shape;
 mod snapshot;
 
 pub use bank::{AppendFault, Bank, BankFault};
-pub use head::{Head, read_head};
+pub use head::{BankHead, read_head};
 pub use shape::{
-    AMPLE_BYTES, DEFAULT_BANK_BYTES, FORMAT_ONE_BODY_BYTES, FORMAT_ONE_BYTES, LEAST_BANK_BYTES,
-    MOST_BANK_BYTES, Shape,
+    AMPLE_BYTES, BankFormat, DEFAULT_BANK_BYTES, FORMAT_ONE_BODY_BYTES, FORMAT_ONE_BYTES,
+    LEAST_BANK_BYTES, MOST_BANK_BYTES,
 };

@@ -14,9 +14,9 @@ ghost use Rattle.oa_journal.specs.Shapes.{body_bytes, IsShape};
 
 use crate::ahead::DiskAhead;
 use crate::groups::replay;
-use crate::head::{Head, head_at};
+use crate::head::{BankHead, head_at};
 use crate::snapshot::read_snapshot;
-use crate::{BankFault, Shape};
+use crate::{BankFault, BankFormat};
 use oa_disk::Disk;
 use oa_image::ImageFault;
 use oa_table::Table;
@@ -117,7 +117,7 @@ fn group_bytes<D: Disk>(
 }
 
 /// Returns whether two formats are the same, with the same size of a body.
-fn is_same(one: Shape, other: Shape) -> bool
+fn is_same(one: BankFormat, other: BankFormat) -> bool
     ensures { IsTrue result ↔ (one ≡ other) }
 {
     one == other
@@ -133,7 +133,7 @@ fn number(bytes: &[u8]) -> u32
 
 /// Reads the head at `place`, which must be one of that format. Errors: `Damaged(place)` if it is
 /// not; `Device`.
-fn head_of<D: Disk>(disk: &mut D, shape: Shape, place: u64) -> Result<Head, BankFault>
+fn head_of<D: Disk>(disk: &mut D, shape: BankFormat, place: u64) -> Result<BankHead, BankFault>
     requires { place + 32 ≤ D.size_of disk.old }
 
     ensures found { IfOk result (λ h. IsTrue (D.is_honest disk.new)
@@ -156,7 +156,7 @@ fn head_of<D: Disk>(disk: &mut D, shape: Shape, place: u64) -> Result<Head, Bank
 pub(crate) fn library_at<D: Disk>(
     alloc: Global,
     disk: &mut D,
-    shape: Shape,
+    shape: BankFormat,
     head: u64,
     body: u64,
 ) -> Result<Vec<u8>, BankFault>
@@ -178,10 +178,10 @@ pub(crate) fn library_at<D: Disk>(
 fn first_at<D: Disk>(
     alloc: Global,
     disk: &mut D,
-    shape: Shape,
+    shape: BankFormat,
     head: u64,
     body: u64,
-) -> Result<(Head, Table), BankFault>
+) -> Result<(BankHead, Table), BankFault>
     requires lies { PartsWithin (D.size_of disk.old) head body (body_bytes shape) }
 
     ensures found { IfOk result (λ r. IsTrue (D.is_honest disk.new)
@@ -316,7 +316,7 @@ fn read_groups<D: Disk>(
 pub(crate) fn table_at<D: Disk>(
     alloc: Global,
     disk: &mut D,
-    shape: Shape,
+    shape: BankFormat,
     head: u64,
     body: u64,
     buffer: Vec<u8>,

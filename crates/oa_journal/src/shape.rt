@@ -24,14 +24,14 @@ pub const FORMAT_ONE_BYTES: u64 = 8_192 + 2 * (32 + FORMAT_ONE_BODY_BYTES as u64
 /// The format of a bank. In both formats a head of 32 bytes contains the lengths of the body's
 /// parts; the body is elsewhere, or directly after the head.
 #[derive(Clone, Copy, Debug, PartialEq, Eq)]
-pub enum Shape {
+pub enum BankFormat {
     /// Format 1: a body of 16,777,184 bytes.
     One,
     /// Format 2: a body of this many bytes.
     Two(u32),
 }
 
-impl Shape {
+impl BankFormat {
     ghost use Rattle.std.specs.Prelude.{◌≡◌};
 
     /// Returns the size of the body in bytes.
@@ -39,8 +39,8 @@ impl Shape {
         ensures { result ≡ body_bytes self }
     {
         match self {
-            Shape::One => FORMAT_ONE_BODY_BYTES,
-            Shape::Two(size) => size,
+            BankFormat::One => FORMAT_ONE_BODY_BYTES,
+            BankFormat::Two(size) => size,
         }
     }
 
@@ -49,8 +49,8 @@ impl Shape {
         ensures { result ≡ disk_bytes self }
     {
         match self {
-            Shape::One => FORMAT_ONE_BYTES,
-            Shape::Two(size) => FORMAT_ONE_BYTES + 2 * u64::from(size),
+            BankFormat::One => FORMAT_ONE_BYTES,
+            BankFormat::Two(size) => FORMAT_ONE_BYTES + 2 * u64::from(size),
         }
     }
 }

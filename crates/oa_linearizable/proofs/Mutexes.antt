@@ -14,7 +14,7 @@ use Rattle.oa_array.specs.declared.fault.ArrayFault.{ArrayFault}
 use Rattle.oa_array.specs.declared.fault.ArrayFault.TheVariants as arrays
 use Rattle.oa_turn.proofs.Counted.{count_first, itself, same_cells, same_locks_at}
 use Rattle.oa_turn.specs.ClientLocks.{ClientLock, cell_cmp, is_cell, is_lock_of, lock_cmp, of_others, owns, with_more, with_one, without_first}
-use Rattle.oa_turn.specs.Counts.{count_in, name_of}
+use Rattle.oa_turn.specs.Counts.{count_in, locked_name}
 use Rattle.oa_record.specs.Asks.{Asks, IsStub, tag_at}
 use Rattle.oa_record.specs.Replacement.{is_replacement}
 use Rattle.oa_record.specs.Replies.{ReplyValue, number_field, word}
@@ -22,8 +22,8 @@ use Rattle.oa_record.specs.declared.request.Request.{Request}
 use Rattle.oa_record.specs.declared.request.Request.TheVariants as requests
 use Rattle.oa_record.specs.declared.opcode.ByCall.TheVariants as by_call
 use Rattle.oa_server.specs.Ledgers.{ClientsKeepLedger, HasLedger}
-use Rattle.oa_server.specs.Sharing.{ClientReply, HasOwners, Replies, Shared, TakesTurn, TurnOf, TurnsFor, relocked_by}
-use Rattle.oa_share.specs.Readers.{Body, Brought, Ends}
+use Rattle.oa_server.specs.Sharing.{ClientReply, HasOwners, Replies, Shared, SharedTurnOf, TakesTurn, TurnsFor, relocked_by}
+use Rattle.oa_mux.specs.Readers.{Body, Brought, Ends}
 use Rattle.oa_table.specs.Elements.{locks_in}
 use Rattle.oa_table.specs.Locks.{locks_at}
 use Rattle.oa_table.specs.Places.{place_cmp}
@@ -42,7 +42,7 @@ use Rattle.oa_decision.specs.Decided.{decided}
 use Rattle.oa_decision.specs.Lock.{adding}
 use Rattle.oa_decision.specs.Refusals.{◌>>=◌}
 use Rattle.oa_decision.specs.States.{State}
-use Rattle.oa_decision.specs.Unlock.{taking}
+use Rattle.oa_decision.specs.Unlock.{unlock_decision}
 use Rattle.oa_decision.specs.declared.decider.cell.BoundCell.{BoundCell}
 use Rattle.oa_decision.specs.declared.decision.Decision.{Decision}
 use Rattle.oa_decision.specs.declared.decision.Decision.TheVariants.{Answer, Change, Relock}
@@ -165,16 +165,16 @@ others_keep client other name (x ∷ locks) unlike is = by (x.client == other) r
 abbrev one_if : Bool → ℕ
 one_if b = if b then 1 else 0
 
-owned_counts : (client : ℕ) (name : CellName) (locks : List ClientLock) → owns client name locks ≡ true → 0 < count_in name (map name_of locks)
+owned_counts : (client : ℕ) (name : CellName) (locks : List ClientLock) → owns client name locks ≡ true → 0 < count_in name (map locked_name locks)
 owned_counts client name [] is = absurd (true≢false (sym is))
 owned_counts client name (x ∷ locks) is = by (is_lock_of client name x) refl is (owned_counts client name locks)
   where
-    by : (b : Bool) → is_lock_of client name x ≡ b → (b || owns client name locks) ≡ true → (owns client name locks ≡ true → 0 < count_in name (map name_of locks)) → 0 < count_in name (x.name ∷ map name_of locks)
+    by : (b : Bool) → is_lock_of client name x ≡ b → (b || owns client name locks) ≡ true → (owns client name locks ≡ true → 0 < count_in name (map locked_name locks)) → 0 < count_in name (x.name ∷ map locked_name locks)
     by true e now later =
         let here = and_parts (x.client == client) (is_cell x.name name) e in
         let one : one_if (is_cell x.name name) ≡ 1 = ap one_if here.1 in
-        omega (arith, count_first name x.name (map name_of locks), one)
-    by false e now later = omega (arith, count_first name x.name (map name_of locks), later now)
+        omega (arith, count_first name x.name (map locked_name locks), one)
+    by false e now later = omega (arith, count_first name x.name (map locked_name locks), later now)
 
 -- ---- what LOCK is answered
 abbrev some_change : LockChange → Option LockChange
@@ -226,7 +226,7 @@ lock_counts state (requests.ByCall by_call.Unlock call) name fields kind is = by
     on (Ok n) cell e = cc
     on (Err r) cell e = cc
 
-    by : (r : Result BoundCell Refusal) → (r >>= taking state) ≡ Ok (Relock (Lock name) fields) → Counts state name fields
+    by : (r : Result BoundCell Refusal) → (r >>= unlock_decision state) ≡ Ok (Relock (Lock name) fields) → Counts state name fields
     by (Ok cell) e = absurd (on (locks_found state cell) cell e)
     by (Err r) e = absurd cc
 lock_counts state (requests.Create class) name fields kind is = absurd (true≢false (sym kind))
@@ -344,7 +344,7 @@ module _ (one_request : (body : List ℕ) (p q : Request) → Asks body p → As
         by false e = ap (owns client name) (takes.owners.undone e) ∙ is
         by true e = done_keeps body reply input_is result_is e takes.turn takes.owners
 
-    turn_keeps : (brought : Brought) → one.input ≡ brought → TurnOf one.client brought one.result old new → owns client name new.locks ≡ true
+    turn_keeps : (brought : Brought) → one.input ≡ brought → SharedTurnOf one.client brought one.result old new → owns client name new.locks ≡ true
     turn_keeps (Body body) input_is turn = body_keeps body turn.reply input_is turn.told_is turn.turn
     turn_keeps (Ends why) input_is turn = by (one.client == client) refl
       where
@@ -356,7 +356,7 @@ module _ (one_request : (body : List ℕ) (p q : Request) → Asks body p → As
   run_keeps client name old [] new run is keeps = ap (λ (s : Shared). owns client name s.locks) run ∙ is
   run_keeps client name old (one ∷ operations) new run is keeps = run_keeps client name run.0 operations new run.2 (by run.1) keeps.1
     where
-      by : TurnOf one.client one.input one.result old run.0 ⊎ ((false ≡ true) × FailsFor one.client one.input one.result old run.0) → owns client name run.0.locks ≡ true
+      by : SharedTurnOf one.client one.input one.result old run.0 ⊎ ((false ≡ true) × FailsFor one.client one.input one.result old run.0) → owns client name run.0.locks ≡ true
       by (inl turn) = turn_keeps client name one old run.0 is keeps.0 one.input refl turn
       by (inr fails) = absurd (true≢false (sym fails.0))
 
@@ -365,22 +365,22 @@ module _ (one_request : (body : List ℕ) (p q : Request) → Asks body p → As
     run_ledger old [] new run has = subst HasLedger (sym run) has
     run_ledger old (one ∷ operations) new run has = run_ledger run.0 operations new run.2 (by run.1)
       where
-        by : TurnOf one.client one.input one.result old run.0 ⊎ ((false ≡ true) × FailsFor one.client one.input one.result old run.0) → HasLedger run.0
+        by : SharedTurnOf one.client one.input one.result old run.0 ⊎ ((false ≡ true) × FailsFor one.client one.input one.result old run.0) → HasLedger run.0
         by (inl turn) = stays one.client one.input one.result old run.0 has turn
         by (inr fails) = absurd (true≢false (sym fails.0))
 
     -- the turn of an operation that changed a lock
-    changed_by : (change : LockChange) (old new : Shared) (one : Operation Brought ClientReply) (fields : List ℕ) → (is : ChangesLock change old one fields) → TurnOf one.client one.input one.result old new → TakesTurn one.client is.body is.reply old new
-    changed_by change old new one fields is turn = by (subst (λ (b : Brought). TurnOf one.client b one.result old new) is.input_is turn)
+    changed_by : (change : LockChange) (old new : Shared) (one : Operation Brought ClientReply) (fields : List ℕ) → (is : ChangesLock change old one fields) → SharedTurnOf one.client one.input one.result old new → TakesTurn one.client is.body is.reply old new
+    changed_by change old new one fields is turn = by (subst (λ (b : Brought). SharedTurnOf one.client b one.result old new) is.input_is turn)
       where
         on : (reply : ReplyValue) → reply ≡ is.reply → TurnsFor one.client is.body reply old new → TakesTurn one.client is.body is.reply old new
         on reply same (inl takes) = subst (λ (r : ReplyValue). TakesTurn one.client is.body r old new) same takes
         on reply same (inr refused) = absurd (true≢false (sym is.done ∙ ap is_done (sym same ∙ refused.told)))
 
-        by : TurnOf one.client (Body is.body) one.result old new → TakesTurn one.client is.body is.reply old new
+        by : SharedTurnOf one.client (Body is.body) one.result old new → TakesTurn one.client is.body is.reply old new
         by answers = on answers.reply (same_reply one.client one.client answers.reply is.reply (sym answers.told_is ∙ is.result_is)) answers.turn
 
-    legal_step : (one : Operation Brought ClientReply) (old new : Shared) → (the_table false).Step one.client one.input one.result old new → TurnOf one.client one.input one.result old new
+    legal_step : (one : Operation Brought ClientReply) (old new : Shared) → (the_table false).Step one.client one.input one.result old new → SharedTurnOf one.client one.input one.result old new
     legal_step one old new (inl turn) = turn
     legal_step one old new (inr fails) = absurd (true≢false (sym fails.0))
 

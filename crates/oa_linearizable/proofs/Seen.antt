@@ -1,8 +1,8 @@
 -- What clients see of a linearizable history is linearizable, by the same order.
 use Rattle.std.proofs.Common.{Bool, List, [], ◌∷◌, ◌++◌, ap, ◌∙◌, append_assoc}
-use Rattle.oa_server.specs.SharedRequests.{opened}
+use Rattle.oa_server.specs.SharedMachine.{opened_shared}
 use Rattle.oa_server.specs.Sharing.{ClientReply, Shared}
-use Rattle.oa_share.specs.Readers.{Brought}
+use Rattle.oa_mux.specs.Readers.{Brought}
 use Rattle.oa_linearizable.specs.Histories.{AreSeenAs, History, IsDurablyLinearizable, IsFirstPart, IsLinearizedBy, IsSeenAs, Operation}
 use Rattle.oa_linearizable.specs.Tables.{the_table}
 
@@ -28,7 +28,7 @@ all_seen (f ∷ failed) before (history ∷ histories) (seen ∷ others) after a
     linearized = seen_by history seen is.1.order are.0 is.1.linearized;
     legal = is.1.legal;
   },
-  all_seen failed (opened is.0) histories others after are.1 is.2,
+  all_seen failed (opened_shared is.0) histories others after are.1 is.2,
 )
 all_seen failed before [] (seen ∷ others) after are is = absurd are
 all_seen failed before (history ∷ histories) [] after are is = absurd are

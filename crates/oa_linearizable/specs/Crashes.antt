@@ -2,26 +2,26 @@
 -- choice.)
 use Rattle.std.specs.Prelude.{◌≡◌, ◌≤◌, ℕ, Bool, false, List, [], ◌∷◌, ◌++◌, length, map}
 use Rattle.oa_disk.specs.declared.disk.Disk.{Ghosts}
-use Rattle.oa_canonical.specs.Canonical.{canonical}
-use Rattle.oa_groups.specs.History.{MayBeLeft}
-use Rattle.oa_groups.specs.Runs.{HoldsState}
+use Rattle.oa_printer.specs.Canonical.{canonical}
+use Rattle.oa_group_commit.specs.History.{MayBeLeft}
+use Rattle.oa_group_commit.specs.Runs.{HoldsState}
 use Rattle.oa_idl.specs.Trees.{TreeValue}
-use Rattle.oa_journal.specs.declared.shape.Shape.TheVariants.{Two}
+use Rattle.oa_journal.specs.declared.shape.BankFormat.TheVariants.{Two}
 use Rattle.oa_store.specs.Stores.{IsStoreIn}
 use Rattle.oa_store.specs.declared.store.Store.{Store}
-use Rattle.oa_server.specs.Desks.{all_frames}
-use Rattle.oa_server.specs.SharedRequests.{shared_requests}
+use Rattle.oa_server.specs.SharedGroups.{all_frames}
+use Rattle.oa_server.specs.SharedMachine.{shared_machine}
 use Rattle.oa_server.specs.SharedTalks.{asked_written}
 use Rattle.oa_server.specs.Sharing.{ClientReply, Shared, shared}
 use Rattle.oa_server.specs.Storages.{OverStore, disk_of}
 use Rattle.oa_server.specs.Stretches.{all_told}
-use Rattle.oa_server.specs.declared.engine.Engine.{Engine}
+use Rattle.oa_server.specs.declared.engine.ServerState.{ServerState}
 use Rattle.oa_server.specs.declared.storage.Storage.TheVariants.{Disk}
-use Rattle.oa_share.specs.Marks.{Owned}
-use Rattle.oa_share.specs.Readers.{Brought}
-use Rattle.oa_share.specs.Talking.{AllTurned}
+use Rattle.oa_mux.specs.Marks.{Tagged}
+use Rattle.oa_mux.specs.Readers.{Brought}
+use Rattle.oa_mux.specs.Talking.{AllTurned}
 use Rattle.oa_decision.specs.States.{state_of}
-use Rattle.oa_history.specs.Kept.{Sits}
+use Rattle.oa_history.specs.Kept.{SessionStart}
 use Rattle.oa_table.specs.Tables.{TableValue, unlocked_table}
 use Rattle.oa_turn.specs.Beginnings.{CanBegin}
 use Rattle.oa_typelib.specs.Checked.{IsChecked}
@@ -36,8 +36,8 @@ use Rattle.oa_linearizable.specs.Tables.{inputs_in, result_for, the_table}
 pub record Era (D : Type 0) : Type 0 where
   pub start : D
   pub has_failed : Bool
-  pub served : List (Owned Brought)
-  pub waiting : List (Owned Brought)
+  pub served : List (Tagged Brought)
+  pub waiting : List (Tagged Brought)
   pub frames : List (ℕ × List ℕ)
   pub left : List ℕ
 
@@ -45,24 +45,24 @@ pub record Era (D : Type 0) : Type 0 where
 -- with the frames that it sends, before the next. The crash came after these turns, within the next one or before it.
 pub record RunsUntilCrash {D : Type 0} (g : Ghosts D) (before : Shared) (era : Era D) : Type 0 where
   pub store : Store D g
-  pub first : Engine D g
+  pub first : ServerState D g
   pub over : first.storage ≡ Disk store
-  pub sits : Sits shared_requests era.start store before
+  pub sits : SessionStart shared_machine era.start store before
   pub serves : shared first.host first.desk.owners ≡ before
   pub no_replies : first.desk.open_group.replies.items ≡ []
   pub no_events : first.desk.open_group.batch ≡ []
   pub tolds : List (List (ℕ × List ℕ))
-  pub mid : Engine D g
+  pub mid : ServerState D g
   pub run : AllTurned asked_written first era.served tolds mid
   pub frames_are : era.frames ≡ all_told tolds
   pub well : era.has_failed ≡ false → OverStore mid.storage (λ store. store.stopped ≡ false)
   -- the turn within which the crash came, if it came within one
-  pub next : List (Owned Brought)
-  pub others : List (Owned Brought)
+  pub next : List (Tagged Brought)
+  pub others : List (Tagged Brought)
   pub one : length next ≤ 1
   pub waiting_are : era.waiting ≡ next ++ others
   pub unheard : List (List (ℕ × List ℕ))
-  pub last : Engine D g
+  pub last : ServerState D g
   pub turn : AllTurned asked_written mid next unheard last
   -- the crash
   pub moment : ℕ
@@ -85,7 +85,7 @@ pub record EraIsLinearizable {D : Type 0} (before : Shared) (era : Era D) : Type
   pub linearized : (history : History Brought ClientReply) → IsHistoryOf era replies history
       → IsLinearizedBy history order
   pub legal : IsLegal (the_table era.has_failed) before order after
-  pub holds : HoldsState shared_requests after era.left
+  pub holds : HoldsState shared_machine after era.left
   pub each_client : (client : ℕ) → ClientIsServed client (era.served ++ era.waiting) era.frames order
 
 abbrev pub EachEraIsLinearizable : {D : Type 0} → Ghosts D → Type 0
@@ -96,7 +96,7 @@ EachEraIsLinearizable {D} g = (before : Shared) (era : Era D)
 
 -- What recovery finds in the bytes that a crash left: a library and a table, and no locks. (IsOpened of oa_server
 -- states it of an opening.)
-pub record FindsState (left : List ℕ) (found : Shared) : Type 0 where
+pub record RecoversState (left : List ℕ) (found : Shared) : Type 0 where
   pub bank : ℕ
   pub library : TreeValue
   pub table : TableValue
@@ -109,7 +109,7 @@ pub record FindsState (left : List ℕ) (found : Shared) : Type 0 where
 abbrev pub RunsThroughCrashes : {D : Type 0} → Ghosts D → Shared → List ℕ → List (Era D) → Type 0
 RunsThroughCrashes g before found [] = Unit {0}
 RunsThroughCrashes g before found (era ∷ eras) =
-    (g.contents era.start ≡ found) × RunsUntilCrash g before era × (next : Shared) × FindsState era.left next
+    (g.contents era.start ≡ found) × RunsUntilCrash g before era × (next : Shared) × RecoversState era.left next
     × RunsThroughCrashes g next era.left eras
 
 -- whether a call of the device failed, of each era
@@ -147,10 +147,10 @@ pub record IsDurable {D : Type 0} (before : Shared) (found : List ℕ) (eras : L
   pub after : Shared
   pub linearizable : (histories : List (History Brought ClientReply)) → AreHistoriesOf eras replies histories
       → IsDurablyLinearizable the_table before (failed_in eras) histories after
-  pub holds : HoldsState shared_requests after (left_at_last found eras)
+  pub holds : HoldsState shared_machine after (left_at_last found eras)
 
 abbrev pub ServersAreDurable : {D : Type 0} → Ghosts D → Type 0
 ServersAreDurable {D} g = (before : Shared) (found : List ℕ) (eras : List (Era D))
-    → CanBegin before.state → HoldsState shared_requests before found
+    → CanBegin before.state → HoldsState shared_machine before found
     → RunsThroughCrashes g before found eras
     → IsDurable before found eras

@@ -6,13 +6,13 @@ use Rattle.std.specs.Prelude.{◌≡◌, ◌<◌, ◌≤◌, ◌==◌, if◌then
 -- ---- histories
 
 -- An event: a client invokes an operation with this input, or receives this result. (1990, section 2.1)
-pub data Event (I R : Type 0) : Type 0 where
-  Invocation : ℕ → I → Event I R
-  Response : ℕ → R → Event I R
+pub data HistoryEvent (I R : Type 0) : Type 0 where
+  Invocation : ℕ → I → HistoryEvent I R
+  Response : ℕ → R → HistoryEvent I R
 
 -- The events between two crashes, in the order in which they happen. (1990, section 2.1)
 abbrev pub History : Type 0 → Type 0 → Type 0
-History I R = List (Event I R)
+History I R = List (HistoryEvent I R)
 
 -- All invocations and all responses, in order, each with its client.
 unfoldable pub invoked : {I R : Type 0} → History I R → List (ℕ × I)

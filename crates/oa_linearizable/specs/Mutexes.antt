@@ -5,7 +5,7 @@ use Rattle.oa_turn.specs.ClientLocks.{is_cell}
 use Rattle.oa_record.specs.Replies.{ReplyValue, number_field}
 use Rattle.oa_server.specs.Ledgers.{HasLedger}
 use Rattle.oa_server.specs.Sharing.{ClientReply, Replies, Shared}
-use Rattle.oa_share.specs.Readers.{Body, Brought, Ends}
+use Rattle.oa_mux.specs.Readers.{Body, Brought, Ends}
 use Rattle.oa_table.specs.Locks.{locks_at}
 use Rattle.oa_table.specs.declared.name.CellName.{CellName}
 use Rattle.oa_decision.specs.declared.decision.LockChange.{LockChange}

@@ -1,11 +1,11 @@
 -- The table of objects, with the locks of its clients, as an object with a sequential specification. (This project's
 -- choice.)
 use Rattle.std.specs.Prelude.{◌≡◌, ◌⊎◌, ℕ, Bool, true, List, [], ◌∷◌}
-use Rattle.oa_server.specs.Requests as one_client
-use Rattle.oa_server.specs.SharedRequests.{opened}
-use Rattle.oa_server.specs.Sharing.{ClientReply, Shared, TurnOf, told_by}
-use Rattle.oa_share.specs.Marks.{Now, Of, Owned}
-use Rattle.oa_share.specs.Readers.{Brought}
+use Rattle.oa_server.specs.ServerMachine as one_client
+use Rattle.oa_server.specs.SharedMachine.{opened_shared}
+use Rattle.oa_server.specs.Sharing.{ClientReply, Shared, SharedTurnOf, told_by}
+use Rattle.oa_mux.specs.Marks.{Flush, Of, Tagged}
+use Rattle.oa_mux.specs.Readers.{Brought}
 use Rattle.oa_history.specs.Framed.{client_of}
 use Rattle.oa_linearizable.specs.Histories.{AreSeenAs, History, IsDurablyLinearizable, Object}
 
@@ -13,24 +13,24 @@ use Rattle.oa_linearizable.specs.Histories.{AreSeenAs, History, IsDurablyLineari
 -- E_FAIL, and the request was not done. The end of a client is reported as usual.
 abbrev pub FailsFor : ℕ → Brought → ClientReply → Shared → Shared → Type 0
 FailsFor client brought reply old new =
-    ((reply ≡ told_by one_client.faulted client brought)
-    × ((new ≡ old) ⊎ ((other : ClientReply) × TurnOf client brought other old new)))
-    ⊎ ((reply ≡ told_by one_client.failed client brought) × (new ≡ old))
+    ((reply ≡ told_by one_client.fault_reply client brought)
+    × ((new ≡ old) ⊎ ((other : ClientReply) × SharedTurnOf client brought other old new)))
+    ⊎ ((reply ≡ told_by one_client.failed_reply client brought) × (new ≡ old))
 
 -- An operation of a client is one of its requests, or the end of its stream. Its result is that of one turn of the
 -- table; if a call of the device has failed, it may be one that reports this. A crash releases all locks.
 abbrev pub the_table : Bool → Object Shared Brought ClientReply
 the_table has_failed = record {
   Step = λ client brought reply old new.
-      TurnOf client brought reply old new ⊎ ((has_failed ≡ true) × FailsFor client brought reply old new);
-  recovered = opened;
+      SharedTurnOf client brought reply old new ⊎ ((has_failed ≡ true) × FailsFor client brought reply old new);
+  recovered = opened_shared;
 }
 
 -- the inputs of all clients, in the order in which they were read; *now* is no operation
-unfoldable pub inputs_in : List (Owned Brought) → List (ℕ × Brought)
+unfoldable pub inputs_in : List (Tagged Brought) → List (ℕ × Brought)
 inputs_in [] = []
 inputs_in (Of client brought ∷ asks) = (client, brought) ∷ inputs_in asks
-inputs_in (Now ∷ asks) = inputs_in asks
+inputs_in (Flush ∷ asks) = inputs_in asks
 
 -- the result of an operation, with its client
 abbrev pub result_for : ClientReply → ℕ × ClientReply

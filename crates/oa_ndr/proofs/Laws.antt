@@ -9,7 +9,7 @@ use Rattle.std.proofs.lemmas.List.{length-drop, drop-append-le, drop-take}
 use Rattle.byteorder.specs.Endian.{little_number}
 use Rattle.oa_ndr.specs.Forms.{padding, Then, ◌▸◌, align, ignored, unit, exactly, any, with, given, referent, each}
 use Rattle.oa_ndr.specs.Forms.{pairwise, made}
-use Rattle.oa_ndr.specs.Reading.{Cursor, at, Reading, and_then, bind, give, fail, choose, bytes_at, align_at, slot_at, unit_at}
+use Rattle.oa_ndr.specs.Reading.{Cursor, at, Decoder, and_then, bind, give, fail, choose, bytes_at, align_at, slot_at, unit_at}
 use Rattle.oa_ndr.specs.Reading.{referent_at, many, map_at, all_used, whole}
 
 -- The bytes that a decoder has consumed from the front.
@@ -39,7 +39,7 @@ done x t = Some (x, t)
 some_is : {A : Type 0} (x y : A) → some x ≡ some y → x ≡ y
 some_is x y e = cc
 
-bind_some : {A B : Type 0} (r : Option (A × Cursor)) (next : A → Reading B) (y : B × Cursor) → and_then r next ≡ Some y → (x : A × Cursor) × (r ≡ Some x) × (next x.0 x.1 ≡ Some y)
+bind_some : {A B : Type 0} (r : Option (A × Cursor)) (next : A → Decoder B) (y : B × Cursor) → and_then r next ≡ Some y → (x : A × Cursor) × (r ≡ Some x) × (next x.0 x.1 ≡ Some y)
 bind_some None next y e = absurd cc
 bind_some (Some x) next y e = (x, refl, e)
 
@@ -61,7 +61,7 @@ pub fail_reads : {C : Type 0} {P : C → Type 0} {F : C → ℕ → List ℕ →
 unfolding fail
 fail_reads never = record { takes = λ p bytes c t e. absurd cc; again = λ p text rest c h form. absurd (never c p text h form) }
 
-pub choose_reads : {C : Type 0} {P : C → Type 0} {F : C → ℕ → List ℕ → Type 0} {one other : Reading C} (b : Bool)
+pub choose_reads : {C : Type 0} {P : C → Type 0} {F : C → ℕ → List ℕ → Type 0} {one other : Decoder C} (b : Bool)
     → (b ≡ true → Reads P F one) → (b ≡ false → Reads P F other) → Reads P F (choose b one other)
 unfolding choose
 choose_reads true r q = record { takes = (r refl).takes; again = (r refl).again }
@@ -154,7 +154,7 @@ joined {F} {G} p bytes s t a b = record {
 }
 
 -- two readings one after the other, again
-again_both : {A C : Type 0} {F : ℕ → List ℕ → Type 0} {G : ℕ → List ℕ → Type 0} (read : Reading A) (next : A → Reading C) (p : ℕ) (text rest : List ℕ) (a : A) (c : C) (form : Then F G p text)
+again_both : {A C : Type 0} {F : ℕ → List ℕ → Type 0} {G : ℕ → List ℕ → Type 0} (read : Decoder A) (next : A → Decoder C) (p : ℕ) (text rest : List ℕ) (a : A) (c : C) (form : Then F G p text)
     → ((more : List ℕ) → read (at p (form.front ++ more)) ≡ Some (a, at (p + length form.front) more))
     → next a (at (p + length form.front) (form.back ++ rest)) ≡ Some (c, at (p + length form.front + length form.back) rest)
     → bind read next (at p (text ++ rest)) ≡ Some (c, at (p + length text) rest)
@@ -167,7 +167,7 @@ again_both {A} {C} read next p text rest a c form one two =
     ∙ two ∙ ap (λ (n : ℕ). done c (at n rest)) past
 
 -- a part of which the value that is made keeps proj
-pub bind_reads : {A C : Type 0} {PA : A → Type 0} (F : A → ℕ → List ℕ → Type 0) {P : C → Type 0} {G : C → ℕ → List ℕ → Type 0} (proj : C → A) {read : Reading A} {next : A → Reading C}
+pub bind_reads : {A C : Type 0} {PA : A → Type 0} (F : A → ℕ → List ℕ → Type 0) {P : C → Type 0} {G : C → ℕ → List ℕ → Type 0} (proj : C → A) {read : Decoder A} {next : A → Decoder C}
     → Reads PA F read → ((c : C) → P c → PA (proj c)) → ((a : A) → PA a → Reads (λ c. P c × (proj c ≡ a)) G (next a))
     → Reads P (λ c. F (proj c) ▸ G c) (bind read next)
 unfolding bind
@@ -184,7 +184,7 @@ bind_reads {A} {C} F {P} {G} proj {read} {next} r has then = record {
 }
 
 -- A part that determines the following ones.
-pub with_reads : {A C : Type 0} {PA : A → Type 0} {F : A → ℕ → List ℕ → Type 0} {P : C → Type 0} {G : A → C → ℕ → List ℕ → Type 0} {read : Reading A} {next : A → Reading C}
+pub with_reads : {A C : Type 0} {PA : A → Type 0} {F : A → ℕ → List ℕ → Type 0} {P : C → Type 0} {G : A → C → ℕ → List ℕ → Type 0} {read : Decoder A} {next : A → Decoder C}
     → Reads PA F read → ((c : C) (a : A) (p : ℕ) (text : List ℕ) → P c → G a c p text → PA a) → ((a : A) → PA a → Reads P (G a) (next a))
     → Reads P (λ c. with F (λ a. G a c)) (bind read next)
 unfolding bind
@@ -203,7 +203,7 @@ with_reads {A} {C} {PA} {F} {P} {G} {read} {next} r has then = record {
 }
 
 -- a part of which nothing is kept
-pub skip_reads : {A C : Type 0} {PA : A → Type 0} {FA : A → ℕ → List ℕ → Type 0} {P : C → Type 0} {F G : C → ℕ → List ℕ → Type 0} {read : Reading A} {next : Reading C}
+pub skip_reads : {A C : Type 0} {PA : A → Type 0} {FA : A → ℕ → List ℕ → Type 0} {P : C → Type 0} {F G : C → ℕ → List ℕ → Type 0} {read : Decoder A} {next : Decoder C}
     → Reads PA FA read → ((c : C) (a : A) (p : ℕ) (text : List ℕ) → P c → PA a → FA a p text → F c p text) → ((c : C) (p : ℕ) (text : List ℕ) → P c → F c p text → (a : A) × PA a × FA a p text)
     → Reads P G next → Reads P (λ c. F c ▸ G c) (bind read (λ _. next))
 unfolding bind
@@ -220,18 +220,18 @@ skip_reads {A} {C} {PA} {FA} {P} {F} {G} {read} {next} r out into then = record 
       (then.again (p + length form.front) form.back rest c h form.second);
 }
 
-pub ignored_then : {C : Type 0} {P : C → Type 0} {G : C → ℕ → List ℕ → Type 0} {next : Reading C} (n : ℕ) → Reads P G next → Reads P (λ c. ignored n ▸ G c) (bind (unit_at n) (λ _. next))
+pub ignored_then : {C : Type 0} {P : C → Type 0} {G : C → ℕ → List ℕ → Type 0} {next : Decoder C} (n : ℕ) → Reads P G next → Reads P (λ c. ignored n ▸ G c) (bind (unit_at n) (λ _. next))
 ignored_then n then = skip_reads (unit_reads n) (λ c x p text _ _ form. form.len) (λ c p text _ len. (little_number n (drop (padding n p) text), tt, record { len = len; value = refl })) then
 
-pub align_then : {C : Type 0} {P : C → Type 0} {G : C → ℕ → List ℕ → Type 0} {next : Reading C} (n : ℕ) → Reads P G next → Reads P (λ c. align n ▸ G c) (bind (align_at n) (λ _. next))
+pub align_then : {C : Type 0} {P : C → Type 0} {G : C → ℕ → List ℕ → Type 0} {next : Decoder C} (n : ℕ) → Reads P G next → Reads P (λ c. align n ▸ G c) (bind (align_at n) (λ _. next))
 align_then n then = skip_reads (align_reads n) (λ c x p text _ _ form. form) (λ c p text _ form. (tt, tt, form)) then
 
 -- the number of bytes may hang on the value
-pub any_then : {C : Type 0} {P : C → Type 0} {G : C → ℕ → List ℕ → Type 0} {next : Reading C} (n : ℕ) (count : C → ℕ) → ((c : C) → P c → count c ≡ n) → Reads P G next → Reads P (λ c. any (count c) ▸ G c) (bind (bytes_at n) (λ _. next))
+pub any_then : {C : Type 0} {P : C → Type 0} {G : C → ℕ → List ℕ → Type 0} {next : Decoder C} (n : ℕ) (count : C → ℕ) → ((c : C) → P c → count c ≡ n) → Reads P G next → Reads P (λ c. any (count c) ▸ G c) (bind (bytes_at n) (λ _. next))
 any_then n count same then = skip_reads (bytes_reads n) (λ c x p text h len form. ap length form ∙ len ∙ sym (same c h)) (λ c p text h len. (text, len ∙ same c h, refl)) then
 
 -- The same values, with another condition.
-pub same_values : {C : Type 0} {P Q : C → Type 0} {F : C → ℕ → List ℕ → Type 0} {read : Reading C} → Reads P F read → ((c : C) → P c → Q c) → ((c : C) → Q c → P c) → Reads Q F read
+pub same_values : {C : Type 0} {P Q : C → Type 0} {F : C → ℕ → List ℕ → Type 0} {read : Decoder C} → Reads P F read → ((c : C) → P c → Q c) → ((c : C) → Q c → P c) → Reads Q F read
 same_values r to from = record {
   takes = λ p bytes c t e. let one = r.takes p bytes c t e in (to c one.0, one.1);
   again = λ p text rest c h form. r.again p text rest c (from c h) form;
@@ -242,7 +242,7 @@ unfolding referent_at
 referent_reads = with_reads (unit_reads 4) (λ c a p text _ _. tt) (λ a _. give_reads (not (eqb a 0)) tt refl (λ c _ e. e))
 
 -- One kind of value among several: the bytes that are consumed are decoded again.
-pub made_takes : {A C : Type 0} {PA : A → Type 0} (P : C → Type 0) (F : C → ℕ → List ℕ → Type 0) (make : A → C) {read : Reading A}
+pub made_takes : {A C : Type 0} {PA : A → Type 0} (P : C → Type 0) (F : C → ℕ → List ℕ → Type 0) (make : A → C) {read : Decoder A}
     → Reads PA (λ a. F (make a)) read → ((a : A) → PA a → P (make a))
     → (p : ℕ) (bytes : List ℕ) (c : C) (t : Cursor) → bind read (λ a. give (make a)) (at p bytes) ≡ Some (c, t) → P c × Takes (F c) p bytes t
 unfolding bind give
@@ -252,14 +252,14 @@ made_takes {A} {C} P F make {read} r in_P p bytes c t e =
     let one = r.takes p bytes b.0.0 b.0.1 b.1 in
     subst (λ (y : C × Cursor). P y.0 × Takes (F y.0) p bytes y.1) made (in_P b.0.0 one.0, one.1)
 
-pub made_again : {A C : Type 0} {PA : A → Type 0} (F : C → ℕ → List ℕ → Type 0) (make : A → C) {read : Reading A}
+pub made_again : {A C : Type 0} {PA : A → Type 0} (F : C → ℕ → List ℕ → Type 0) (make : A → C) {read : Decoder A}
     → Reads PA (λ a. F (make a)) read → (p : ℕ) (text rest : List ℕ) (a : A) → PA a → F (make a) p text → bind read (λ a. give (make a)) (at p (text ++ rest)) ≡ Some (make a, at (p + length text) rest)
 unfolding bind give
 made_again {A} {C} F make {read} r p text rest a h form =
     ap (λ (o : Option (A × Cursor)). and_then o (λ a. give (make a))) (r.again p text rest a h form)
 
 -- a value made of the last part
-pub made_reads : {A C : Type 0} {PA : A → Type 0} {P : C → Type 0} {F : C → ℕ → List ℕ → Type 0} (make : A → C) {read : Reading A}
+pub made_reads : {A C : Type 0} {PA : A → Type 0} {P : C → Type 0} {F : C → ℕ → List ℕ → Type 0} (make : A → C) {read : Decoder A}
     → Reads PA (λ a. F (make a)) read → ((a : A) → PA a → P (make a)) → ((c : C) (p : ℕ) (text : List ℕ) → P c → F c p text → (a : A) × PA a × (make a ≡ c)) → Reads P F (bind read (λ a. give (make a)))
 made_reads {A} {C} {PA} {P} {F} make {read} r in_P of = record {
   takes = made_takes P F make r in_P;
@@ -281,7 +281,7 @@ nothing_again made p text rest e = rw e (ap (λ (n : ℕ). done made (at n rest)
 
 -- ---- each of a list
 
-pub many_reads : {A : Type 0} {P : A → Type 0} {F : A → ℕ → List ℕ → Type 0} {read : Reading A} → Reads P F read
+pub many_reads : {A : Type 0} {P : A → Type 0} {F : A → ℕ → List ℕ → Type 0} {read : Decoder A} → Reads P F read
     → (n : ℕ) → Reads {C = List A} (λ xs. (length xs ≡ n) × AllByRecursion P xs) (each F) (many read n)
 unfolding many bind give
 many_reads {A} {P} {F} {read} r zero = record {
@@ -319,7 +319,7 @@ pub all_always : {A : Type 0} (xs : List A) → AllByRecursion Always xs
 all_always [] = tt
 all_always (x ∷ xs) = (tt, all_always xs)
 
-pub pairwise_reads : {A B : Type 0} {P : B → Type 0} {F : A → B → ℕ → List ℕ → Type 0} {read : A → Reading B} → ((x : A) → Reads P (F x) (read x))
+pub pairwise_reads : {A B : Type 0} {P : B → Type 0} {F : A → B → ℕ → List ℕ → Type 0} {read : A → Decoder B} → ((x : A) → Reads P (F x) (read x))
     → (xs : List A) → Reads {C = List B} (λ ys. (length ys ≡ length xs) × AllByRecursion P ys) (pairwise F xs) (map_at read xs)
 unfolding map_at bind give
 pairwise_reads {A} {B} {P} {F} {read} r [] = none_reads [] (refl, tt) (λ p. refl) only
@@ -357,7 +357,7 @@ pairwise_length F [] (y ∷ ys) p text form = absurd form.fact
 pairwise_length F (x ∷ xs) [] p text form = absurd form.fact
 
 -- a value made of another
-pub made_from : {A C : Type 0} {PA : A → Type 0} {F : A → ℕ → List ℕ → Type 0} (make : A → C) {read : Reading A} → Reads PA F read → ((a : A) → PA a) → Reads Always (made make F) (bind read (λ a. give (make a)))
+pub made_from : {A C : Type 0} {PA : A → Type 0} {F : A → ℕ → List ℕ → Type 0} (make : A → C) {read : Decoder A} → Reads PA F read → ((a : A) → PA a) → Reads Always (made make F) (bind read (λ a. give (make a)))
 unfolding bind give
 made_from {A} {C} {PA} {F} make {read} r has = record {
   takes = λ p bytes c t e.
@@ -369,7 +369,7 @@ made_from {A} {C} {PA} {F} make {read} r has = record {
 }
 
 -- a fact that the values have anyway
-pub given_then : {C : Type 0} {P Q : C → Type 0} {F : C → ℕ → List ℕ → Type 0} {read : Reading C} → ((c : C) → P c → Q c) → Reads P F read → Reads P (λ c. given (Q c) ▸ F c) read
+pub given_then : {C : Type 0} {P Q : C → Type 0} {F : C → ℕ → List ℕ → Type 0} {read : Decoder C} → ((c : C) → P c → Q c) → Reads P F read → Reads P (λ c. given (Q c) ▸ F c) read
 given_then {C} {P} {Q} {F} {read} has r = record {
   takes = λ p bytes c t e.
       let one = r.takes p bytes c t e in
@@ -381,7 +381,7 @@ given_then {C} {P} {Q} {F} {read} has r = record {
 }
 
 -- A fact about the values, as a part of the form.
-pub told_reads : {C : Type 0} {P : C → Type 0} {F : C → ℕ → List ℕ → Type 0} {read : Reading C} → Reads P F read → Reads Always (λ c. given (P c) ▸ F c) read
+pub told_reads : {C : Type 0} {P : C → Type 0} {F : C → ℕ → List ℕ → Type 0} {read : Decoder C} → Reads P F read → Reads Always (λ c. given (P c) ▸ F c) read
 told_reads {C} {P} {F} {read} r = record {
   takes = λ p bytes c t e.
       let one = r.takes p bytes c t e in
@@ -394,7 +394,7 @@ told_reads {C} {P} {F} {read} r = record {
 
 -- ---- a whole field
 
-pub whole_takes : {C : Type 0} {P : C → Type 0} {F : C → ℕ → List ℕ → Type 0} {read : Reading C} → Reads P F read → (bytes : List ℕ) (c : C) → whole read bytes ≡ Some c → P c × F c 0 bytes
+pub whole_takes : {C : Type 0} {P : C → Type 0} {F : C → ℕ → List ℕ → Type 0} {read : Decoder C} → Reads P F read → (bytes : List ℕ) (c : C) → whole read bytes ≡ Some c → P c × F c 0 bytes
 whole_takes {C} {P} {F} {read} r bytes c e =
     let b = used (read (at 0 bytes)) c e in
     let one = r.takes 0 bytes b.0.0 b.0.1 b.1 in
@@ -410,17 +410,17 @@ whole_takes {C} {P} {F} {read} r bytes c e =
     used None y e = absurd cc
     used (Some x) y e = let g = ended (eqb (length x.1.rest) 0) x.0 y e in (x, refl, (eqb-true _ _ g.0, g.1))
 
-pub whole_again : {C : Type 0} {P : C → Type 0} {F : C → ℕ → List ℕ → Type 0} {read : Reading C} → Reads P F read → (bytes : List ℕ) (c : C) → P c → F c 0 bytes → whole read bytes ≡ Some c
+pub whole_again : {C : Type 0} {P : C → Type 0} {F : C → ℕ → List ℕ → Type 0} {read : Decoder C} → Reads P F read → (bytes : List ℕ) (c : C) → P c → F c 0 bytes → whole read bytes ≡ Some c
 whole_again {C} {P} {F} {read} r bytes c h form =
     let one : read (at 0 bytes) ≡ Some (c, at (0 + length bytes) []) = ap (λ (y : List ℕ). read (at 0 y)) (sym (append-nil bytes)) ∙ r.again 0 bytes [] c h form in
     ap all_used one
 
 -- no bytes spell two values
-pub one_value : {C : Type 0} {P : C → Type 0} {F : C → ℕ → List ℕ → Type 0} {read : Reading C} → Reads P F read → (bytes : List ℕ) (c d : C) → P c → F c 0 bytes → P d → F d 0 bytes → c ≡ d
+pub one_value : {C : Type 0} {P : C → Type 0} {F : C → ℕ → List ℕ → Type 0} {read : Decoder C} → Reads P F read → (bytes : List ℕ) (c d : C) → P c → F c 0 bytes → P d → F d 0 bytes → c ≡ d
 one_value r bytes c d hc fc hd fd = some_is c d (sym (whole_again r bytes c hc fc) ∙ whole_again r bytes d hd fd)
 
 -- no spelling is a proper prefix of another
-pub no_proper_prefix : {C : Type 0} {P : C → Type 0} {F : C → ℕ → List ℕ → Type 0} {read : Reading C} → Reads P F read
+pub no_proper_prefix : {C : Type 0} {P : C → Type 0} {F : C → ℕ → List ℕ → Type 0} {read : Decoder C} → Reads P F read
     → (a rest : List ℕ) (c d : C) → P c → F c 0 a → P d → F d 0 (a ++ rest) → rest ≡ []
 no_proper_prefix {C} {P} {F} {read} r a rest c d hc fc hd fd =
     let one = r.again 0 a rest c hc fc in

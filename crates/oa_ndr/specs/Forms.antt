@@ -6,8 +6,8 @@ use Rattle.std.specs.Prelude.{◌≡◌, ℕ, ◌+◌, ◌-◌, ◌%◌, ◌==�
 use Rattle.byteorder.specs.Endian.{little_number}
 
 -- A set of byte sequences for each offset at which they may begin.
-abbrev pub Form : Type 1
-Form = ℕ → List ℕ → Type 0
+abbrev pub Encoding : Type 1
+Encoding = ℕ → List ℕ → Type 0
 
 -- The number of bytes between an offset and the next multiple of n (C706 14.2.2).
 abbrev pub padding : ℕ → ℕ → ℕ
@@ -22,19 +22,19 @@ pub record Then (F G : ℕ → List ℕ → Type 0) (place : ℕ) (bytes : List 
   pub second : G (place + length front) back
 
 infixr 5 ◌▸◌
-abbrev pub ◌▸◌ : Form → Form → Form
+abbrev pub ◌▸◌ : Encoding → Encoding → Encoding
 F ▸ G = Then F G
 
 -- No bytes.
-abbrev pub nothing : Form
+abbrev pub nothing : Encoding
 nothing place bytes = bytes ≡ []
 
 -- Padding up to a multiple of n, with any content.
-abbrev pub align : ℕ → Form
+abbrev pub align : ℕ → Encoding
 align n place bytes = length bytes ≡ padding n place
 
 -- n bytes at a multiple of n; they and the padding before them have any content.
-abbrev pub ignored : ℕ → Form
+abbrev pub ignored : ℕ → Encoding
 ignored n place bytes = length bytes ≡ padding n place + n
 
 -- The number x in n bytes at a multiple of n, lowest byte first.
@@ -43,11 +43,11 @@ pub record unit (n x : ℕ) (place : ℕ) (bytes : List ℕ) : Type 0 where
   pub value : little_number n (drop (padding n place) bytes) ≡ x
 
 -- Exactly these bytes.
-abbrev pub exactly : List ℕ → Form
+abbrev pub exactly : List ℕ → Encoding
 exactly text place bytes = bytes ≡ text
 
 -- n bytes with any content.
-abbrev pub any : ℕ → Form
+abbrev pub any : ℕ → Encoding
 any n place bytes = length bytes ≡ n
 
 -- A sequence that encodes some value, followed by one whose form may depend on this value.
@@ -61,16 +61,16 @@ pub record given (P : Type 0) (place : ℕ) (bytes : List ℕ) : Type 0 where
   pub none : bytes ≡ []
 
 -- The referent of a unique pointer that is set, or is null (C706 14.3.12).
-abbrev pub referent : Bool → Form
+abbrev pub referent : Bool → Encoding
 referent is_set = with (unit 4) (λ number. given (is_set ≡ not (number == 0)))
 
 -- The encodings of the values of a list, one after another.
-abbrev pub each : {A : Type 0} → (A → Form) → List A → Form
+abbrev pub each : {A : Type 0} → (A → Encoding) → List A → Encoding
 each F [] = nothing
 each F (x ∷ xs) = F x ▸ each F xs
 
 -- The encodings of the pairs of two lists of the same length, one after another.
-abbrev pub pairwise : {A B : Type 0} → (A → B → Form) → List A → List B → Form
+abbrev pub pairwise : {A B : Type 0} → (A → B → Encoding) → List A → List B → Encoding
 pairwise F [] [] = nothing
 pairwise F (x ∷ xs) (y ∷ ys) = F x y ▸ pairwise F xs ys
 pairwise F [] (y ∷ ys) = given ⊥

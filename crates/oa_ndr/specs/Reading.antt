@@ -21,31 +21,31 @@ abbrev pub moved : ℕ → Cursor → Cursor
 moved n s = at (s.position + n) (drop n s.rest)
 
 -- A decoder: it returns the value at the front and the rest, or None.
-abbrev pub Reading : Type 0 → Type 0
-Reading A = Cursor → Option (A × Cursor)
+abbrev pub Decoder : Type 0 → Type 0
+Decoder A = Cursor → Option (A × Cursor)
 
-abbrev pub and_then : {A B : Type 0} → Option (A × Cursor) → (A → Reading B) → Option (B × Cursor)
+abbrev pub and_then : {A B : Type 0} → Option (A × Cursor) → (A → Decoder B) → Option (B × Cursor)
 and_then None next = None
 and_then (Some x) next = next x.0 x.1
 
 -- One decoder after another.
-unfoldable pub bind : {A B : Type 0} → Reading A → (A → Reading B) → Reading B
+unfoldable pub bind : {A B : Type 0} → Decoder A → (A → Decoder B) → Decoder B
 bind read next s = and_then (read s) next
 
 infixl 10 ◌>>=◌
-abbrev pub ◌>>=◌ : {A B : Type 0} → Reading A → (A → Reading B) → Reading B
+abbrev pub ◌>>=◌ : {A B : Type 0} → Decoder A → (A → Decoder B) → Decoder B
 read >>= next = bind read next
 
 -- Reads nothing and returns this value.
-unfoldable pub give : {A : Type 0} → A → Reading A
+unfoldable pub give : {A : Type 0} → A → Decoder A
 give x s = Some (x, s)
 
 -- Fails.
-unfoldable pub fail : {A : Type 0} → Reading A
+unfoldable pub fail : {A : Type 0} → Decoder A
 fail s = None
 
 -- One of two decoders.
-unfoldable pub choose : {A : Type 0} → Bool → Reading A → Reading A → Reading A
+unfoldable pub choose : {A : Type 0} → Bool → Decoder A → Decoder A → Decoder A
 choose b one other s = if b then one s else other s
 
 -- The definitions that a proof unfolds to follow a decoder step by step.
@@ -60,33 +60,33 @@ Gives view (Ok x) old new read = read ≡ Some (view x, new)
 Gives view (Err e) old new read = (read ≡ None) × (new ≡ old)
 
 -- Reads n bytes.
-unfoldable pub bytes_at : ℕ → Reading (List ℕ)
+unfoldable pub bytes_at : ℕ → Decoder (List ℕ)
 bytes_at n s = if nat_lt (length s.rest) n then None else Some (take n s.rest, moved n s)
 
 -- Skips the padding up to a multiple of n.
-unfoldable pub align_at : ℕ → Reading (Unit {0})
+unfoldable pub align_at : ℕ → Decoder (Unit {0})
 align_at n s = if nat_lt (length s.rest) (padding n s.position) then None else Some (tt, moved (padding n s.position) s)
 
 -- Reads the n bytes at the next multiple of n.
-unfoldable pub slot_at : ℕ → Reading (List ℕ)
+unfoldable pub slot_at : ℕ → Decoder (List ℕ)
 slot_at n s =
     if nat_lt (length s.rest) (padding n s.position + n) then None
     else Some (take n (drop (padding n s.position) s.rest), moved (padding n s.position + n) s)
 
 -- Reads the number in the n bytes at the next multiple of n.
-unfoldable pub unit_at : ℕ → Reading ℕ
+unfoldable pub unit_at : ℕ → Decoder ℕ
 unit_at n = do
   slot ← slot_at n
   give (little_number n slot)
 
 -- Reads a referent and returns whether it is set.
-unfoldable pub referent_at : Reading Bool
+unfoldable pub referent_at : Decoder Bool
 referent_at = do
   number ← unit_at 4
   give (not (number == 0))
 
 -- Reads n values of one kind.
-unfoldable pub many : {A : Type 0} → Reading A → ℕ → Reading (List A)
+unfoldable pub many : {A : Type 0} → Decoder A → ℕ → Decoder (List A)
 many read zero = give []
 many read (suc n) = do
   first ← read
@@ -94,7 +94,7 @@ many read (suc n) = do
   give (first ∷ others)
 
 -- Reads a value for each entry of a list.
-unfoldable pub map_at : {A B : Type 0} → (A → Reading B) → List A → Reading (List B)
+unfoldable pub map_at : {A B : Type 0} → (A → Decoder B) → List A → Decoder (List B)
 map_at read [] = give []
 map_at read (x ∷ xs) = do
   first ← read x
@@ -107,5 +107,5 @@ all_used None = None
 all_used (Some x) = if length x.1.rest == 0 then Some x.0 else None
 
 -- The value of a whole field.
-abbrev pub whole : {A : Type 0} → Reading A → List ℕ → Option A
+abbrev pub whole : {A : Type 0} → Decoder A → List ℕ → Option A
 whole read bytes = all_used (read (at 0 bytes))

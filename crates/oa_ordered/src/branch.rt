@@ -4,7 +4,7 @@ ghost use Rattle.std.specs.Option.{option_copied_mut};
 ghost use Rattle.std.specs.Borrow.{sem};
 ghost use Rattle.std.specs.Map.{lookup, remove_entry};
 ghost use Rattle.std.specs.BTreeMap.{insert_entry, is_at};
-ghost use Rattle.oa_ordered.specs.Rows.{AreFilled, IsOrdered, begins_after, joined};
+ghost use Rattle.oa_ordered.specs.Rows.{AreFilled, IsOrdered, begins_after, concat_rows};
 
 use crate::row::Row;
 use crate::rows::{Search, insert_at, place_near, place_of, remove_at};
@@ -23,11 +23,11 @@ pub(crate) struct Branch<K, V> {
 
 impl<K, V> Model for Branch<K, V> {
     ghost use Rattle.std.specs.Prelude.{List};
-    ghost use Rattle.oa_ordered.specs.Rows.{AreFilled, joined};
+    ghost use Rattle.oa_ordered.specs.Rows.{AreFilled, concat_rows};
 
     ghost Value = { List (K × V) };
 
-    ghost view = { λ b. joined b.rows.items };
+    ghost view = { λ b. concat_rows b.rows.items };
 
     ghost invariant = { λ b. AreFilled b.rows.items };
 }
@@ -38,14 +38,14 @@ impl<K, V> Branch<K, V> {
     /// Makes a branch of rows, none of which is empty.
     pub(crate) fn of_rows(rows: Vec<Row<K, V>>) -> Branch<K, V>
         requires { AreFilled rows.items }
-        ensures { result ≡ joined rows.items }
+        ensures { result ≡ concat_rows rows.items }
     {
         Branch { rows }
     }
 
     /// Returns the rows, none of which is empty.
     pub(crate) fn rows(&self) -> &[Row<K, V>]
-        ensures entries { joined result.now ≡ self.now }
+        ensures entries { concat_rows result.now ≡ self.now }
         ensures filled { AreFilled result.now }
     {
         self.rows.as_slice()

@@ -3,7 +3,7 @@ ghost use Rattle.std.specs.Prelude.{◌≡◌, ◌<◌, ◌+◌, ◌++◌, ◌�
 ghost use Rattle.std.specs.List.{remove};
 ghost use Rattle.std.specs.Map.{lookup, remove_entry};
 ghost use Rattle.std.specs.BTreeMap.{insert_entry, is_at};
-ghost use Rattle.oa_ordered.specs.Rows.{AreFilled, AreOrdered, IsRowFor, joined};
+ghost use Rattle.oa_ordered.specs.Rows.{AreFilled, AreOrdered, IsRowFor, concat_rows};
 
 use crate::branch::{Branch, FULL_BRANCH};
 use crate::row::{Row, make_room};
@@ -62,7 +62,7 @@ pub(crate) fn branch_for<K: Ord, V>(branches: &[Branch<K, V>], key: &K, near: us
 fn split_long_branch<K: Drop, V: Drop>(branches: &mut Vec<Branch<K, V>>, branch: usize)
     requires branch { branch < length branches.old.items }
     requires filled { AreFilled branches.old.items }
-    ensures same { joined branches.new.items ≡ joined branches.old.items }
+    ensures same { concat_rows branches.new.items ≡ concat_rows branches.old.items }
     ensures filled { AreFilled branches.new.items }
 {
     if branches[branch].len() <= FULL_BRANCH {
@@ -87,7 +87,7 @@ fn split_branch<K: Drop, V: Drop>(
 ) -> Result<(), AllocError>
     requires branch { branch < length branches.old.items }
     requires filled { AreFilled branches.old.items }
-    ensures same { joined branches.new.items ≡ joined branches.old.items }
+    ensures same { concat_rows branches.new.items ≡ concat_rows branches.old.items }
     ensures filled { AreFilled branches.new.items }
 {
     make_room(branches)?;
@@ -110,10 +110,10 @@ fn insert_in_branch<K: Ord + Drop, V: Drop>(
     requires branch { branch < length branches.old.items }
     requires for_key { IsRowFor K.cmp key branches.old.items branch }
     requires in_order { AreOrdered K.cmp branches.old.items }
-    ensures old { IfOk result (λ old. old ≡ lookup (is_at (K.cmp key)) (joined branches.old.items)) }
-    ensures entries { OnOk result (joined branches.new.items ≡ insert_entry K.cmp (joined branches.old.items) key value) }
+    ensures old { IfOk result (λ old. old ≡ lookup (is_at (K.cmp key)) (concat_rows branches.old.items)) }
+    ensures entries { OnOk result (concat_rows branches.new.items ≡ insert_entry K.cmp (concat_rows branches.old.items) key value) }
     ensures handed_back { IfErr result (λ failed. failed.value ≡ (key, value)) }
-    ensures absent { OnErr result (lookup (is_at (K.cmp key)) (joined branches.old.items) ≡ None) }
+    ensures absent { OnErr result (lookup (is_at (K.cmp key)) (concat_rows branches.old.items) ≡ None) }
     ensures err { OnErr result (branches.new.items ≡ branches.old.items) }
     ensures filled { AreFilled branches.new.items }
     ensures count { length branches.new.items ≡ length branches.old.items }
@@ -131,11 +131,11 @@ pub(crate) fn insert_in<K: Ord + Drop, V: Drop>(
 ) -> Result<Option<V>, AllocFailed<(K, V)>>
     requires some { 0 < length branches.old.items }
     requires in_order { AreOrdered K.cmp branches.old.items }
-    ensures old { IfOk result (λ old. old ≡ lookup (is_at (K.cmp key)) (joined branches.old.items)) }
-    ensures entries { OnOk result (joined branches.new.items ≡ insert_entry K.cmp (joined branches.old.items) key value) }
+    ensures old { IfOk result (λ old. old ≡ lookup (is_at (K.cmp key)) (concat_rows branches.old.items)) }
+    ensures entries { OnOk result (concat_rows branches.new.items ≡ insert_entry K.cmp (concat_rows branches.old.items) key value) }
     ensures handed_back { IfErr result (λ failed. failed.value ≡ (key, value)) }
-    ensures absent { OnErr result (lookup (is_at (K.cmp key)) (joined branches.old.items) ≡ None) }
-    ensures err { OnErr result (joined branches.new.items ≡ joined branches.old.items) }
+    ensures absent { OnErr result (lookup (is_at (K.cmp key)) (concat_rows branches.old.items) ≡ None) }
+    ensures err { OnErr result (concat_rows branches.new.items ≡ concat_rows branches.old.items) }
     ensures filled { AreFilled branches.new.items }
 {
     let branch = branch_for(branches, &key, branches.len() - 1);
@@ -162,8 +162,8 @@ pub(crate) fn remove_in<K: Ord + Drop, V: Drop>(
     key: &K,
 ) -> Option<V>
     requires { AreOrdered K.cmp branches.old.items }
-    ensures value { result ≡ lookup (is_at (K.cmp key.now)) (joined branches.old.items) }
-    ensures entries { joined branches.new.items ≡ remove_entry (is_at (K.cmp key.now)) (joined branches.old.items) }
+    ensures value { result ≡ lookup (is_at (K.cmp key.now)) (concat_rows branches.old.items) }
+    ensures entries { concat_rows branches.new.items ≡ remove_entry (is_at (K.cmp key.now)) (concat_rows branches.old.items) }
     ensures filled { AreFilled branches.new.items }
 {
     let branch = branch_for(branches, key, 0);
@@ -186,7 +186,7 @@ pub(crate) fn branches_of_row<K: Drop, V: Drop>(
 ) -> Result<Vec<Branch<K, V>>, AllocError>
     requires some { 0 < keep }
     requires less { keep < length row.old }
-    ensures same { IfOk result (λ branches. joined branches.items ≡ row.old) }
+    ensures same { IfOk result (λ branches. concat_rows branches.items ≡ row.old) }
     ensures filled { IfOk result (λ branches. AreFilled branches.items) }
     ensures err { OnErr result (row.new ≡ row.old) }
 {
@@ -206,7 +206,7 @@ pub(crate) fn branches_of<K: Drop, V: Drop>(
     rows: Vec<Row<K, V>>,
 ) -> Result<Vec<Branch<K, V>>, AllocError>
     requires { AreFilled rows.items }
-    ensures same { IfOk result (λ branches. joined branches.items ≡ joined rows.items) }
+    ensures same { IfOk result (λ branches. concat_rows branches.items ≡ concat_rows rows.items) }
     ensures filled { IfOk result (λ branches. AreFilled branches.items) }
 {
     // From the last one on, so that the rows that are left keep their places.

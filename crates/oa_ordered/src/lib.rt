@@ -4,7 +4,7 @@
 //! as those of std's `BTreeMap` change theirs. If an allocation fails, the arguments are returned,
 //! and nothing changes.
 //!
-//! Used by oa_table for objects and cells, by oa_share for its clients, and by oa_image, which
+//! Used by oa_table for objects and cells, by oa_mux for its clients, and by oa_image, which
 //! makes such maps from a store.
 #![tactic(auto)]
 

@@ -2,7 +2,7 @@
 ghost use Rattle.std.specs.Prelude.{◌≡◌, ◌<◌, ◌≤◌, [], None, IfOk, IfErr, OnOk, OnErr};
 ghost use Rattle.std.specs.Map.{lookup, remove_entry};
 ghost use Rattle.std.specs.BTreeMap.{insert_entry, is_at};
-ghost use Rattle.oa_ordered.specs.Rows.{AreFilled, IsOrdered, joined};
+ghost use Rattle.oa_ordered.specs.Rows.{AreFilled, IsOrdered, concat_rows};
 ghost use Rattle.oa_ordered.specs.Roots.{IsFilled, entries_of};
 
 use crate::branch::Branch;

@@ -1,7 +1,7 @@
 //! Rows, whose entries together are those of a map.
 ghost use Rattle.std.specs.Prelude.{◌≡◌, ◌<◌, ◌≤◌, ◌++◌, ◌∷◌, [], take, drop, suc, length, slice_index_or, false, IsTrue, IfOk, IfErr, OnOk, OnErr};
 ghost use Rattle.std.specs.List.{remove};
-ghost use Rattle.oa_ordered.specs.Rows.{AreFilled, AreOrdered, IsFound, IsFoundIn, IsGap, IsGapIn, IsOrdered, IsRowFor, after, before, from, joined};
+ghost use Rattle.oa_ordered.specs.Rows.{AreFilled, AreOrdered, IsFound, IsFoundIn, IsGap, IsGapIn, IsOrdered, IsRowFor, concat_rows, entries_after, entries_before, from};
 
 use crate::row::{Row, make_room, place_in, place_to_insert};
 use std::alloc::{AllocError, AllocFailed, Global};
@@ -148,8 +148,8 @@ fn begin_row<K: Drop, V: Drop>(
     entry: (K, V),
 ) -> Result<(), AllocFailed<(K, V)>>
     requires { AreFilled rows.old.items }
-    ensures ok { OnOk result (joined rows.new.items ≡ joined rows.old.items ++ entry ∷ []) }
-    ensures err { OnErr result (joined rows.new.items ≡ joined rows.old.items) }
+    ensures ok { OnOk result (concat_rows rows.new.items ≡ concat_rows rows.old.items ++ entry ∷ []) }
+    ensures err { OnErr result (concat_rows rows.new.items ≡ concat_rows rows.old.items) }
     ensures filled { AreFilled rows.new.items }
     ensures handed_back { IfErr result (λ failed. failed.value ≡ entry) }
 {
@@ -186,7 +186,7 @@ fn insert_free<K: Drop, V: Drop>(
     requires row { place.row < length rows.old.items }
     requires place { place.at ≤ length (slice_index_or rows.old.items place.row []) }
     requires filled { AreFilled rows.old.items }
-    ensures ok { OnOk result (joined rows.new.items ≡ before rows.old.items place.row place.at ++ entry ∷ from rows.old.items place.row place.at) }
+    ensures ok { OnOk result (concat_rows rows.new.items ≡ entries_before rows.old.items place.row place.at ++ entry ∷ from rows.old.items place.row place.at) }
     ensures err { OnErr result (rows.new.items ≡ rows.old.items) }
     ensures count { length rows.new.items ≡ length rows.old.items }
     ensures filled { AreFilled rows.new.items }
@@ -199,7 +199,7 @@ fn insert_free<K: Drop, V: Drop>(
 fn split_long<K: Drop, V: Drop>(rows: &mut Vec<Row<K, V>>, row: usize)
     requires row { row < length rows.old.items }
     requires filled { AreFilled rows.old.items }
-    ensures same { joined rows.new.items ≡ joined rows.old.items }
+    ensures same { concat_rows rows.new.items ≡ concat_rows rows.old.items }
     ensures filled { AreFilled rows.new.items }
 {
     if rows[row].len() <= FULL {
@@ -235,8 +235,8 @@ pub(crate) fn insert_at<K: Drop, V: Drop>(
     requires row { place.row ≤ length rows.old.items }
     requires place { place.at ≤ length (slice_index_or rows.old.items place.row []) }
     requires filled { AreFilled rows.old.items }
-    ensures ok { OnOk result (joined rows.new.items ≡ before rows.old.items place.row place.at ++ entry ∷ from rows.old.items place.row place.at) }
-    ensures err { OnErr result (joined rows.new.items ≡ joined rows.old.items) }
+    ensures ok { OnOk result (concat_rows rows.new.items ≡ entries_before rows.old.items place.row place.at ++ entry ∷ from rows.old.items place.row place.at) }
+    ensures err { OnErr result (concat_rows rows.new.items ≡ concat_rows rows.old.items) }
     ensures filled { AreFilled rows.new.items }
     ensures handed_back { IfErr result (λ failed. failed.value ≡ entry) }
 {
@@ -255,7 +255,7 @@ pub(crate) fn rows_of<K: Drop, V: Drop>(
     alloc: Global,
     entries: Vec<(K, V)>,
 ) -> Result<Vec<Row<K, V>>, AllocError>
-    ensures same { IfOk result (λ rows. joined rows.items ≡ entries.items) }
+    ensures same { IfOk result (λ rows. concat_rows rows.items ≡ entries.items) }
     ensures filled { IfOk result (λ rows. AreFilled rows.items) }
 {
     // From the last one on, so that the entries that are left keep their places.
@@ -289,8 +289,8 @@ pub(crate) fn remove_at<K: Drop, V: Drop>(rows: &mut Vec<Row<K, V>>, place: Plac
     requires row { place.row < length rows.old.items }
     requires place { place.at < length (slice_index_or rows.old.items place.row []) }
     requires filled { AreFilled rows.old.items }
-    ensures entry { joined rows.old.items ≡ before rows.old.items place.row place.at ++ result ∷ after rows.old.items place.row place.at }
-    ensures rest { joined rows.new.items ≡ before rows.old.items place.row place.at ++ after rows.old.items place.row place.at }
+    ensures entry { concat_rows rows.old.items ≡ entries_before rows.old.items place.row place.at ++ result ∷ entries_after rows.old.items place.row place.at }
+    ensures rest { concat_rows rows.new.items ≡ entries_before rows.old.items place.row place.at ++ entries_after rows.old.items place.row place.at }
     ensures filled { AreFilled rows.new.items }
 {
     let Place { row, at } = place;

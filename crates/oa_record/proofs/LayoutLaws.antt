@@ -21,11 +21,11 @@ use Rattle.oa_record.specs.declared.opcode.Opcode.{Opcode}
 use Rattle.oa_record.specs.declared.opcode.Opcode.TheVariants as opcodes
 use Rattle.oa_record.specs.declared.request.CallHead.{CallHead}
 use Rattle.oa_record.specs.declared.request.GetIds.{GetIds}
-use Rattle.oa_record.specs.Layouts.{Layout, opcode_of, guid, dispid, field, call_head, call_parts, indices, element_parts, put_parts}
+use Rattle.oa_record.specs.Layouts.{Layout, opcode_of, guid, dispid, field, call_head, call_parts, index_list, element_parts, put_parts}
 use Rattle.oa_record.specs.Layouts.{redim_parts, string, get_ids, number, fields, layout}
 use Rattle.oa_record.specs.Reading.{guid_at, dispid_at, field_at, head_of, call_head_at, parts_of, lists_at, call_at, index_list_at}
 use Rattle.oa_record.specs.Reading.{indices_at, parts_of_element, element_at, put_of, put_at, redim_of, redim_at, string_at, ids_of, names_at}
-use Rattle.oa_record.specs.Reading.{get_ids_at, number_at, fields_at, named_at, layout_at}
+use Rattle.oa_record.specs.Reading.{get_ids_at, number_at, fields_at, layout_by_opcode, layout_at}
 
 pub guid_reads : Reads Always guid guid_at
 unfolding guid_at
@@ -94,7 +94,7 @@ call_reads =
 few_indices : (n : ℕ) (xs : List ℤ) → leb n max_dimensions ≡ true → length xs ≡ n → length xs ≤ max_dimensions
 few_indices n xs e is = omega (arith, leb-true _ _ e, is)
 
-indices_reads : Reads Always indices indices_at
+indices_reads : Reads Always index_list indices_at
 unfolding indices_at index_list_at
 indices_reads =
     bind_reads (unit 4) (λ (xs : List ℤ). length xs) (unit_reads 4) (λ _ _. tt) (λ n _.
@@ -222,8 +222,8 @@ fields_reads k = record {
   again = λ p text rest l h form. subst (λ (j : Opcode). fields_at j (at p (text ++ rest)) ≡ Some (l, at (p + length text) rest)) h (fields_again p text rest l form);
 }
 
-named_reads : (n : ℕ) (o : Option Opcode) → opcode_named n ≡ o → Reads (λ l. opcode_number (opcode_of l) ≡ n) fields (named_at o)
-unfolding named_at
+named_reads : (n : ℕ) (o : Option Opcode) → opcode_named n ≡ o → Reads (λ l. opcode_number (opcode_of l) ≡ n) fields (layout_by_opcode o)
+unfolding layout_by_opcode
 named_reads n None e = fail_reads (λ l p text h _.
     let some : opcode_named n ≡ Some (opcode_of l) = ap opcode_named (sym h) ∙ named_back (opcode_of l) in
     absurd cc)

@@ -16,7 +16,7 @@ use Rattle.oa_record.specs.declared.opcode.Opcode.TheVariants as opcodes
 use Rattle.oa_record.specs.declared.fault.RecordFault.{RecordFault}
 use Rattle.oa_record.specs.declared.fault.RecordFault.TheVariants.{Stub, BadVarType, Memory}
 use Rattle.oa_record.specs.declared.request.Request.TheVariants as requests
-use Rattle.oa_record.specs.Asks.{HasLayout, AllSpell, call_of, field_index, with_last, request_of, request_opcode, Asks, SpellsNothing}
+use Rattle.oa_record.specs.Asks.{HasLayout, AllSpell, call_of, field_index, split_last, request_of, request_opcode, Asks, SpellsNothing}
 use Rattle.oa_record.specs.Asks.{HasBroken}
 use Rattle.oa_record.specs.Asks.{HasBadType, HasNoLayout, IsStub, IsBadVarType, IsRequest}
 use Rattle.oa_record.specs.declared.request.Request.{Request}
@@ -58,7 +58,7 @@ one_request one body p q a b =
 
 -- values that make a PUTELEM
 opcode_put : (call : CallParts) (indices : List ℤ) (vs : List Variant) (f : List Variant → Variant → Request) (q : Request) → ((arguments : List Variant) (value : Variant) → request_opcode (f arguments value) ≡ opcodes.PutElement)
-    → with_last vs (λ arguments value. Some (f arguments value)) ≡ Some q → request_opcode q ≡ opcodes.PutElement
+    → split_last vs (λ arguments value. Some (f arguments value)) ≡ Some q → request_opcode q ≡ opcodes.PutElement
 opcode_put call indices [] f q h e = absurd cc
 opcode_put call indices (v ∷ []) f q h e = ap request_opcode (sym (same_request (f [] v) q e)) ∙ h [] v
 opcode_put call indices (v ∷ w ∷ ws) f q h e = opcode_put call indices (w ∷ ws) (λ arguments value. f (v ∷ arguments) value) q (λ arguments value. h (v ∷ arguments) value) e
@@ -144,7 +144,7 @@ refuses_call parts c (BadVarType index) fields place memory h = record { place =
 refuses_call parts c Memory fields place memory h = memory
 
 -- The new value of an element, after the arguments.
-last_is : (values : List Variant) (v : Variant) (f : List Variant → Variant → Option Request) → with_last (values ++ v ∷ []) f ≡ f values v
+last_is : (values : List Variant) (v : Variant) (f : List Variant → Variant → Option Request) → split_last (values ++ v ∷ []) f ≡ f values v
 last_is [] v f = refl
 last_is (x ∷ []) v f = refl
 last_is (x ∷ y ∷ values) v f = last_is (y ∷ values) v (λ more last. f (x ∷ more) last)

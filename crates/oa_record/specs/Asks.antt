@@ -37,10 +37,10 @@ abbrev pub call_of : CallParts → List Variant → Call
 call_of c values = record { head = c.head; named = c.named; arguments = values }
 
 -- Splits off the last value and passes both parts to `f`; None for no values.
-abbrev pub with_last : List Variant → (List Variant → Variant → Option Request) → Option Request
-with_last [] f = None
-with_last (v ∷ []) f = f [] v
-with_last (v ∷ w ∷ ws) f = with_last (w ∷ ws) (λ values last. f (v ∷ values) last)
+abbrev pub split_last : List Variant → (List Variant → Variant → Option Request) → Option Request
+split_last [] f = None
+split_last (v ∷ []) f = f [] v
+split_last (v ∷ w ∷ ws) f = split_last (w ∷ ws) (λ values last. f (v ∷ values) last)
 
 -- The request of a layout whose variant fields have these values; None if a PUTELEM has no value.
 abbrev pub request_of : Layout → List Variant → Option Request
@@ -50,7 +50,7 @@ request_of (Layout.GetIdsBody call) values = Some (GetIds call)
 request_of (Layout.CallBody kind call) values = Some (ByCall kind (call_of call values))
 request_of (Layout.GetElementBody element) values = Some (GetElement (call_of element.call values) element.indices)
 request_of (Layout.PutElementBody put) values =
-    with_last values
+    split_last values
     (λ arguments value. Some (PutElement (call_of put.element.call arguments) put.element.indices value))
 request_of (Layout.RedimensionBody redim) values = Some (Redimension (call_of redim.call values) redim.bound)
 request_of (Layout.QueryBody query) values = Some (Query query)

@@ -6,7 +6,7 @@
 use Rattle.std.specs.Prelude.{◌≡◌, ℕ, ℤ, ◌≤◌, List, [], ◌∷◌, ◌++◌, length}
 use Rattle.std.specs.Int.{w32, cast_signed}
 use Rattle.oa_model.specs.Limits.{max_arguments, max_dimensions, max_names}
-use Rattle.oa_ndr.specs.Forms.{Form, ◌▸◌, nothing, align, ignored, unit, exactly, with, given, each, made}
+use Rattle.oa_ndr.specs.Forms.{Encoding, ◌▸◌, nothing, align, ignored, unit, exactly, with, given, each, made}
 use Rattle.oa_model.specs.Guids.{wire_order}
 use Rattle.oa_wire_array.specs.Arrays.{bound}
 use Rattle.oa_record.specs.CallParts.{CallParts, ElementParts, PutParts, RedimParts}
@@ -53,26 +53,26 @@ variant_fields (Layout.RedimensionBody redim) = redim.call.fields
 variant_fields (Layout.QueryBody query) = []
 
 -- 16 bytes that are a GUID in wire order (MS-DTYP section 2.3.4.2).
-abbrev pub guid : List ℕ → Form
+abbrev pub guid : List ℕ → Encoding
 guid = made wire_order (λ bytes. given (length bytes ≡ 16) ▸ exactly bytes)
 
 -- A signed number of 32 bits, little-endian.
-abbrev pub dispid : ℤ → Form
+abbrev pub dispid : ℤ → Encoding
 dispid z = with (unit 4) (λ x. given (z ≡ cast_signed w32 x))
 
 -- A variant field: the number of bytes, a reserved number, the bytes, padding up to a multiple of 8.
-abbrev pub field : List ℕ → Form
+abbrev pub field : List ℕ → Encoding
 field bytes = unit 4 (length bytes) ▸ ignored 4 ▸ exactly bytes ▸ align 8
 
 -- The head of a call: object, DISPID, interface, riid, lcid, flags, a reserved number (their meaning: MS-OAUT section
 -- 3.1.4.4).
-abbrev pub call_head : CallHead → Form
+abbrev pub call_head : CallHead → Encoding
 call_head h = unit 4 h.object ▸ dispid h.dispid ▸ guid h.interface ▸ guid h.riid ▸ unit 4 h.lcid ▸ unit 2 h.flags
     ▸ ignored 2 ▸ nothing
 
 -- A call: its head, cArgs, cNamed, the DISPIDs of the named arguments, padding up to a multiple of 8, and the arguments
 -- in the order of rgvarg.
-abbrev pub call_parts : CallParts → Form
+abbrev pub call_parts : CallParts → Encoding
 call_parts c =
     call_head c.head
     ▸ unit 4 (length c.fields) ▸ unit 4 (length c.named)
@@ -80,39 +80,39 @@ call_parts c =
     ▸ each dispid c.named ▸ align 8 ▸ each field c.fields
 
 -- An index list: the number of indices, a reserved number, the indices, padding up to a multiple of 8.
-abbrev pub indices : List ℤ → Form
-indices xs = unit 4 (length xs) ▸ ignored 4 ▸ given (length xs ≤ max_dimensions) ▸ each dispid xs ▸ align 8
+abbrev pub index_list : List ℤ → Encoding
+index_list xs = unit 4 (length xs) ▸ ignored 4 ▸ given (length xs ≤ max_dimensions) ▸ each dispid xs ▸ align 8
 
 -- A call that names an array, and the index list of an element.
-abbrev pub element_parts : ElementParts → Form
-element_parts e = call_parts e.call ▸ indices e.indices
+abbrev pub element_parts : ElementParts → Encoding
+element_parts e = call_parts e.call ▸ index_list e.indices
 
 -- A call that names an array, the index list of an element, and the element's new value.
-abbrev pub put_parts : PutParts → Form
+abbrev pub put_parts : PutParts → Encoding
 put_parts p = element_parts p.element ▸ field p.value
 
 -- A call that names an array, and its new first listed bound: cElements, lLbound (SAFEARRAYBOUND, MS-OAUT section
 -- 2.2.30.1).
-abbrev pub redim_parts : RedimParts → Form
+abbrev pub redim_parts : RedimParts → Encoding
 redim_parts r = call_parts r.call ▸ bound r.bound
 
 -- A string: the number of UTF-16 units, a reserved number, the units, padding up to a multiple of 8.
-abbrev pub string : List ℕ → Form
+abbrev pub string : List ℕ → Encoding
 string units = unit 4 (length units) ▸ ignored 4 ▸ each (unit 2) units ▸ align 8
 
 -- A look-up of names: object, a reserved number, interface, riid, lcid, the number of names, the names (their meaning:
 -- MS-OAUT section 3.1.4.3).
-abbrev pub get_ids : GetIds → Form
+abbrev pub get_ids : GetIds → Encoding
 get_ids g =
     unit 4 g.object ▸ ignored 4 ▸ guid g.interface ▸ guid g.riid ▸ unit 4 g.lcid
     ▸ unit 4 (length g.names) ▸ given ((1 ≤ length g.names) × (length g.names ≤ max_names)) ▸ each string g.names
 
 -- A number and a reserved number.
-abbrev pub number : ℕ → Form
+abbrev pub number : ℕ → Encoding
 number n = unit 4 n ▸ ignored 4 ▸ nothing
 
 -- The fields of each opcode.
-abbrev pub fields : Layout → Form
+abbrev pub fields : Layout → Encoding
 fields (Layout.CreateBody class) = guid class
 fields (Layout.NumberBody kind n) = number n
 fields (Layout.GetIdsBody call) = get_ids call
@@ -123,5 +123,5 @@ fields (Layout.RedimensionBody redim) = redim_parts redim
 fields (Layout.QueryBody query) = nothing
 
 -- A whole body: the tag, the opcode, a reserved number, the fields of the opcode.
-abbrev pub layout : Layout → Form
+abbrev pub layout : Layout → Encoding
 layout parts = ignored 4 ▸ unit 2 (opcode_number (opcode_of parts)) ▸ ignored 2 ▸ fields parts

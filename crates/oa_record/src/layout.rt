@@ -30,7 +30,7 @@ ghost use Rattle.oa_record.specs.Reading.{
 };
 ghost use Rattle.oa_record.specs.Layouts.{Layout};
 ghost use Rattle.oa_record.specs.Shown.{shown};
-ghost use Rattle.oa_record.specs.ValueCalls.{guid_in, head_in, invoke_front, lists_behind, number_in, parts_bringing};
+ghost use Rattle.oa_record.specs.ValueCalls.{body_number, guid_in, head_in, invoke_front, lists_behind, parts_bringing};
 ghost use Rattle.oa_record.specs.declared.opcode.Opcode.TheVariants as opcodes;
 ghost use Rattle.oa_record.specs.declared.opcode.ByCall.TheVariants as by_call;
 
@@ -179,7 +179,7 @@ fn new_value<'a>(head: CallHead, r: &mut Ndr<'a>) -> Result<&'a [u8], Short>
 #[inline(always)]
 fn u16_at(body: &[u8], place: usize) -> u16
     requires { place + 2 ≤ length body.now }
-    ensures { result ≡ number_in 2 place body.now }
+    ensures { result ≡ body_number 2 place body.now }
 {
     LittleEndian::read_u16(&body[place..])
 }
@@ -188,7 +188,7 @@ fn u16_at(body: &[u8], place: usize) -> u16
 #[inline(always)]
 fn u32_at(body: &[u8], place: usize) -> u32
     requires { place + 4 ≤ length body.now }
-    ensures { result ≡ number_in 4 place body.now }
+    ensures { result ≡ body_number 4 place body.now }
 {
     LittleEndian::read_u32(&body[place..])
 }
@@ -197,7 +197,7 @@ fn u32_at(body: &[u8], place: usize) -> u32
 #[inline(always)]
 fn dispid_at(body: &[u8], place: usize) -> i32
     requires { place + 4 ≤ length body.now }
-    ensures { result ≡ cast_signed w32 (number_in 4 place body.now) }
+    ensures { result ≡ cast_signed w32 (body_number 4 place body.now) }
 {
     u32_at(body, place).cast_signed()
 }
@@ -454,7 +454,7 @@ fn fields_of<'a>(alloc: Global, opcode: Opcode, r: &mut Ndr<'a>) -> Result<Parts
 
 /// Parses a whole body. Errors: `Stub` if it has the layout of no request; `Memory` only if the
 /// opcode's fields need memory and the body has the bytes before the first allocation.
-#[tactic(auto, unfolding(oa_ndr::specs::Reading::steps, crate::specs::Reading::layout_at, crate::specs::Reading::named_at))]
+#[tactic(auto, unfolding(oa_ndr::specs::Reading::steps, crate::specs::Reading::layout_at, crate::specs::Reading::layout_by_opcode))]
 pub(crate) fn read_parts(alloc: Global, body: &[u8]) -> Result<Parts<'_>, RecordFault>
     ensures all { ReadsBodyToItsEnd shown result (whole layout_at body.now) }
     ensures memory { Starves result body.now }

@@ -7,7 +7,7 @@ use Rattle.oa_frame.specs.declared.session.Served.{Served}
 use Rattle.oa_record.specs.Replacement.{is_replacement}
 use Rattle.oa_stream.specs.Source.{Input}
 use Rattle.oa_stream.specs.Sink.{Output}
-use Rattle.oa_server.specs.declared.engine.Engine.{Engine}
+use Rattle.oa_server.specs.declared.engine.ServerState.{ServerState}
 use Rattle.oa_server.specs.declared.open_group.OpenGroup.{OpenGroup}
 use Rattle.oa_server.specs.declared.storage.Storage.{Storage}
 use Rattle.oa_server.specs.declared.storage.Storage.TheVariants.{Disk, Memory}
@@ -31,12 +31,12 @@ module _ {D : Type 0} {g : Ghosts D} where
   ended_in_memory (Memory one) new before after open_group open_group' replies here is = is.1
   ended_in_memory (Disk one) new before after open_group open_group' replies here is = absurd here
 
-  pub record RunsInMemory (old new : Engine D g) (bodies : List (List ℕ)) (handed : List (List (List ℕ))) : Type 0 where
+  pub record RunsInMemory (old new : ServerState D g) (bodies : List (List ℕ)) (handed : List (List (List ℕ))) : Type 0 where
     pub run : sessions.BodiesTurned turn_written old.host bodies handed new.host
     pub memory : InMemory new.storage
 
-  run_in_memory : (old new : Engine D g) (bodies : List (List ℕ)) (handed : List (List (List ℕ))) → InMemory old.storage → sessions.BodiesTurned taken_written old bodies handed new → RunsInMemory old new bodies handed
-  run_in_memory old new [] [] here run = record { run = ap (λ (s : Engine D g). s.host) run; memory = subst (λ (s : Engine D g). InMemory s.storage) (sym run) here }
+  run_in_memory : (old new : ServerState D g) (bodies : List (List ℕ)) (handed : List (List (List ℕ))) → InMemory old.storage → sessions.BodiesTurned taken_written old bodies handed new → RunsInMemory old new bodies handed
+  run_in_memory old new [] [] here run = record { run = ap (λ (s : ServerState D g). s.host) run; memory = subst (λ (s : ServerState D g). InMemory s.storage) (sym run) here }
   run_in_memory old new (body ∷ bodies) (replies ∷ handed) here run =
       let one = in_memory old.storage run.0.storage old.host run.0.host old.desk.open_group run.0.desk.open_group body replies here run.1 in
       let rest = run_in_memory run.0 new bodies handed one.memory run.2 in
@@ -44,7 +44,7 @@ module _ {D : Type 0} {g : Ghosts D} where
   run_in_memory old new [] (replies ∷ handed) here run = absurd run
   run_in_memory old new (body ∷ bodies) [] here run = absurd run
 
-  pub session_in_memory : (f : Frames) (last : List ℕ) (input input' : Input) (out out' : Output) (old new : Engine D g) (served : Served) → InMemory old.storage
+  pub session_in_memory : (f : Frames) (last : List ℕ) (input input' : Input) (out out' : Output) (old new : ServerState D g) (served : Served) → InMemory old.storage
       → sessions.Session f is_replacement taken_written ended_written last input input' out out' old new served → sessions.Session f is_replacement turn_written none_held last input input' out out' old.host new.host served
   session_in_memory f last input input' out out' old new served here is =
       let runs = run_in_memory old is.mid is.bodies is.handed here is.run in

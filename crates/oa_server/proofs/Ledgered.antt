@@ -16,7 +16,7 @@ use Rattle.oa_array.specs.declared.fault.ArrayFault.{ArrayFault}
 use Rattle.oa_array.specs.declared.fault.ArrayFault.TheVariants as arrays
 use Rattle.oa_frame.specs.declared.ends.End.{End}
 use Rattle.oa_frame.specs.declared.ends.End.TheVariants.{Closed, Cut, TooLong, BadHex, ReadFault, WriteFault}
-use Rattle.oa_groups.specs.Turns.{Exchange}
+use Rattle.oa_group_commit.specs.StateMachines.{Exchange}
 use Rattle.oa_image.specs.Tables.{is_numbered, is_used}
 use Rattle.oa_image.proofs.Numbered.{numbers_stay, on_object_keeps, unlocked_numbers}
 use Rattle.oa_model.specs.declared.bound.Bound.{Bound}
@@ -24,7 +24,7 @@ use Rattle.oa_model.specs.declared.hresult.HResult.{HResult}
 use Rattle.oa_model.specs.declared.var_type.ValueType.{ValueType}
 use Rattle.oa_model.specs.declared.var_type.ValueType.TheVariants as kinds
 use Rattle.oa_turn.specs.ClientLocks.{ClientLock, cells_of, of_others, with_one, without_one}
-use Rattle.oa_turn.specs.Counts.{HasLocks, IsLedger, name_of}
+use Rattle.oa_turn.specs.Counts.{HasLocks, IsLedger, locked_name}
 use Rattle.oa_turn.proofs.Counted.{can_unlock, count_more_of, count_none, count_of_none, count_owned, count_without, event_ordered, event_stays, has_same, lock_counted, object_ordered, own_one_more, own_without, redim_same, unlock_counted}
 use Rattle.oa_record.specs.Asks.{Asks, IsStub, tag_at}
 use Rattle.oa_record.specs.Replacement.{is_replacement}
@@ -34,9 +34,9 @@ use Rattle.oa_record.specs.declared.request.Request.TheVariants as requests
 use Rattle.oa_record.specs.declared.opcode.ByCall.TheVariants as by_call
 use Rattle.oa_record.specs.declared.opcode.ByNumber.TheVariants as by_number
 use Rattle.oa_server.specs.Ledgers.{ClientsKeepLedger, EndUnlocksAll, HasLedger, IsRunOfOne, IsTurnOfOne, OpeningHasLedger, OwnsAll, RunsKeepLedger, TurnsKeepLedger}
-use Rattle.oa_server.specs.Sharing.{ClientReply, HasOwners, IsSharedTurn, Leaves, MayChange, RefusesUnlock, Replies, Shared, TakesTurn, TurnOf, TurnsFor, behind_end, brought_by, client_in, relocked_by, shared, tagged, taken_back}
+use Rattle.oa_server.specs.Sharing.{ClientReply, HasOwners, IsSharedTurn, Leaves, MayChange, RefusesUnlock, Replies, Shared, SharedTurnOf, TakesTurn, TurnsFor, behind_end, brought_by, client_in, relocked_by, shared, tagged_body, taken_back}
 use Rattle.oa_server.proofs.LockTurns.{OneRequest, apart_asks_none, not_apart}
-use Rattle.oa_share.specs.Readers.{Body, Brought, Ends}
+use Rattle.oa_mux.specs.Readers.{Body, Brought, Ends}
 use Rattle.oa_table.specs.Elements.{locks_in, locks_of, redimensioned_value, released_value}
 use Rattle.oa_table.specs.Events.{BringsNoLocks, applied}
 use Rattle.oa_table.specs.Locks.{locks_at, with_lock, without_lock}
@@ -68,7 +68,7 @@ use Rattle.oa_decision.specs.Redimension.{resizing, zero_with}
 use Rattle.oa_decision.specs.Refusals.{◌>>=◌, known}
 use Rattle.oa_decision.specs.States.{State}
 use Rattle.oa_decision.specs.TypeInfo.{description_of}
-use Rattle.oa_decision.specs.Unlock.{taking}
+use Rattle.oa_decision.specs.Unlock.{unlock_decision}
 use Rattle.oa_decision.specs.declared.decider.cell.BoundCell.{BoundCell}
 use Rattle.oa_decision.specs.declared.decision.Decision.{Decision}
 use Rattle.oa_decision.specs.declared.decision.Decision.TheVariants.{Answer, Change, Relock}
@@ -79,9 +79,9 @@ use Rattle.oa_turn.proofs.NoTrace.{not_done, quiet_turn}
 use Rattle.oa_turn.specs.Events.{is_done}
 use Rattle.oa_turn.specs.Locking.{changes_lock, lock_asked_by, lock_decided}
 use Rattle.oa_turn.specs.Replacing.{Replacement, after_replacement}
-use Rattle.oa_turn.specs.Steps.{after, after_locks, after_outcome, changed, outcome, outcome_of, relocked, relocking, reply_with, with_table}
+use Rattle.oa_turn.specs.Steps.{after_locks, after_outcome, changed, outcome, outcome_of, relocked, relocking, reply_with, state_after, with_table}
 use Rattle.oa_turn.specs.Turns.{Ordinary, Steps, Turn}
-use Rattle.oa_keeps.specs.declared.lost.Lost.{Lost}
+use Rattle.oa_compat.specs.declared.lost.Incompatibility.{Incompatibility}
 use Rattle.oa_idl.specs.Trees.{TreeValue}
 
 abbrev some_change : LockChange → Option LockChange
@@ -138,7 +138,7 @@ shaped state (requests.GetElement call indices) = then_shaped false (cell_called
 shaped state (requests.PutElement call indices value) = then_shaped false (cell_called state call Put) (setting state indices value) (λ cell is. then_shaped false (element_for state indices value cell) _ (λ x at. tt))
 shaped state (requests.Redimension call bound) = then_shaped false (cell_called state call Put) _ (λ cell is. resize_shaped false cell.name cell.declared bound (put_in state cell.name))
 shaped state (requests.ByCall by_call.Lock call) = then_shaped true (cell_called state call Get) (adding state) (λ cell is. then_shaped true (locks_found state cell) _ (λ x at. refl))
-shaped state (requests.ByCall by_call.Unlock call) = then_shaped true (cell_called state call Get) (taking state) (λ cell is. then_shaped true (locks_found state cell) _ (λ x at. refl))
+shaped state (requests.ByCall by_call.Unlock call) = then_shaped true (cell_called state call Get) (unlock_decision state) (λ cell is. then_shaped true (locks_found state cell) _ (λ x at. refl))
 shaped state (requests.ByNumber by_number.TypeInfo index) = then_shaped false (known _ (description_of state index)) _ (λ x is. tt)
 shaped state (requests.Query query) = tt
 
@@ -185,7 +185,7 @@ unlock_of state (requests.ByCall by_call.Unlock call) name fields kind is = by (
     on cell (kinds.One t) None found e = absurd cc
     on cell (kinds.Array t) None found e = absurd cc
 
-    by : (r : Result BoundCell Refusal) → (r >>= taking state) ≡ Ok (Relock (Unlock name) fields) → (a : ArrayValue Scalar) × (put_in state name ≡ Some (AnArray a))
+    by : (r : Result BoundCell Refusal) → (r >>= unlock_decision state) ≡ Ok (Relock (Unlock name) fields) → (a : ArrayValue Scalar) × (put_in state name ≡ Some (AnArray a))
     by (Ok cell) e = on cell cell.declared (put_in state cell.name) refl e
     by (Err r) e = absurd cc
 unlock_of state (requests.Create class) name fields kind is = absurd (true≢false (sym kind))
@@ -283,7 +283,7 @@ keeps_relock client tag state locks locks' (Lock name) fields (Ok new) is done m
       numbered = stays.numbered;
       ledger = record {
         ordered = stays.ordered;
-        counted = has_same (name ∷ map name_of locks) (map name_of (with_one client name locks)) new (λ other. count_more_of other locks client name) (lock_counted name (map name_of locks) state.table new is has.ledger.counted);
+        counted = has_same (name ∷ map locked_name locks) (map locked_name (with_one client name locks)) new (λ other. count_more_of other locks client name) (lock_counted name (map locked_name locks) state.table new is has.ledger.counted);
       };
     }))
 keeps_relock client tag state locks locks' (Unlock name) fields (Ok new) is done may same has =
@@ -294,12 +294,12 @@ keeps_relock client tag state locks locks' (Unlock name) fields (Ok new) is done
       numbered = stays.numbered;
       ledger = record {
         ordered = stays.ordered;
-        counted = unlock_counted name (map name_of (without_one client name locks)) state.table new is (has_same (map name_of locks) (name ∷ map name_of (without_one client name locks)) state.table (λ other. count_without other client name locks may) has.ledger.counted);
+        counted = unlock_counted name (map locked_name (without_one client name locks)) state.table new is (has_same (map locked_name locks) (name ∷ map locked_name (without_one client name locks)) state.table (λ other. count_without other client name locks may) has.ledger.counted);
       };
     }))
 
 -- ---- turns
-replaced_table : (old : State) (library : TreeValue) (lost : Option Lost) → (after_replacement old library lost).table ≡ old.table
+replaced_table : (old : State) (library : TreeValue) (lost : Option Incompatibility) → (after_replacement old library lost).table ≡ old.table
 replaced_table old library None = refl
 replaced_table old library (Some lost) = refl
 
@@ -321,10 +321,10 @@ module _ (one_request : OneRequest) (is_stub : (body : List ℕ) → is_replacem
   step_keeps : (client : ℕ) (old new : State) (body : List ℕ) (reply : ReplyValue) (locks locks' : List ClientLock) → Steps old body reply new → HasOwners client (shared old locks) body reply locks' → is_done reply ≡ true → Has old locks → Has new locks'
   step_keeps client old new body reply locks locks' s owners done has = subst (λ (x : State). Has x locks') (sym s.leaves) (by (lock_asked_by old s.request) refl)
     where
-      by : (o : Option LockChange) → lock_asked_by old s.request ≡ o → Has (after old s.request) locks'
+      by : (o : Option LockChange) → lock_asked_by old s.request ≡ o → Has (state_after old s.request) locks'
       by None none =
           let same = owners.others (λ change asks. not_none change (sym asks.is ∙ ap (λ (r : Request). lock_asked_by old r) (one_request body asks.request s.request asks.asked s.asked) ∙ none)) in
-          subst (λ (l : List ClientLock). Has (after old s.request) l) (sym same) (keeps_plain old locks s.request (decided old s.request) refl (shaped old s.request) none has)
+          subst (λ (l : List ClientLock). Has (state_after old s.request) l) (sym same) (keeps_plain old locks s.request (decided old s.request) refl (shaped old s.request) none has)
       by (Some change) some =
           let due = relock_of old s.request change some in
           let own = owners.done change (record { request = s.request; asked = s.asked; is = some }) done in
@@ -371,14 +371,14 @@ module _ (one_request : OneRequest) (is_stub : (body : List ℕ) → is_replacem
 
   end_keeps_ledger : (client : ℕ) (old : Shared) → HasLedger old → HasLedger (behind_end client old)
   end_keeps_ledger client old has =
-      let all = all_taken_back (cells_of client old.locks) (map name_of (of_others client old.locks)) old.state (record { numbered = has.numbered; ordered = has.ledger.ordered })
-      (has_same (map name_of old.locks) (cells_of client old.locks ++ map name_of (of_others client old.locks)) old.state.table (λ name. count_owned name client old.locks) has.ledger.counted) in
+      let all = all_taken_back (cells_of client old.locks) (map locked_name (of_others client old.locks)) old.state (record { numbered = has.numbered; ordered = has.ledger.ordered })
+      (has_same (map locked_name old.locks) (cells_of client old.locks ++ map locked_name (of_others client old.locks)) old.state.table (λ name. count_owned name client old.locks) has.ledger.counted) in
       record { numbered = all.is.numbered; ledger = record { ordered = all.is.ordered; counted = all.counted } }
 
   pub end_unlocks : EndUnlocksAll
   end_unlocks old name has =
-      (all_taken_back (map name_of old.locks) [] old.state (record { numbered = has.numbered; ordered = has.ledger.ordered })
-      (subst (λ (names : List CellName). HasLocks names old.state.table) (sym (append-nil (map name_of old.locks))) has.ledger.counted)).counted name ∙ count_none name
+      (all_taken_back (map locked_name old.locks) [] old.state (record { numbered = has.numbered; ordered = has.ledger.ordered })
+      (subst (λ (names : List CellName). HasLocks names old.state.table) (sym (append-nil (map locked_name old.locks))) has.ledger.counted)).counted name ∙ count_none name
 
   pub clients_keep : ClientsKeepLedger
   clients_keep client (Body body) told old new has turn = for_keeps client body turn.reply old new has turn.turn
@@ -457,7 +457,7 @@ module _ (one_request : OneRequest) (is_stub : (body : List ℕ) → is_replacem
   turn_of_one client old new body reply has own (inr refused) = (refused_alike client body reply old new has own refused, ap (λ (s : Shared). of_others client s.locks) refused.same ∙ own)
 
   -- what a body says of its client
-  brought_is : (client : ℕ) (brought : Brought) → brought_by (tagged client brought) ≡ brought
+  brought_is : (client : ℕ) (brought : Brought) → brought_by (tagged_body client brought) ≡ brought
   brought_is client (Body body) = refl
   brought_is client (Ends Closed) = refl
   brought_is client (Ends Cut) = refl
@@ -466,7 +466,7 @@ module _ (one_request : OneRequest) (is_stub : (body : List ℕ) → is_replacem
   brought_is client (Ends WriteFault) = refl
   brought_is client (Ends (BadHex line)) = refl
 
-  pub body_of_one : (client : ℕ) (body : List ℕ) (reply : ReplyValue) (asked : Exchange ClientReply) (old new : Shared) → asked.body ≡ tagged client (Body body) → asked.reply ≡ Replies client reply → IsSharedTurn asked old new → TurnsFor client body reply old new
+  pub body_of_one : (client : ℕ) (body : List ℕ) (reply : ReplyValue) (asked : Exchange ClientReply) (old new : Shared) → asked.body ≡ tagged_body client (Body body) → asked.reply ≡ Replies client reply → IsSharedTurn asked old new → TurnsFor client body reply old new
   body_of_one client body reply asked old new is told one = by one.brought (sym (brought_is one.client one.brought) ∙ ap brought_by (sym one.body_is ∙ is)) one.turn
     where
       same_client : one.client ≡ client
@@ -475,7 +475,7 @@ module _ (one_request : OneRequest) (is_stub : (body : List ℕ) → is_replacem
       same_reply : (r : ReplyValue) → Replies client reply ≡ Replies one.client r → r ≡ reply
       same_reply r e = cc
 
-      by : (brought : Brought) → brought ≡ Body body → TurnOf one.client brought asked.reply old new → TurnsFor client body reply old new
+      by : (brought : Brought) → brought ≡ Body body → SharedTurnOf one.client brought asked.reply old new → TurnsFor client body reply old new
       by (Ends why) e turn = absurd cc
       by (Body b) e turn =
           subst (λ (c : ℕ). TurnsFor c body reply old new) same_client
@@ -486,24 +486,24 @@ module _ (one_request : OneRequest) (is_stub : (body : List ℕ) → is_replacem
           same_body b f = cc
 
   -- its body is told a reply
-  pub body_told : (client : ℕ) (body : List ℕ) (asked : Exchange ClientReply) (old new : Shared) → asked.body ≡ tagged client (Body body) → IsSharedTurn asked old new → (reply : ReplyValue) × (asked.reply ≡ Replies client reply)
+  pub body_told : (client : ℕ) (body : List ℕ) (asked : Exchange ClientReply) (old new : Shared) → asked.body ≡ tagged_body client (Body body) → IsSharedTurn asked old new → (reply : ReplyValue) × (asked.reply ≡ Replies client reply)
   body_told client body asked old new is one = by one.brought (sym (brought_is one.client one.brought) ∙ ap brought_by (sym one.body_is ∙ is)) one.turn
     where
       same_client : one.client ≡ client
       same_client = ap client_in (sym one.body_is ∙ is)
 
-      by : (brought : Brought) → brought ≡ Body body → TurnOf one.client brought asked.reply old new → (reply : ReplyValue) × (asked.reply ≡ Replies client reply)
+      by : (brought : Brought) → brought ≡ Body body → SharedTurnOf one.client brought asked.reply old new → (reply : ReplyValue) × (asked.reply ≡ Replies client reply)
       by (Ends why) e turn = absurd cc
       by (Body b) e turn = (turn.reply, turn.told_is ∙ ap (λ (c : ℕ). Replies c turn.reply) same_client)
 
   -- its end is told it, and releases its locks
-  pub end_of_one : (client : ℕ) (end : End) (asked : Exchange ClientReply) (old new : Shared) → asked.body ≡ tagged client (Ends end) → IsSharedTurn asked old new → (asked.reply ≡ Leaves client end) × (new ≡ behind_end client old)
+  pub end_of_one : (client : ℕ) (end : End) (asked : Exchange ClientReply) (old new : Shared) → asked.body ≡ tagged_body client (Ends end) → IsSharedTurn asked old new → (asked.reply ≡ Leaves client end) × (new ≡ behind_end client old)
   end_of_one client end asked old new is one = by one.brought (sym (brought_is one.client one.brought) ∙ ap brought_by (sym one.body_is ∙ is) ∙ brought_is client (Ends end)) one.turn
     where
       same_client : one.client ≡ client
       same_client = ap client_in (sym one.body_is ∙ is)
 
-      by : (brought : Brought) → brought ≡ Ends end → TurnOf one.client brought asked.reply old new → (asked.reply ≡ Leaves client end) × (new ≡ behind_end client old)
+      by : (brought : Brought) → brought ≡ Ends end → SharedTurnOf one.client brought asked.reply old new → (asked.reply ≡ Leaves client end) × (new ≡ behind_end client old)
       by (Body b) e turn = absurd cc
       by (Ends why) e turn = (turn.told_is ∙ ap (λ (c : ℕ). Leaves c why) same_client ∙ ap (λ (w : End). Leaves client w) (same_end why e), turn.behind ∙ ap (λ (c : ℕ). behind_end c old) same_client)
         where

@@ -1,7 +1,7 @@
 -- Locks that are taken back, one after another; and one for whose owner no memory was found.
 use Rattle.std.proofs.Common.{◌≡◌, inl, inr, ℕ, zero, suc, ◌+◌, ◌-◌, ◌<◌, ◌≤◌, arith, true, true≢false, List, [], ◌∷◌, ◌++◌, Some, Result, Ok, Err, refl, sym, ap, ◌∙◌}
 use Rattle.oa_turn.proofs.Counted.{lock_back}
-use Rattle.oa_turn.specs.Kept.{all_cells, copies, each_counted}
+use Rattle.oa_turn.specs.Kept.{all_locked_cells, copies, each_counted}
 use Rattle.oa_record.specs.Asks.{tag_at}
 use Rattle.oa_record.specs.Replies.{ReplyValue}
 use Rattle.oa_record.specs.declared.request.Request.{Request}
@@ -47,11 +47,11 @@ counts_are (e ∷ es) state = counts_are es (taken_back (copies e.1 e.0 []) stat
 pub counts_begin : (es : List (CellName × ℕ)) (cells : List CellName) (state : State) → each_counted es ≡ cells → taken_counts es state ≡ taken_back cells state
 counts_begin es cells state is = counts_are es state ∙ ap (λ (l : List CellName). taken_back l state) is
 
-clients_are : (cs : List (ℕ × List CellName)) (state : State) → taken_clients cs state ≡ taken_back (all_cells cs) state
+clients_are : (cs : List (ℕ × List CellName)) (state : State) → taken_clients cs state ≡ taken_back (all_locked_cells cs) state
 clients_are [] state = refl
-clients_are (c ∷ cs) state = clients_are cs (taken_back c.1 state) ∙ sym (both_back c.1 (all_cells cs) state)
+clients_are (c ∷ cs) state = clients_are cs (taken_back c.1 state) ∙ sym (both_back c.1 (all_locked_cells cs) state)
 
-pub clients_begin : (cs : List (ℕ × List CellName)) (cells : List CellName) (state : State) → all_cells cs ≡ cells → taken_clients cs state ≡ taken_back cells state
+pub clients_begin : (cs : List (ℕ × List CellName)) (cells : List CellName) (state : State) → all_locked_cells cs ≡ cells → taken_clients cs state ≡ taken_back cells state
 clients_begin cs cells state is = clients_are cs state ∙ ap (λ (l : List CellName). taken_back l state) is
 
 pub times_begin : (name : CellName) (count : ℕ) (state : State) → taken_back (copies (count - 0) name []) state ≡ taken_back (copies count name []) state

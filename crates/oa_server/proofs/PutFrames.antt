@@ -7,12 +7,12 @@ use Rattle.oa_record.specs.Replies.{ReplyValue, reply_record}
 use Rattle.oa_stream.specs.Sink.{Breaks, Output, Puts, Writes}
 use Rattle.oa_stream.specs.declared.sink.Unwritten.{Unwritten}
 use Rattle.oa_stream.proofs.Stretches.{breaks_after, breaks_before, puts_then, writes_nothing, writes_then}
-use Rattle.oa_server.specs.Desks.{all_frames, frames_of, frames_with, told_to, told_with}
+use Rattle.oa_server.specs.SharedGroups.{all_frames, frames_of, frames_with, told_to, told_with}
 use Rattle.oa_server.specs.Serving.{last_written}
 use Rattle.oa_server.specs.Sharing.{ClientReply, Leaves, Replies}
-use Rattle.oa_server.specs.declared.desk.Asker.{Asker}
+use Rattle.oa_server.specs.declared.desk.ReplyTo.{ReplyTo}
 use Rattle.oa_server.proofs.Lifted.{told_both}
-use Rattle.oa_share.specs.Outgoing.{spelled_frame, spelled_frames}
+use Rattle.oa_mux.specs.Outgoing.{spelled_frame, spelled_frames}
 
 pub frames_append : (xs ys : List (ℕ × List ℕ)) → spelled_frames (xs ++ ys) ≡ spelled_frames xs ++ spelled_frames ys
 unfolding spelled_frames
@@ -63,17 +63,17 @@ pub stub_fails : (o p : Output) (client : ℕ) (why : End) → is_answered why �
 stub_fails o p client why e fails = subst (λ (l : List ℕ). Breaks o p l) (sym (stub_and_last client why e)) (breaks_before o p (spelled_frame (client, last_written)) (spelled_frame (client, [])) fails)
 
 -- ---- one reply after another
-module _ (askers : List Asker) (replies : List ReplyValue) (each : length askers ≡ length replies) where
-  abbrev spelled : List Asker → List ReplyValue → List ℕ
+module _ (askers : List ReplyTo) (replies : List ReplyValue) (each : length askers ≡ length replies) where
+  abbrev spelled : List ReplyTo → List ReplyValue → List ℕ
   spelled ones rs = spelled_frames (all_frames (told_to ones rs))
 
-  both : (ones others : List Asker) (rs ss : List ReplyValue) → length ones ≡ length rs → spelled (ones ++ others) (rs ++ ss) ≡ spelled ones rs ++ spelled others ss
+  both : (ones others : List ReplyTo) (rs ss : List ReplyValue) → length ones ≡ length rs → spelled (ones ++ others) (rs ++ ss) ≡ spelled ones rs ++ spelled others ss
   both ones others rs ss e = ap (λ (l : List ClientReply). spelled_frames (all_frames l)) (told_both ones others rs ss e) ∙ ap spelled_frames (told_append (told_to ones rs) (told_to others ss)) ∙ frames_append (all_frames (told_to ones rs)) (all_frames (told_to others ss))
 
   fronts : (i : ℕ) → i ≤ length replies → length (take i askers) ≡ length (take i replies)
   fronts i within = length-take-le i askers (omega (arith, each, within)) ∙ sym (length-take-le i replies within)
 
-  module _ (i : ℕ) (asker : Asker) (reply : ReplyValue) (within : i < length replies) (here : get_or askers i asker ≡ asker) (is : get_or replies i reply ≡ reply) where
+  module _ (i : ℕ) (asker : ReplyTo) (reply : ReplyValue) (within : i < length replies) (here : get_or askers i asker ≡ asker) (is : get_or replies i reply ≡ reply) where
     abbrev own : List ℕ
     own = spelled_frames (frames_of (told_with asker.client asker.why reply))
 
@@ -82,14 +82,14 @@ module _ (askers : List Asker) (replies : List ReplyValue) (each : length askers
         let one : take (i + 1) askers ≡ take i askers ++ asker ∷ [] = rw (take_more askers i asker (omega (arith, each, within)), here) refl in
         let two : take (i + 1) replies ≡ take i replies ++ reply ∷ [] = rw (take_more replies i reply within, is) refl in
         let less : i ≤ length replies = omega (arith, within) in
-        ap (λ (l : List Asker). spelled l (take (i + 1) replies)) one ∙ ap (λ (l : List ReplyValue). spelled (take i askers ++ asker ∷ []) l) two
+        ap (λ (l : List ReplyTo). spelled l (take (i + 1) replies)) one ∙ ap (λ (l : List ReplyValue). spelled (take i askers ++ asker ∷ []) l) two
         ∙ both (take i askers) (asker ∷ []) (take i replies) (reply ∷ []) (fronts i less)
         ∙ ap (λ (l : List (ℕ × List ℕ)). spelled (take i askers) (take i replies) ++ spelled_frames l) (told_one (told_with asker.client asker.why reply))
 
     all_of : spelled askers replies ≡ (spelled (take i askers) (take i replies) ++ own) ++ spelled (drop (i + 1) askers) (drop (i + 1) replies)
     all_of =
         let less : i + 1 ≤ length replies = omega (arith, within) in
-        ap (λ (l : List Asker). spelled l replies) (sym (take-append-drop (i + 1) askers)) ∙ ap (λ (l : List ReplyValue). spelled (take (i + 1) askers ++ drop (i + 1) askers) l) (sym (take-append-drop (i + 1) replies))
+        ap (λ (l : List ReplyTo). spelled l replies) (sym (take-append-drop (i + 1) askers)) ∙ ap (λ (l : List ReplyValue). spelled (take (i + 1) askers ++ drop (i + 1) askers) l) (sym (take-append-drop (i + 1) replies))
         ∙ both (take (i + 1) askers) (drop (i + 1) askers) (take (i + 1) replies) (drop (i + 1) replies) (fronts (i + 1) less) ∙ ap (λ (l : List ℕ). l ++ spelled (drop (i + 1) askers) (drop (i + 1) replies)) one_more
 
     module _ (a b c : Output) (so_far : Writes a b (spelled (take i askers) (take i replies))) where

@@ -8,24 +8,24 @@ use Rattle.oa_disk.specs.declared.disk.Disk.{Ghosts}
 use Rattle.oa_frame.specs.Framings.{Frames}
 use Rattle.oa_frame.specs.Sessions as sessions
 use Rattle.oa_frame.specs.declared.session.Served.{Served}
-use Rattle.oa_groups.specs.Groupings.{Grouping, IsTaken}
-use Rattle.oa_groups.specs.Going.{Underway}
-use Rattle.oa_groups.specs.Served.{IsServed}
-use Rattle.oa_groups.proofs.Entries.{either}
-use Rattle.oa_groups.proofs.Ends.{underway_ended}
-use Rattle.oa_groups.proofs.Takes.{underway_start, underway_taken}
+use Rattle.oa_group_commit.specs.GroupStates.{GroupState, IsAdmitted}
+use Rattle.oa_group_commit.specs.Invariants.{GroupInvariant}
+use Rattle.oa_group_commit.specs.Served.{IsServed}
+use Rattle.oa_group_commit.proofs.Entries.{either}
+use Rattle.oa_group_commit.proofs.Ends.{underway_ended}
+use Rattle.oa_group_commit.proofs.Takes.{underway_start, underway_taken}
 use Rattle.oa_record.specs.Replacement.{is_replacement}
 use Rattle.oa_record.specs.Replies.{ReplyValue, reply_record}
 use Rattle.oa_store.specs.declared.store.Store.{Store}
 use Rattle.oa_stream.specs.Source.{Input}
 use Rattle.oa_stream.specs.Sink.{Output}
-use Rattle.oa_server.specs.declared.engine.Engine.{Engine}
+use Rattle.oa_server.specs.declared.engine.ServerState.{ServerState}
 use Rattle.oa_server.specs.declared.open_group.OpenGroup.{OpenGroup}
 use Rattle.oa_server.specs.declared.storage.Storage.{Storage}
 use Rattle.oa_server.specs.declared.storage.Storage.TheVariants.{Disk, Memory}
 use Rattle.oa_server.specs.Answers.{AnswersAfterFault}
 use Rattle.oa_server.specs.OpenGroups.{grouping}
-use Rattle.oa_server.specs.Requests.{requests}
+use Rattle.oa_server.specs.ServerMachine.{server_machine}
 use Rattle.oa_decision.specs.States.{State}
 use Rattle.oa_server.specs.Storages.{Serves, disk_of}
 use Rattle.oa_server.specs.Talks.{InputEnds, EndsApart, EndsBefore, EndsGroup, OpenGroupIsReady, InParts, IsWholeGroup, Part, Parts, ServesSession, Taken, any_end}
@@ -37,12 +37,12 @@ use Rattle.oa_server.proofs.Retold.{session_as}
 use Rattle.oa_turn.proofs.Runs.{run_more}
 use Rattle.oa_server.proofs.Settled.{ready_at}
 
-joined_none : sessions.joined [] ≡ []
-unfolding sessions.joined
+joined_none : sessions.concat_replies [] ≡ []
+unfolding sessions.concat_replies
 joined_none = refl
 
-joined_one : (replies : List (List ℕ)) (handed : List (List (List ℕ))) → sessions.joined (replies ∷ handed) ≡ replies ++ sessions.joined handed
-unfolding sessions.joined
+joined_one : (replies : List (List ℕ)) (handed : List (List (List ℕ))) → sessions.concat_replies (replies ∷ handed) ≡ replies ++ sessions.concat_replies handed
+unfolding sessions.concat_replies
 joined_one replies handed = refl
 
 at_last_push : (front : List (List ℕ)) (body : List ℕ) (replies : List (List ℕ)) → at_last (front ++ body ∷ []) replies ≡ silent front ++ replies ∷ []
@@ -54,7 +54,7 @@ at_last_push (x ∷ (y ∷ front)) body replies = ap (λ (l : List (List (List �
 pub record StoreSoFar {D : Type 0} {g : Ghosts D} (size : ℕ) (start : Store D g) (first : State) (store : Store D g) (now : State) (open_group : OpenGroup) (bodies : List (List ℕ)) (told : List ReplyValue) : Type 0 where
   pub size_is : open_group.size ≡ size
   pub ready : OpenGroupIsReady (Disk store) open_group
-  pub going : start.stopped ≡ false → Underway requests size (grouping start first [] []) (grouping store now open_group.replies.items open_group.batch) bodies told
+  pub going : start.stopped ≡ false → GroupInvariant server_machine size (grouping start first [] []) (grouping store now open_group.replies.items open_group.batch) bodies told
   pub late : start.stopped ≡ true → AnswersAfterFault start store first now bodies told
 
 -- these bodies were taken since the start, and these replies handed out
@@ -86,7 +86,7 @@ module _ {D : Type 0} {g : Ghosts D} (only : (d : D) (c : List ℕ) → IsTrue (
           size_is = is.size ∙ was.size_is;
           ready = is.ready;
           going = λ going.
-              underway_taken requests {g = g} only (grouping start first [] []) size (grouping old before open_group.replies.items open_group.batch) (grouping new after open_group'.replies.items open_group'.batch) bodies out body is.told (was.going going) (rw was.size_is at is.taken);
+              underway_taken server_machine {g = g} only (grouping start first [] []) size (grouping old before open_group.replies.items open_group.batch) (grouping new after open_group'.replies.items open_group'.batch) bodies out body is.told (was.going going) (rw was.size_is at is.taken);
           late = λ stopped.
               late_more start old new first before after bodies out size body is.told open_group.replies.items open_group'.replies.items open_group.batch open_group'.batch (was.late stopped) (rw was.size_is at is.taken);
         };
@@ -114,7 +114,7 @@ module _ {D : Type 0} {g : Ghosts D} (only : (d : D) (c : List ℕ) → IsTrue (
         are = is.are;
         serves = record {
           served = λ going.
-              underway_ended requests {g = g} only (grouping start first [] []) size (grouping old before open_group.replies.items open_group.batch) (grouping new after open_group'.replies.items open_group'.batch) bodies out is.told (was.going going) is.ended;
+              underway_ended server_machine {g = g} only (grouping start first [] []) size (grouping old before open_group.replies.items open_group.batch) (grouping new after open_group'.replies.items open_group'.batch) bodies out is.told (was.going going) is.ended;
           late = λ stopped. late_ended start old new first before after bodies out is.told open_group.replies.items open_group'.replies.items open_group.batch open_group'.batch (was.late stopped) is.ended;
         };
       }
@@ -122,18 +122,18 @@ module _ {D : Type 0} {g : Ghosts D} (only : (d : D) (c : List ℕ) → IsTrue (
   ended_at (Memory start) (Disk old) new first before after open_group open_group' bodies out replies was is = absurd was
   ended_at (Disk start) (Memory old) new first before after open_group open_group' bodies out replies was is = absurd was
 
-  record Went (start : Storage D g) (first : State) (now : Engine D g) (bodies : List (List ℕ)) (out : List ReplyValue) (handed : List (List (List ℕ))) : Type 0 where
+  record Went (start : Storage D g) (first : State) (now : ServerState D g) (bodies : List (List ℕ)) (out : List ReplyValue) (handed : List (List (List ℕ))) : Type 0 where
     told : List ReplyValue
-    are : sessions.joined handed ≡ map reply_record told
+    are : sessions.concat_replies handed ≡ map reply_record told
     so_far : SoFar size start first now.storage now.host now.desk.open_group bodies (out ++ told)
 
-  went : (start : Storage D g) (first : State) (old new : Engine D g) (front bodies : List (List ℕ)) (out : List ReplyValue) (handed : List (List (List ℕ)))
+  went : (start : Storage D g) (first : State) (old new : ServerState D g) (front bodies : List (List ℕ)) (out : List ReplyValue) (handed : List (List (List ℕ)))
       → SoFar size start first old.storage old.host old.desk.open_group front out → sessions.BodiesTurned taken_written old bodies handed new → Went start first new (front ++ bodies) out handed
   went start first old new front [] out [] was run = record {
     told = [];
     are = joined_none;
     so_far =
-        subst (λ (c : Engine D g). SoFar size start first c.storage c.host c.desk.open_group (front ++ []) (out ++ [])) (sym run)
+        subst (λ (c : ServerState D g). SoFar size start first c.storage c.host c.desk.open_group (front ++ []) (out ++ [])) (sym run)
         (rw (append-nil front, append-nil out) was);
   }
   went start first old new front (body ∷ bodies) out (replies ∷ handed) was run =
@@ -141,13 +141,13 @@ module _ {D : Type 0} {g : Ghosts D} (only : (d : D) (c : List ℕ) → IsTrue (
       let rest = went start first run.0 new (front ++ body ∷ []) bodies (out ++ one.told) handed one.so_far run.2 in
       record {
         told = one.told ++ rest.told;
-        are = joined_one replies handed ∙ ap (λ (l : List (List ℕ)). l ++ sessions.joined handed) one.are ∙ ap (λ (l : List (List ℕ)). map reply_record one.told ++ l) rest.are ∙ sym (map-append reply_record one.told rest.told);
+        are = joined_one replies handed ∙ ap (λ (l : List (List ℕ)). l ++ sessions.concat_replies handed) one.are ∙ ap (λ (l : List (List ℕ)). map reply_record one.told ++ l) rest.are ∙ sym (map-append reply_record one.told rest.told);
         so_far = rw (sym (append_assoc out one.told rest.told), sym (append_assoc front (body ∷ []) bodies)) rest.so_far;
       }
   went start first old new front [] out (replies ∷ handed) was run = absurd run
   went start first old new front (body ∷ bodies) out [] was run = absurd run
 
-  any_run : (old new : Engine D g) (bodies : List (List ℕ)) (handed : List (List (List ℕ))) → sessions.BodiesTurned taken_written old bodies handed new → sessions.BodiesTurned any_turn tt bodies handed tt
+  any_run : (old new : ServerState D g) (bodies : List (List ℕ)) (handed : List (List (List ℕ))) → sessions.BodiesTurned taken_written old bodies handed new → sessions.BodiesTurned any_turn tt bodies handed tt
   any_run old new [] [] run = refl
   any_run old new (body ∷ bodies) (replies ∷ handed) run = (tt, tt, any_run run.0 new bodies handed run.2)
   any_run old new [] (replies ∷ handed) run = absurd run
@@ -159,7 +159,7 @@ module _ {D : Type 0} {g : Ghosts D} (only : (d : D) (c : List ℕ) → IsTrue (
   begins (Disk store) state open_group is some place none empty = record {
     size_is = is;
     ready = ready_at store open_group.size (vec_capacity open_group.replies) open_group.replies.items open_group.batch (omega (arith, is, some)) (omega (arith, is, place)) none empty;
-    going = λ going. rw (none, empty) (underway_start requests {g = g} only (grouping store state [] []) size going refl refl);
+    going = λ going. rw (none, empty) (underway_start server_machine {g = g} only (grouping store state [] []) size going refl refl);
     late = λ stopped. late_none store state stopped;
   }
 
@@ -210,7 +210,7 @@ module _ {D : Type 0} {g : Ghosts D} (only : (d : D) (c : List ℕ) → IsTrue (
       so_far = record {
         size_is = is;
         ready = ready;
-        going = λ going. rw (none, empty going) (underway_start requests {g = g} only (grouping store state [] []) size going refl refl);
+        going = λ going. rw (none, empty going) (underway_start server_machine {g = g} only (grouping store state [] []) size going refl refl);
         late = λ stopped. late_none store state stopped;
       };
       holds = ap (λ (l : List ReplyValue). length l) none;
@@ -233,17 +233,17 @@ module _ {D : Type 0} {g : Ghosts D} (only : (d : D) (c : List ℕ) → IsTrue (
     next_in_part (Disk start) (Memory old) new first before after open_group open_group' bodies body replies was is = absurd was.so_far
     next_in_part (Disk start) (Disk old) (Disk new) first before after open_group open_group' bodies body replies was is = by taken
       where
-        now : Grouping State ReplyValue D g
+        now : GroupState State ReplyValue D g
         now = grouping new after open_group'.replies.items open_group'.batch
 
-        taken : IsTaken requests size body is.told (grouping old before open_group.replies.items open_group.batch) now
-        taken = subst (λ (n : ℕ). IsTaken requests n body is.told (grouping old before open_group.replies.items open_group.batch) now) was.so_far.size_is is.taken
+        taken : IsAdmitted server_machine size body is.told (grouping old before open_group.replies.items open_group.batch) now
+        taken = subst (λ (n : ℕ). IsAdmitted server_machine n body is.told (grouping old before open_group.replies.items open_group.batch) now) was.so_far.size_is is.taken
 
         size_is : open_group'.size ≡ size
         size_is = is.size ∙ was.so_far.size_is
 
-        underway : start.stopped ≡ false → Underway requests size (grouping start first [] []) now (bodies ++ body ∷ []) is.told
-        underway going = underway_taken requests {g = g} only (grouping start first [] []) size (grouping old before open_group.replies.items open_group.batch) now bodies [] body is.told (was.so_far.going going) taken
+        underway : start.stopped ≡ false → GroupInvariant server_machine size (grouping start first [] []) now (bodies ++ body ∷ []) is.told
+        underway going = underway_taken server_machine {g = g} only (grouping start first [] []) size (grouping old before open_group.replies.items open_group.batch) now bodies [] body is.told (was.so_far.going going) taken
 
         late : start.stopped ≡ true → AnswersAfterFault start new first after (bodies ++ body ∷ []) is.told
         late stopped = late_more start old new first before after bodies [] size body is.told open_group.replies.items open_group'.replies.items open_group.batch open_group'.batch (was.so_far.late stopped) taken
@@ -251,32 +251,32 @@ module _ {D : Type 0} {g : Ghosts D} (only : (d : D) (c : List ℕ) → IsTrue (
         few : length (bodies ++ body ∷ []) ≤ size
         few = let few = few_open (Disk start) (Disk old) first before open_group bodies was in omega (arith, few, length-append bodies (body ∷ []))
 
-        alone : start.stopped ≡ true → length (bodies ++ body ∷ []) ≡ 1
-        alone stopped = length_push bodies body ∙ ap (λ (l : List (List ℕ)). length l + 1) (was.short.1 stopped)
+        barrier : start.stopped ≡ true → length (bodies ++ body ∷ []) ≡ 1
+        barrier stopped = length_push bodies body ∙ ap (λ (l : List (List ℕ)). length l + 1) (was.short.1 stopped)
 
         ends : open_group'.replies.items ≡ [] → (new.stopped ≡ false → open_group'.batch ≡ []) → (start.stopped ≡ false → IsWholeGroup size new first (bodies ++ body ∷ []) is.told after ⊎ EndsApart size first (bodies ++ body ∷ [])) → Steps (Disk start) first (Disk new) after open_group' (bodies ++ body ∷ []) replies
         ends none empty group = inr (record {
           told = is.told;
           are = is.are;
           few = few;
-          group = (group, alone);
+          group = (group, barrier);
           serves = record {
             served = λ going.
-                subst (λ (l : List ReplyValue). IsServed requests size start new first after (bodies ++ body ∷ []) l) (append-nil is.told)
-                (underway_ended requests {g = g} only (grouping start first [] []) size now now (bodies ++ body ∷ []) is.told [] (underway going) (inl (record { none = none; nothing = refl; store = refl; state = refl })));
+                subst (λ (l : List ReplyValue). IsServed server_machine size start new first after (bodies ++ body ∷ []) l) (append-nil is.told)
+                (underway_ended server_machine {g = g} only (grouping start first [] []) size now now (bodies ++ body ∷ []) is.told [] (underway going) (inl (record { none = none; nothing = refl; store = refl; state = refl })));
             late = late;
           };
           in_part = part_begins new after open_group' size_is is.ready none empty;
         })
 
-        by : IsTaken requests size body is.told (grouping old before open_group.replies.items open_group.batch) now → Steps (Disk start) first (Disk new) after open_group' (bodies ++ body ∷ []) replies
+        by : IsAdmitted server_machine size body is.told (grouping old before open_group.replies.items open_group.batch) now → Steps (Disk start) first (Disk new) after open_group' (bodies ++ body ∷ []) replies
         by (inl kept) = inl (record {
           nothing = is.are ∙ ap (λ (l : List ReplyValue). map reply_record l) kept.nothing;
           in_part = record {
             so_far = record {
               size_is = size_is;
               ready = is.ready;
-              going = λ going. subst (λ (l : List ReplyValue). Underway requests size (grouping start first [] []) now (bodies ++ body ∷ []) l) kept.nothing (underway going);
+              going = λ going. subst (λ (l : List ReplyValue). GroupInvariant server_machine size (grouping start first [] []) now (bodies ++ body ∷ []) l) kept.nothing (underway going);
               late = λ stopped. absurd (true≢false (sym (was.so_far.late stopped).stopped ∙ kept.was));
             };
             short = (
@@ -303,7 +303,7 @@ module _ {D : Type 0} {g : Ghosts D} (only : (d : D) (c : List ℕ) → IsTrue (
                   front = bodies;
                   last = body;
                   are = refl;
-                  alone = apart.alone;
+                  barrier = apart.barrier;
                   plain = held.plain;
                   group = held.held;
                   front_is = held.bodies_are;
@@ -318,7 +318,7 @@ module _ {D : Type 0} {g : Ghosts D} (only : (d : D) (c : List ℕ) → IsTrue (
         by (inr (inr (inr (inl too_late)))) = ends (is.ready.late too_late.over.is) (λ going. absurd (true≢false (sym too_late.over.is ∙ going)))
             (λ going. absurd (true≢false (sym too_late.over.was ∙ (was.short.0 going).going)))
 
-    record InPartsSoFar (start : Storage D g) (first : State) (now : Engine D g) (bodies : List (List ℕ)) (handed : List (List (List ℕ))) : Type 0 where
+    record InPartsSoFar (start : Storage D g) (first : State) (now : ServerState D g) (bodies : List (List ℕ)) (handed : List (List (List ℕ))) : Type 0 where
       parts : List Part
       open_bodies : List (List ℕ)
       mid : Storage D g
@@ -328,7 +328,7 @@ module _ {D : Type 0} {g : Ghosts D} (only : (d : D) (c : List ℕ) → IsTrue (
       served : Parts size start mid first parts state
       in_part : InPart mid state now.storage now.host now.desk.open_group open_bodies
 
-    in_parts : (start : Storage D g) (first : State) (old new : Engine D g) (front bodies : List (List ℕ)) (handed : List (List (List ℕ)))
+    in_parts : (start : Storage D g) (first : State) (old new : ServerState D g) (front bodies : List (List ℕ)) (handed : List (List (List ℕ)))
         → InPart start first old.storage old.host old.desk.open_group front → sessions.BodiesTurned taken_written old bodies handed new → InPartsSoFar start first new (front ++ bodies) (silent front ++ handed)
     in_parts start first old new front [] [] was run = record {
       parts = [];
@@ -338,7 +338,7 @@ module _ {D : Type 0} {g : Ghosts D} (only : (d : D) (c : List ℕ) → IsTrue (
       bodies_are = append-nil front;
       handed_are = append-nil (silent front);
       served = (refl, refl);
-      in_part = subst (λ (c : Engine D g). InPart start first c.storage c.host c.desk.open_group front) (sym run) was;
+      in_part = subst (λ (c : ServerState D g). InPart start first c.storage c.host c.desk.open_group front) (sym run) was;
     }
     in_parts start first old new front (body ∷ bodies) (replies ∷ handed) was run =
         by (next_in_part start old.storage run.0.storage first old.host run.0.host old.desk.open_group run.0.desk.open_group front body replies was run.1)
@@ -392,7 +392,7 @@ module _ {D : Type 0} {g : Ghosts D} (only : (d : D) (c : List ℕ) → IsTrue (
     rest_at (Disk start) (Memory mid) new first before after open_group open_group' bodies replies was is = absurd was.so_far
 
     -- and the end
-    parts_end : (old mid new : Engine D g) (bodies : List (List ℕ)) (handed : List (List (List ℕ))) (held : List (List ℕ)) → InPartsSoFar old.storage old.host mid bodies handed → ended_written mid held new
+    parts_end : (old mid new : ServerState D g) (bodies : List (List ℕ)) (handed : List (List (List ℕ))) (held : List (List ℕ)) → InPartsSoFar old.storage old.host mid bodies handed → ended_written mid held new
         → InParts size old.storage new.storage old.host new.host bodies handed held
     parts_end old mid new bodies handed held was is =
         let last = ended_at was.mid mid.storage new.storage was.state mid.host new.host mid.desk.open_group new.desk.open_group was.open_bodies [] held was.in_part.so_far is in
@@ -420,7 +420,7 @@ module _ {D : Type 0} {g : Ghosts D} (only : (d : D) (c : List ℕ) → IsTrue (
     }
 
   -- the whole session
-  pub serves_session : (f : Frames) (last : List ℕ) (input input' : Input) (out out' : Output) (old new : Engine D g) (served : Served) → 1 ≤ size → old.desk.open_group.replies.items ≡ [] → old.desk.open_group.batch ≡ []
+  pub serves_session : (f : Frames) (last : List ℕ) (input input' : Input) (out out' : Output) (old new : ServerState D g) (served : Served) → 1 ≤ size → old.desk.open_group.replies.items ≡ [] → old.desk.open_group.batch ≡ []
       → SoFar size old.storage old.host old.storage old.host old.desk.open_group [] [] → sessions.Session f is_replacement taken_written ended_written last input input' out out' old new served → ServesSession f last input input' out out' size old.storage new.storage old.host new.host served
   serves_session f last input input' out out' old new served some none empty begin is =
       let runs = went old.storage old.host old is.mid [] is.bodies [] is.handed begin is.run in

@@ -4,12 +4,12 @@ use Rattle.std.proofs.Common.{sym, ap, ◌∙◌, subst, arith}
 use Rattle.std.specs.Prelude.{nat_lt}
 use Rattle.std.proofs.lemmas.Bool.{ltb-false}
 use Rattle.oa_disk.specs.declared.disk.Disk.{Ghosts}
-use Rattle.oa_groups.specs.Runs.{MakesEvent}
-use Rattle.oa_groups.proofs.Called.{none_or_some}
+use Rattle.oa_group_commit.specs.Runs.{MakesEvent}
+use Rattle.oa_group_commit.proofs.Called.{none_or_some}
 use Rattle.oa_image.proofs.Lengths.{event_bytes}
 use Rattle.oa_journal.specs.Shapes.{ample_bytes, body_bytes}
 use Rattle.oa_store.proofs.Committed.{one_event}
-use Rattle.oa_store.specs.Holding.{Carries}
+use Rattle.oa_store.specs.Holding.{PreservesCommitted}
 use Rattle.oa_store.specs.declared.store.Store.{Store}
 use Rattle.oa_table.specs.declared.fault.TableFault.{TableFault}
 use Rattle.oa_server.specs.OpenGroups.{CallsWhereDue}
@@ -27,7 +27,7 @@ use Rattle.oa_table.specs.Tables.{TableValue}
 use Rattle.oa_decision.specs.declared.plan.Planned.{Planned}
 use Rattle.oa_turn.specs.Plans.{HoldsSame, IsPlanned}
 use Rattle.oa_turn.specs.Events.{HasEvent, held_of}
-use Rattle.oa_server.specs.Requests.{HasTurn, IsHeldBack, requests}
+use Rattle.oa_server.specs.ServerMachine.{HasTurn, IsHeldBack, server_machine}
 use Rattle.oa_decision.specs.States.{State}
 use Rattle.oa_decision.specs.Decided.{refusal}
 use Rattle.oa_record.specs.Replacement.{is_replacement}
@@ -38,7 +38,7 @@ use Rattle.oa_turn.proofs.Changing.{done, refused}
 
 -- what was committed stands, however what is held is named
 pub carried : {D : Type 0} {g : Ghosts D} {held also : TableValue} (batch : List ℕ) (old new : Store D g) → held ≡ also
-    → Carries batch held old new → Carries batch also old new
+    → PreservesCommitted batch held old new → PreservesCommitted batch also old new
 carried batch old new same is = record {
   any_moment = λ committed first all. is.any_moment committed (λ none. same ∙ first none) all;
   each = λ going committed first all. is.each going committed (λ none. same ∙ first none) all;
@@ -95,10 +95,10 @@ module _ (one_request : (body : List ℕ) (p q : Request) → Asks body p → As
   }
 
   -- where the change is made, it makes an event
-  pub makes_event : an_event.Is planned.event → MakesEvent requests old body
+  pub makes_event : an_event.Is planned.event → MakesEvent server_machine old body
   makes_event is_event = by (applied planned.event old.table) refl
     where
-      by : (due : Result TableValue TableFault) → applied planned.event old.table ≡ due → MakesEvent requests old body
+      by : (due : Result TableValue TableFault) → applied planned.event old.table ≡ due → MakesEvent server_machine old body
       by (Ok table) at =
           let new : State = record old { table = table } in
           let reply : ReplyValue = record { tag = planned.tag; code = s_ok; index = None; body = planned.fields } in

@@ -3,15 +3,16 @@ use Rattle.std.specs.Prelude.{◌≡◌, ℕ, true, List, [], map}
 use Rattle.std.specs.List.Sorted.{IsStrictlySortedBy}
 use Rattle.std.specs.Map.{keys_of}
 use Rattle.std.specs.Ordering.{nat_cmp}
-use Rattle.oa_groups.specs.Runs.{TurnsOver}
-use Rattle.oa_groups.specs.Turns.{Exchange, body_of, reply_of}
+use Rattle.oa_group_commit.specs.Runs.{Trace}
+use Rattle.oa_group_commit.specs.StateMachines.{Exchange, body_of, reply_of}
 use Rattle.oa_image.specs.Tables.{is_numbered}
 use Rattle.oa_turn.specs.ClientLocks.{of_others}
 use Rattle.oa_turn.specs.Counts.{IsLedger}
 use Rattle.oa_record.specs.Replies.{ReplyValue}
-use Rattle.oa_server.specs.SharedRequests.{opened, shared_requests}
-use Rattle.oa_server.specs.Sharing.{ClientReply, IsSharedTurn, Replies, Shared, TurnOf, TurnsFor, behind_all, tagged}
-use Rattle.oa_share.specs.Readers.{Body, Brought}
+use Rattle.oa_server.specs.SharedMachine.{opened_shared, shared_machine}
+use Rattle.oa_server.specs.Sharing.{ClientReply, IsSharedTurn, Replies, Shared, SharedTurnOf, TurnsFor, all_released}
+use Rattle.oa_server.specs.Sharing.{tagged_body}
+use Rattle.oa_mux.specs.Readers.{Body, Brought}
 use Rattle.oa_table.specs.Locks.{locks_at}
 use Rattle.oa_table.specs.declared.name.CellName.{CellName}
 use Rattle.oa_turn.specs.Turns.{Run, Turn}
@@ -35,21 +36,21 @@ TurnsKeepLedger =
 abbrev pub ClientsKeepLedger : Type 0
 ClientsKeepLedger =
     (client : ℕ) (brought : Brought) (told : ClientReply) (old new : Shared) → HasLedger old
-    → TurnOf client brought told old new → HasLedger new
+    → SharedTurnOf client brought told old new → HasLedger new
 
 abbrev pub RunsKeepLedger : Type 0
 RunsKeepLedger = (old new : Shared) (entries : List (Exchange ClientReply)) → HasLedger old
-    → TurnsOver shared_requests old entries new → HasLedger new
+    → Trace shared_machine old entries new → HasLedger new
 
 -- and at the start of a session, when there are no locks
 abbrev pub OpeningHasLedger : Type 0
 OpeningHasLedger =
     (one : Shared) → is_numbered one.state.table ≡ true → IsStrictlySortedBy nat_cmp (keys_of one.state.table.objects)
-    → HasLedger (opened one)
+    → HasLedger (opened_shared one)
 
 -- after the end of a session no array is locked
 abbrev pub EndUnlocksAll : Type 0
-EndUnlocksAll = (old : Shared) (name : CellName) → HasLedger old → locks_at name (behind_all old).state.table ≡ 0
+EndUnlocksAll = (old : Shared) (name : CellName) → HasLedger old → locks_at name (all_released old).state.table ≡ 0
 
 -- a single client gets the replies of a server of one client
 abbrev pub IsTurnOfOne : Type 0
@@ -61,6 +62,6 @@ abbrev pub IsRunOfOne : Type 0
 IsRunOfOne =
     (client : ℕ) (old new : Shared) (entries : List (Exchange ClientReply)) (bodies : List (List ℕ))
     (replies : List ReplyValue)
-    → HasLedger old → OwnsAll client old → TurnsOver shared_requests old entries new
-    → map body_of entries ≡ map (λ body. tagged client (Body body)) bodies
+    → HasLedger old → OwnsAll client old → Trace shared_machine old entries new
+    → map body_of entries ≡ map (λ body. tagged_body client (Body body)) bodies
     → map reply_of entries ≡ map (λ reply. Replies client reply) replies → Run old.state bodies replies new.state

@@ -1,8 +1,8 @@
 pub mod Serving
-pub mod Requests
+pub mod ServerMachine
 pub mod Sharing
-pub mod SharedRequests
-pub mod Desks
+pub mod SharedMachine
+pub mod SharedGroups
 pub mod SharedTalks
 pub mod Stretches
 pub mod SharedSessions

@@ -1,30 +1,31 @@
 -- The result of opening a disk. (This project's choice.)
 use Rattle.std.specs.Prelude.{◌≡◌, ◌≢◌, ◌⊎◌, ◌+◌, ◌≤◌, ℕ, List, length, Some, IsTrue, false, true}
 use Rattle.oa_disk.specs.declared.disk.Disk.{Ghosts}
-use Rattle.oa_groups.specs.Runs.{HoldsState}
-use Rattle.oa_canonical.specs.Canonical.{canonical}
+use Rattle.oa_group_commit.specs.Runs.{HoldsState}
+use Rattle.oa_printer.specs.Canonical.{canonical}
 use Rattle.oa_idl.specs.Trees.{TreeValue}
 use Rattle.oa_store.specs.Kept.{EachIs}
 use Rattle.oa_image.specs.Tables.{is_numbered}
 use Rattle.oa_journal.specs.Reads.{WritesNothing}
-use Rattle.oa_journal.specs.declared.shape.Shape.TheVariants.{Two}
+use Rattle.oa_journal.specs.declared.shape.BankFormat.TheVariants.{Two}
 use Rattle.oa_journal.specs.Shapes.{body_bytes}
 use Rattle.oa_store.specs.declared.fault.OpenFault.{OpenFault}
 use Rattle.oa_store.specs.declared.fault.OpenFault.TheVariants.{Damaged, LibraryDiffers}
 use Rattle.oa_store.specs.declared.store.Store.{Store}
-use Rattle.oa_store.specs.Faults.{IsCaused, ComesOfForeign, SpeaksOfContents, RefusalSays, DeviceTells, moments_until}
+use Rattle.oa_store.specs.Faults.{IsCausedOpenFault, ComesOfForeign, SpeaksOfContents, RefusalSays, DeviceTells}
+use Rattle.oa_store.specs.Faults.{moments_until}
 use Rattle.oa_store.specs.Stores.{IsForeign, IsStoreIn}
 use Rattle.oa_table.specs.Tables.{TableValue, unlocked_table}
 use Rattle.oa_turn.specs.Beginnings.{CanBegin, CanServe}
 use Rattle.oa_turn.specs.Events.{held_of}
-use Rattle.oa_server.specs.Requests.{requests}
+use Rattle.oa_server.specs.ServerMachine.{server_machine}
 use Rattle.oa_decision.specs.States.{State}
 
 -- ---- one of two states, as a stop leaves them
 
 -- each image is a store of one of two states
 abbrev pub EachOneOf : (List ℕ → Type 0) → State → State → Type 0
-EachOneOf image one two = (c : List ℕ) → image c → HoldsState requests one c ⊎ HoldsState requests two c
+EachOneOf image one two = (c : List ℕ) → image c → HoldsState server_machine one c ⊎ HoldsState server_machine two c
 
 -- what was found is what an image contains of the state
 pub record FindsState (bank : ℕ) (library : TreeValue) (table : TableValue) (state : State) : Type 0 where
@@ -39,7 +40,8 @@ FindsOneOf image bank library table =
 
 -- the contents are a store of a state with another library
 abbrev pub HoldsOther : List ℕ → TreeValue → State → Type 0
-HoldsOther contents library state = HoldsState requests state contents × (canonical state.library ≢ canonical library)
+HoldsOther contents library state = HoldsState server_machine state contents ×
+    (canonical state.library ≢ canonical library)
 
 -- If a crash has left one of two states with which a server may begin, only the library can be refused: the contents
 -- are a store of another one.
@@ -60,7 +62,7 @@ pub record IsUnfit (library : TreeValue) (contents : List ℕ) (fault : OpenFaul
 
 -- What an opening has found on an honest disk. It writes nothing; at the end each image is a store of the table, and
 -- the contents were one at the start.
-pub record IsFound {D : Type 0} (g : Ghosts D) (disk : D) (library : TreeValue) (store : Store D g)
+pub record OpensToTable {D : Type 0} (g : Ghosts D) (disk : D) (library : TreeValue) (store : Store D g)
     (table : TableValue) : Type 0 where
   pub honest : IsTrue (g.is_honest disk)
   pub reads : WritesNothing g.image g.moment g.image_since disk store.disk
@@ -83,7 +85,7 @@ pub record IsOpened {D : Type 0} (g : Ghosts D) (disk : D) (library : TreeValue)
   -- at most ten calls, and one for every two bytes of snapshot and groups
   pub calls : IsTrue (g.is_honest store.disk)
       → g.moment store.disk + length (canonical library) ≤ g.moment disk + (20 + store.bank.gate)
-  pub found : IsTrue (g.is_honest store.disk) → IsFound g disk library store table
+  pub found : IsTrue (g.is_honest store.disk) → OpensToTable g disk library store table
 
 -- What an error implies for an honest disk: it is true of the contents at the start, and nothing was written.
 pub record IsTold {D : Type 0} (g : Ghosts D) (disk back : D) (library : TreeValue) (fault : OpenFault) : Type 0 where
@@ -105,7 +107,7 @@ pub record IsTold {D : Type 0} (g : Ghosts D) (disk back : D) (library : TreeVal
 pub record IsNotOpened {D : Type 0} (g : Ghosts D) (disk back : D) (library : TreeValue)
     (fault : OpenFault) : Type 0 where
   pub size : g.size_of back ≡ g.size_of disk
-  pub cause : IsCaused (g.failures_of disk) (g.failures_of back) fault
+  pub cause : IsCausedOpenFault (g.failures_of disk) (g.failures_of back) fault
   -- at most twelve calls, and one for every two bytes of the disk; two if it is no store, four for its format, six
   -- for its library
   pub calls : IsTrue (g.is_honest back) → g.moment back ≤ g.moment disk + moments_until (24 + g.size_of disk) fault

@@ -4,15 +4,15 @@ use Rattle.std.specs.Prelude.{◌≡◌, ◌⊎◌, ℕ, ◌==◌, Bool, true, f
 use Rattle.std.specs.Prelude.{⊤}
 use Rattle.oa_frame.specs.declared.ends.End.{End}
 use Rattle.oa_frame.specs.declared.ends.End.TheVariants.{Closed, Cut, TooLong, BadHex, ReadFault, WriteFault}
-use Rattle.oa_groups.specs.Turns.{Exchange}
+use Rattle.oa_group_commit.specs.StateMachines.{Exchange}
 use Rattle.oa_journal.specs.Replays.{Replays}
 use Rattle.oa_model.specs.Codes.{e_unexpected}
 use Rattle.oa_turn.specs.ClientLocks.{ClientLock, cells_of, of_others, owns, with_one, without_one}
 use Rattle.oa_record.specs.Asks.{tag_at}
 use Rattle.oa_record.specs.Replacement.{is_replacement}
 use Rattle.oa_record.specs.Replies.{ReplyValue}
-use Rattle.oa_server.specs.Requests as one_client
-use Rattle.oa_share.specs.Readers.{Brought, Body, Ends}
+use Rattle.oa_server.specs.ServerMachine as one_client
+use Rattle.oa_mux.specs.Readers.{Brought, Body, Ends}
 use Rattle.oa_table.specs.declared.name.CellName.{CellName}
 use Rattle.oa_decision.specs.Decided.{refusal}
 use Rattle.oa_decision.specs.States.{State}
@@ -45,8 +45,8 @@ spoken (Ends ReadFault) = 4 ∷ []
 spoken (Ends WriteFault) = 5 ∷ []
 spoken (Ends (BadHex line)) = 6 ∷ line ∷ []
 
-abbrev pub tagged : ℕ → Brought → List ℕ
-tagged client brought = client ∷ spoken brought
+abbrev pub tagged_body : ℕ → Brought → List ℕ
+tagged_body client brought = client ∷ spoken brought
 
 -- the other way round
 abbrev pub line_in : List ℕ → ℕ
@@ -76,23 +76,23 @@ pub data ClientReply : Type 0 where
   Replies : ℕ → ReplyValue → ClientReply
   Leaves : ℕ → End → ClientReply
 
-abbrev pub withdrawn : ClientReply → ClientReply
-withdrawn (Replies client reply) = Replies client (one_client.withdrawn reply)
-withdrawn (Leaves client why) = Leaves client why
+abbrev pub aborted_client_reply : ClientReply → ClientReply
+aborted_client_reply (Replies client reply) = Replies client (one_client.aborted_reply reply)
+aborted_client_reply (Leaves client why) = Leaves client why
 
-abbrev pub is_done : ClientReply → Bool
-is_done (Replies client reply) = turns.is_done reply
-is_done (Leaves client why) = true
+abbrev pub is_client_done : ClientReply → Bool
+is_client_done (Replies client reply) = turns.is_done reply
+is_client_done (Leaves client why) = true
 
 abbrev pub told_by : (List ℕ → ReplyValue) → ℕ → Brought → ClientReply
 told_by code client (Body body) = Replies client (code body)
 told_by code client (Ends why) = Leaves client why
 
-abbrev pub faulted : List ℕ → ClientReply
-faulted body = told_by one_client.faulted (client_in body) (brought_by body)
+abbrev pub fault_client_reply : List ℕ → ClientReply
+fault_client_reply body = told_by one_client.fault_reply (client_in body) (brought_by body)
 
-abbrev pub failed : List ℕ → ClientReply
-failed body = told_by one_client.failed (client_in body) (brought_by body)
+abbrev pub failed_client_reply : List ℕ → ClientReply
+failed_client_reply body = told_by one_client.failed_reply (client_in body) (brought_by body)
 
 abbrev pub is_apart : Brought → Bool
 is_apart (Body body) = is_replacement body
@@ -128,8 +128,8 @@ behind_end client old =
     record { state = taken_back (cells_of client old.locks) old.state; locks = of_others client old.locks }
 
 -- after the end of a session: all locks that clients still have are released
-abbrev pub behind_all : Shared → Shared
-behind_all old = record { state = taken_back (map (λ lock. lock.name) old.locks) old.state; locks = [] }
+abbrev pub all_released : Shared → Shared
+all_released old = record { state = taken_back (map (λ lock. lock.name) old.locks) old.state; locks = [] }
 
 -- ---- turns
 
@@ -150,7 +150,7 @@ abbrev pub TurnsFor : ℕ → List ℕ → ReplyValue → Shared → Shared → 
 TurnsFor client body reply old new = TakesTurn client body reply old new ⊎ RefusesUnlock client body reply old new
 
 -- a client's body is answered
-pub record AnswersBody (client : ℕ) (body : List ℕ) (told : ClientReply) (old new : Shared) : Type 0 where
+pub record AnswersClientBody (client : ℕ) (body : List ℕ) (told : ClientReply) (old new : Shared) : Type 0 where
   pub reply : ReplyValue
   pub told_is : told ≡ Replies client reply
   pub turn : TurnsFor client body reply old new
@@ -160,9 +160,9 @@ pub record AnswersEnd (client : ℕ) (why : End) (told : ClientReply) (old new :
   pub told_is : told ≡ Leaves client why
   pub behind : new ≡ behind_end client old
 
-abbrev pub TurnOf : ℕ → Brought → ClientReply → Shared → Shared → Type 0
-TurnOf client (Body body) told old new = AnswersBody client body told old new
-TurnOf client (Ends why) told old new = AnswersEnd client why told old new
+abbrev pub SharedTurnOf : ℕ → Brought → ClientReply → Shared → Shared → Type 0
+SharedTurnOf client (Body body) told old new = AnswersClientBody client body told old new
+SharedTurnOf client (Ends why) told old new = AnswersEnd client why told old new
 
 -- the bytes of the event that it made
 abbrev pub EventOf : State → Brought → ClientReply → List ℕ → Type 0
@@ -174,8 +174,8 @@ EventOf old (Ends why) told event = event ≡ []
 pub record IsSharedTurn (asked : Exchange ClientReply) (old new : Shared) : Type 0 where
   pub client : ℕ
   pub brought : Brought
-  pub body_is : asked.body ≡ tagged client brought
-  pub turn : TurnOf client brought asked.reply old new
+  pub body_is : asked.body ≡ tagged_body client brought
+  pub turn : SharedTurnOf client brought asked.reply old new
   pub made : EventOf old.state brought asked.reply asked.event
   pub replays : Replays asked.event (turns.held_of old.state) (turns.held_of new.state)
 

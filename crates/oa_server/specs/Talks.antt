@@ -2,25 +2,25 @@
 use Rattle.std.specs.Prelude.{◌≡◌, ◌⊎◌, ◌<◌, ◌≤◌, ℕ, false, true, List, [], ◌∷◌, ◌++◌, length, map, ⊤}
 use Rattle.oa_disk.specs.declared.disk.Disk.{Ghosts}
 use Rattle.oa_frame.specs.Framings.{Frames}
-use Rattle.oa_frame.specs.Sessions.{Session, joined}
+use Rattle.oa_frame.specs.Sessions.{Session, concat_replies}
 use Rattle.oa_frame.specs.declared.session.Served.{Served}
-use Rattle.oa_groups.specs.Groupings.{IsEnded, IsTaken}
-use Rattle.oa_groups.specs.Faults.{IsWhole}
-use Rattle.oa_groups.specs.Groups.{NoneAlone, is_full}
-use Rattle.oa_groups.specs.Runs.{TurnsOver}
-use Rattle.oa_groups.specs.Sessions.{AnsweredCall}
-use Rattle.oa_groups.specs.Turns.{Exchange, body_of, reply_of}
+use Rattle.oa_group_commit.specs.GroupStates.{IsAdmitted, IsEnded}
+use Rattle.oa_group_commit.specs.Faults.{IsWhole}
+use Rattle.oa_group_commit.specs.Groups.{HasNoBarrier, is_full}
+use Rattle.oa_group_commit.specs.Runs.{Trace}
+use Rattle.oa_group_commit.specs.Sessions.{AnsweredCall}
+use Rattle.oa_group_commit.specs.StateMachines.{Exchange, body_of, reply_of}
 use Rattle.oa_record.specs.Replacement.{is_replacement}
 use Rattle.oa_record.specs.Replies.{ReplyValue, reply_record}
 use Rattle.oa_stream.specs.Sink.{Output}
 use Rattle.oa_stream.specs.Source.{Input}
 use Rattle.oa_store.specs.declared.store.Store.{Store}
-use Rattle.oa_server.specs.declared.engine.Engine.{Engine}
+use Rattle.oa_server.specs.declared.engine.ServerState.{ServerState}
 use Rattle.oa_server.specs.declared.open_group.OpenGroup.{OpenGroup}
 use Rattle.oa_server.specs.declared.storage.Storage.{Storage}
 use Rattle.oa_server.specs.declared.storage.Storage.TheVariants.{Disk, Memory}
 use Rattle.oa_server.specs.OpenGroups.{CanTake, grouping_of}
-use Rattle.oa_server.specs.Requests.{requests}
+use Rattle.oa_server.specs.ServerMachine.{server_machine}
 use Rattle.oa_server.specs.Serving.{last_written, none_held, turn_written}
 use Rattle.oa_decision.specs.States.{State}
 use Rattle.oa_server.specs.Storages.{Serves}
@@ -34,14 +34,15 @@ OpenGroupIsReady (Disk store) open_group = CanTake store open_group
 abbrev pub TakenIn : {D : Type 0} {g : Ghosts D} → Storage D g → State → OpenGroup → List ℕ → List ReplyValue
     → Storage D g → State → OpenGroup → Type 0
 TakenIn (Disk old) before open_group body told (Disk new) after open_group' =
-    IsTaken requests open_group.size body told (grouping_of old before open_group) (grouping_of new after open_group')
+    IsAdmitted server_machine open_group.size body told (grouping_of old before open_group)
+    (grouping_of new after open_group')
 TakenIn (Disk old) before open_group body told (Memory new) after open_group' = ⊥
 TakenIn (Memory old) before open_group body told new after open_group' = ⊥
 
 abbrev pub EndedIn : {D : Type 0} {g : Ghosts D} → Storage D g → State → OpenGroup → List ReplyValue → Storage D g
     → State → OpenGroup → Type 0
 EndedIn (Disk old) before open_group told (Disk new) after open_group' =
-    IsEnded requests told (grouping_of old before open_group) (grouping_of new after open_group')
+    IsEnded server_machine told (grouping_of old before open_group) (grouping_of new after open_group')
 EndedIn (Disk old) before open_group told (Memory new) after open_group' = ⊥
 EndedIn (Memory old) before open_group told new after open_group' = ⊥
 
@@ -80,14 +81,15 @@ InputEnds (Disk old) before open_group replies new after open_group' =
     IsEndedOver (Disk old) before open_group replies new after open_group'
 
 -- the invariant of a server between two bodies
-abbrev pub TakesBodies : {D : Type 0} {g : Ghosts D} → Engine D g → Type 0
+abbrev pub TakesBodies : {D : Type 0} {g : Ghosts D} → ServerState D g → Type 0
 TakesBodies engine = OpenGroupIsReady engine.storage engine.desk.open_group
 
-abbrev pub taken_written : {D : Type 0} {g : Ghosts D} → Engine D g → List ℕ → List (List ℕ) → Engine D g → Type 0
+abbrev pub taken_written : {D : Type 0} {g : Ghosts D} → ServerState D g → List ℕ → List (List ℕ) → ServerState D g
+    → Type 0
 taken_written old body replies new =
     Taken old.storage old.host old.desk.open_group body replies new.storage new.host new.desk.open_group
 
-abbrev pub ended_written : {D : Type 0} {g : Ghosts D} → Engine D g → List (List ℕ) → Engine D g → Type 0
+abbrev pub ended_written : {D : Type 0} {g : Ghosts D} → ServerState D g → List (List ℕ) → ServerState D g → Type 0
 ended_written old replies new =
     InputEnds old.storage old.host old.desk.open_group replies new.storage new.host new.desk.open_group
 
@@ -128,11 +130,11 @@ pub record IsWholeGroup {D : Type 0} {g : Ghosts D} (size : ℕ) (new : Store D 
     (told : List ReplyValue) (after : State) : Type 0 where
   pub group : List (Exchange ReplyValue)
   pub bodies_are : bodies ≡ map body_of group
-  pub plain : NoneAlone is_replacement bodies
-  pub run : TurnsOver requests before group after
+  pub plain : HasNoBarrier is_replacement bodies
+  pub run : Trace server_machine before group after
   pub short : (front : List (Exchange ReplyValue)) (last : Exchange ReplyValue) → group ≡ front ++ last ∷ []
       → is_full size front ≡ false
-  pub ends : IsWhole requests size before group
+  pub ends : IsWhole server_machine size before group
   pub whole : new.stopped ≡ false → (is_full size group ≡ true) × (told ≡ map reply_of group)
 
 -- These bodies are not yet a group: another request could have followed. None of them is a group of its own.
@@ -141,8 +143,8 @@ pub record IsNoGroupYet {D : Type 0} {g : Ghosts D} (size : ℕ) (new : Store D 
     (told : List ReplyValue) (after : State) : Type 0 where
   pub held : List (Exchange ReplyValue)
   pub bodies_are : bodies ≡ map body_of held
-  pub plain : NoneAlone is_replacement bodies
-  pub run : TurnsOver requests before held after
+  pub plain : HasNoBarrier is_replacement bodies
+  pub run : Trace server_machine before held after
   pub short : is_full size held ≡ false
   pub told_are : new.stopped ≡ false → told ≡ map reply_of held
 
@@ -152,12 +154,12 @@ pub record EndsApart (size : ℕ) (before : State) (bodies : List (List ℕ)) : 
   pub front : List (List ℕ)
   pub last : List ℕ
   pub are : bodies ≡ front ++ last ∷ []
-  pub alone : is_replacement last ≡ true
-  pub plain : NoneAlone is_replacement front
+  pub barrier : is_replacement last ≡ true
+  pub plain : HasNoBarrier is_replacement front
   pub group : List (Exchange ReplyValue)
   pub front_is : front ≡ map body_of group
   pub state : State
-  pub run : TurnsOver requests before group state
+  pub run : Trace server_machine before group state
   pub short : is_full size group ≡ false
 
 -- So one group over a store, or the open one and the body that ends it; in memory, and after a fault of the device, one
@@ -224,14 +226,14 @@ pub record ServesSession {D : Type 0} {g : Ghosts D} (f : Frames) (last : List �
     (size : ℕ) (old new : Storage D g) (before after : State) (served : Served) : Type 0 where
   pub io : Session f is_replacement any_turn any_end last input input' out out' tt tt served
   pub told : List ReplyValue
-  pub replies_are : joined io.handed ++ io.held ≡ map reply_record told
+  pub replies_are : concat_replies io.handed ++ io.held ≡ map reply_record told
   pub serves : Serves size old new before io.bodies told after
   pub in_parts : InParts size old new before after io.bodies io.handed io.held
 
 -- the same of a server
-abbrev pub HasTalked : {D : Type 0} {g : Ghosts D} → Frames → Input → Input → Output → Output → ℕ → Engine D g
-    → Engine D g → Served → Type 0
-HasTalked f input input' out out' size old new served =
+abbrev pub IsStoreSession : {D : Type 0} {g : Ghosts D} → Frames → Input → Input → Output → Output → ℕ → ServerState D g
+    → ServerState D g → Served → Type 0
+IsStoreSession f input input' out out' size old new served =
     ServesSession f last_written input input' out out' size old.storage new.storage old.host new.host served
 
 -- in memory each reply is sent at its body

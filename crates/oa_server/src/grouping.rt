@@ -1,23 +1,23 @@
 //! Group commit: the events of a group of requests are committed together, and the replies are held
 //! back until then.
 ghost use Rattle.std.specs.Prelude.{◌≡◌, ◌≤◌, ◌<◌, ◌+◌, ◌++◌, ◌∷◌, [], IfOk, OnErr, false, length, map, true, vec_capacity};
-ghost use Rattle.oa_groups.specs.Groupings.{IsEnded, IsSettled, IsTaken};
-ghost use Rattle.oa_groups.specs.Served.{IsServed};
+ghost use Rattle.oa_group_commit.specs.GroupStates.{IsAdmitted, IsEnded, IsGroupCommitted};
+ghost use Rattle.oa_group_commit.specs.Served.{IsServed};
 ghost use Rattle.oa_journal.specs.Shapes.{ample_bytes};
 ghost use Rattle.oa_store.specs.Kept.{HasRoom};
 ghost use Rattle.oa_record.specs.Replacement.{is_replacement};
 ghost use Rattle.oa_server.specs.Answers.{IsAnswered, AnswersAfterFault, IsReplacedOver, IsReplacedOrLate};
 ghost use Rattle.oa_server.specs.OpenGroups.{CanTake, CanTakeCleared, HandsOut, HasBanks, cleared_grouping, grouping_of};
-ghost use Rattle.oa_server.specs.Requests.{requests};
+ghost use Rattle.oa_server.specs.ServerMachine.{server_machine};
 
 use crate::holding::turn_held;
-use crate::open_group::{OpenGroup, bare_reply, withdraw};
+use crate::open_group::{OpenGroup, bare_reply, fail_replies};
 use crate::replacement::replace_over;
 use oa_disk::Disk;
 use oa_model::HResult;
 use oa_record::{Reply, is_replacement};
-use oa_store::{Batch, Store, commit};
-use oa_turn::Host;
+use oa_store::{EventBatch, Store, commit};
+use oa_turn::Machine;
 use std::alloc::{AllocError, Global};
 
 /// Returns the reply to one body, which is a group of its own, with a batch of its own. If the
@@ -25,7 +25,7 @@ use std::alloc::{AllocError, Global};
 /// E_FAIL, and nothing is done.
 pub(crate) fn answer_over<D: Disk>(
     alloc: Global,
-    host: &mut Host,
+    host: &mut Machine,
     store: &mut Store<D>,
     body: &[u8],
 ) -> Reply
@@ -39,7 +39,7 @@ pub(crate) fn answer_over<D: Disk>(
     if is_replacement(body) {
         return replaced_over(alloc, host, store, body);
     }
-    let mut batch = Batch::new(alloc);
+    let mut batch = EventBatch::new(alloc);
     let Ok(reply) = turn_held(alloc, host, store, &mut batch, body) else {
         return bare_reply(alloc, body, HResult::STG_E_WRITEFAULT);
     };
@@ -53,7 +53,7 @@ pub(crate) fn answer_over<D: Disk>(
 /// STG_E_WRITEFAULT if the device fails.
 fn replaced_over<D: Disk>(
     alloc: Global,
-    host: &mut Host,
+    host: &mut Machine,
     store: &mut Store<D>,
     body: &[u8],
 ) -> Reply
@@ -71,16 +71,16 @@ fn replaced_over<D: Disk>(
 
 /// Commits the events of the open group. Its replies can then be sent; if the device fails, each
 /// becomes STG_E_WRITEFAULT.
-pub(crate) fn settle<D: Disk>(
+pub(crate) fn commit_group<D: Disk>(
     alloc: Global,
-    host: &Host,
+    host: &Machine,
     store: &mut Store<D>,
     open_group: &mut OpenGroup,
 )
     requires goes_on { store.old.stopped ≡ false }
     requires room { HasRoom open_group.old.batch store.old }
     requires few { length open_group.old.batch + 6 ≤ ample_bytes }
-    ensures settled { IsSettled requests open_group.new.replies.items (grouping_of store.old host.now open_group.old)
+    ensures settled { IsGroupCommitted server_machine open_group.new.replies.items (grouping_of store.old host.now open_group.old)
         (cleared_grouping store.new host.now open_group.new) }
     ensures batch { open_group.new.batch ≡ [] }
     ensures shape { store.new.bank.shape ≡ store.old.bank.shape }
@@ -89,7 +89,7 @@ pub(crate) fn settle<D: Disk>(
     ensures size { open_group.new.size ≡ open_group.old.size }
 {
     if let Err(_) = commit(store, &mut open_group.batch) {
-        withdraw(alloc, &mut open_group.replies);
+        fail_replies(alloc, &mut open_group.replies);
     }
 }
 
@@ -98,9 +98,9 @@ pub(crate) fn settle<D: Disk>(
 ///
 /// If a checkpoint or a commit fails, each reply of the group becomes STG_E_WRITEFAULT. If the
 /// device failed earlier, nothing is done, and the reply is E_FAIL.
-pub(crate) fn take<D: Disk>(
+pub(crate) fn admit<D: Disk>(
     alloc: Global,
-    host: &mut Host,
+    host: &mut Machine,
     store: &mut Store<D>,
     open_group: &mut OpenGroup,
     body: &[u8],
@@ -109,8 +109,8 @@ pub(crate) fn take<D: Disk>(
     requires plain { is_replacement body.now ≡ false }
     requires banks { HasBanks store.old host.old }
     ensures held { result ≡ false
-        → IsTaken requests open_group.old.size body.now [] (grouping_of store.old host.old open_group.old) (grouping_of store.new host.new open_group.new) }
-    ensures told { result ≡ true → IsTaken requests open_group.old.size body.now open_group.new.replies.items (grouping_of store.old host.old open_group.old)
+        → IsAdmitted server_machine open_group.old.size body.now [] (grouping_of store.old host.old open_group.old) (grouping_of store.new host.new open_group.new) }
+    ensures told { result ≡ true → IsAdmitted server_machine open_group.old.size body.now open_group.new.replies.items (grouping_of store.old host.old open_group.old)
         (cleared_grouping store.new host.new open_group.new) }
     ensures ready { result ≡ false → CanTake store.new open_group.new }
     ensures cleared { result ≡ true → CanTakeCleared store.new open_group.new }
@@ -129,12 +129,12 @@ pub(crate) fn take<D: Disk>(
             if !open_group.is_full() {
                 return false;
             }
-            settle(alloc, host, store, open_group);
+            commit_group(alloc, host, store, open_group);
             true
         }
         Err(_) => {
             let reply = bare_reply(alloc, body, HResult::STG_E_WRITEFAULT);
-            withdraw(alloc, &mut open_group.replies);
+            fail_replies(alloc, &mut open_group.replies);
             open_group.replies.push_reserved(reply);
             true
         }
@@ -145,7 +145,7 @@ pub(crate) fn take<D: Disk>(
 /// the device failed in that group or earlier, nothing is done, and the reply is E_FAIL.
 fn replaced_or_late<D: Disk>(
     alloc: Global,
-    host: &mut Host,
+    host: &mut Machine,
     store: &mut Store<D>,
     body: &[u8],
 ) -> Reply
@@ -164,7 +164,7 @@ fn replaced_or_late<D: Disk>(
 /// sent.
 fn take_apart<D: Disk>(
     alloc: Global,
-    host: &mut Host,
+    host: &mut Machine,
     store: &mut Store<D>,
     open_group: &mut OpenGroup,
     body: &[u8],
@@ -172,24 +172,24 @@ fn take_apart<D: Disk>(
     requires ready { CanTake store.old open_group.old }
     requires kind { is_replacement body.now ≡ true }
     requires banks { HasBanks store.old host.old }
-    ensures told { IsTaken requests open_group.old.size body.now open_group.new.replies.items (grouping_of store.old host.old open_group.old)
+    ensures told { IsAdmitted server_machine open_group.old.size body.now open_group.new.replies.items (grouping_of store.old host.old open_group.old)
         (cleared_grouping store.new host.new open_group.new) }
     ensures cleared { CanTakeCleared store.new open_group.new }
     ensures banks { HasBanks store.new host.new }
     ensures one { length open_group.new.replies.items ≡ length open_group.old.replies.items + 1 }
     ensures size { open_group.new.size ≡ open_group.old.size }
 {
-    finish(alloc, host, store, open_group);
-    open_group.batch = Batch::new(alloc);
+    flush_held(alloc, host, store, open_group);
+    open_group.batch = EventBatch::new(alloc);
     let reply = replaced_or_late(alloc, host, store, body);
     open_group.replies.push_reserved(reply);
 }
 
 /// Executes a request that comes alone, while no reply is held. Returns its reply, which can be
 /// sent at once.
-pub(crate) fn take_alone<D: Disk>(
+pub(crate) fn admit_barrier<D: Disk>(
     alloc: Global,
-    host: &mut Host,
+    host: &mut Machine,
     store: &mut Store<D>,
     open_group: &mut OpenGroup,
     body: &[u8],
@@ -198,27 +198,27 @@ pub(crate) fn take_alone<D: Disk>(
     requires none { open_group.old.replies.items ≡ [] }
     requires kind { is_replacement body.now ≡ true }
     requires banks { HasBanks store.old host.old }
-    ensures told { IsTaken requests open_group.old.size body.now (result ∷ []) (grouping_of store.old host.old open_group.old)
+    ensures told { IsAdmitted server_machine open_group.old.size body.now (result ∷ []) (grouping_of store.old host.old open_group.old)
         (grouping_of store.new host.new open_group.new) }
     ensures ready { CanTake store.new open_group.new }
     ensures banks { HasBanks store.new host.new }
     ensures none { open_group.new.replies.items ≡ [] }
     ensures size { open_group.new.size ≡ open_group.old.size }
 {
-    open_group.batch = Batch::new(alloc);
+    open_group.batch = EventBatch::new(alloc);
     replaced_or_late(alloc, host, store, body)
 }
 
 /// Commits the open group when the input has ended: its replies can then be sent. Without replies
 /// it does nothing.
-pub(crate) fn finish<D: Disk>(
+pub(crate) fn flush_held<D: Disk>(
     alloc: Global,
-    host: &Host,
+    host: &Machine,
     store: &mut Store<D>,
     open_group: &mut OpenGroup,
 )
     requires ready { CanTake store.old open_group.old }
-    ensures ended { IsEnded requests open_group.new.replies.items (grouping_of store.old host.now open_group.old)
+    ensures ended { IsEnded server_machine open_group.new.replies.items (grouping_of store.old host.now open_group.old)
         (cleared_grouping store.new host.now open_group.new) }
     ensures cleared { CanTakeCleared store.new open_group.new }
     ensures shape { store.new.bank.shape ≡ store.old.bank.shape }
@@ -228,13 +228,13 @@ pub(crate) fn finish<D: Disk>(
     if open_group.replies.is_empty() {
         return;
     }
-    settle(alloc, host, store, open_group);
+    commit_group(alloc, host, store, open_group);
 }
 
 /// Executes one request, and appends to `out` the replies of a group that has ended.
 fn take_on<D: Disk>(
     alloc: Global,
-    host: &mut Host,
+    host: &mut Machine,
     store: &mut Store<D>,
     open_group: &mut OpenGroup,
     body: &[u8],
@@ -243,7 +243,7 @@ fn take_on<D: Disk>(
     requires ready { CanTake store.old open_group.old }
     requires places { length out.old.items + length open_group.old.replies.items < vec_capacity out.old }
     requires banks { HasBanks store.old host.old }
-    ensures taken { HandsOut (λ told. IsTaken requests open_group.old.size body.now told (grouping_of store.old host.old open_group.old)
+    ensures taken { HandsOut (λ told. IsAdmitted server_machine open_group.old.size body.now told (grouping_of store.old host.old open_group.old)
         (grouping_of store.new host.new open_group.new)) out.old.items out.new.items }
     ensures ready { CanTake store.new open_group.new }
     ensures banks { HasBanks store.new host.new }
@@ -256,7 +256,7 @@ fn take_on<D: Disk>(
         hand_out(&mut open_group.replies, out);
         return;
     }
-    if take(alloc, host, store, open_group, body) {
+    if admit(alloc, host, store, open_group, body) {
         hand_out(&mut open_group.replies, out);
     }
 }
@@ -264,18 +264,18 @@ fn take_on<D: Disk>(
 /// Commits the open group when the input has ended, and appends its replies to `out`.
 fn finish_on<D: Disk>(
     alloc: Global,
-    host: &Host,
+    host: &Machine,
     store: &mut Store<D>,
     open_group: &mut OpenGroup,
     out: &mut Vec<Reply>,
 )
     requires ready { CanTake store.old open_group.old }
     requires places { length out.old.items + length open_group.old.replies.items ≤ vec_capacity out.old }
-    ensures ended { HandsOut (λ told. IsEnded requests told (grouping_of store.old host.now open_group.old) (grouping_of store.new host.now open_group.new))
+    ensures ended { HandsOut (λ told. IsEnded server_machine told (grouping_of store.old host.now open_group.old) (grouping_of store.new host.now open_group.new))
         out.old.items out.new.items }
     ensures shape { store.new.bank.shape ≡ store.old.bank.shape }
 {
-    finish(alloc, host, store, open_group);
+    flush_held(alloc, host, store, open_group);
     hand_out(&mut open_group.replies, out);
 }
 
@@ -294,14 +294,14 @@ fn hand_out(replies: &mut Vec<Reply>, out: &mut Vec<Reply>)
 /// an allocation failed before anything was done.
 pub(crate) fn run_over<D: Disk>(
     alloc: Global,
-    host: &mut Host,
+    host: &mut Machine,
     store: &mut Store<D>,
     bodies: &[Vec<u8>],
     group: usize,
 ) -> Result<Vec<Reply>, AllocError>
     requires positive { 1 ≤ group }
     requires banks { HasBanks store.old host.old }
-    ensures served { store.old.stopped ≡ false → IfOk result (λ replies. IsServed requests group store.old store.new host.old host.new
+    ensures served { store.old.stopped ≡ false → IfOk result (λ replies. IsServed server_machine group store.old store.new host.old host.new
         (map (λ b. b.items) bodies.now) replies.items) }
     ensures late { store.old.stopped ≡ true → IfOk result (λ replies. AnswersAfterFault store.old store.new host.old host.new
         (map (λ b. b.items) bodies.now) replies.items) }

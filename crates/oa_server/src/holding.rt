@@ -5,7 +5,7 @@ ghost use Rattle.oa_store.specs.Holding.{IsOpenFor};
 ghost use Rattle.oa_record.specs.Replacement.{is_replacement};
 ghost use Rattle.oa_server.specs.OpenGroups.{CallsForCheckpoint, CallsForRoom, CallsWhereDue, CanBeMade, HasBanks, HoldsOn, IsAdded};
 ghost use Rattle.oa_server.specs.OpenGroups.{IsCutOff, MakesWay};
-ghost use Rattle.oa_server.specs.Requests.{IsHeldBack};
+ghost use Rattle.oa_server.specs.ServerMachine.{IsHeldBack};
 ghost use Rattle.oa_server.specs.declared.fault.HoldFault.{HoldFault};
 ghost use Rattle.oa_turn.specs.Changes.{MakesChange};
 ghost use Rattle.oa_turn.specs.Events.{held_of};
@@ -18,17 +18,17 @@ use oa_image::laws::is_event;
 use oa_model::HResult;
 use oa_record::Reply;
 use oa_record::laws::one_request;
-use oa_store::{Batch, DeviceFailed, Store, make_room};
-use oa_turn::{Host, Plan, Planned};
+use oa_store::{DeviceFailed, EventBatch, Store, checkpoint_if_due};
+use oa_turn::{Machine, Plan, Planned};
 use std::alloc::Global;
 
 /// Executes one turn over a store, and returns its reply. Its event is added to `batch`. Before the
 /// first event of a batch, a checkpoint is made if one is due. Err: the checkpoint failed.
 pub(crate) fn turn_held<D: Disk>(
     alloc: Global,
-    host: &mut Host,
+    host: &mut Machine,
     store: &mut Store<D>,
-    batch: &mut Batch,
+    batch: &mut EventBatch,
     body: &[u8],
 ) -> Result<Reply, DeviceFailed>
     requires plain { is_replacement body.now ≡ false }
@@ -53,9 +53,9 @@ pub(crate) fn turn_held<D: Disk>(
 /// failed.
 fn hold<D: Disk>(
     alloc: Global,
-    host: &mut Host,
+    host: &mut Machine,
     store: &mut Store<D>,
-    batch: &mut Batch,
+    batch: &mut EventBatch,
     planned: Planned,
 ) -> Result<Reply, DeviceFailed>
     requires change { CanBeMade host.old planned.event }
@@ -86,9 +86,9 @@ fn hold<D: Disk>(
 /// made first, with the table before the change. Errors: `Device` if the checkpoint failed;
 /// `Memory` if an allocation failed after it. The table and the batch have then not changed.
 fn hold_change<D: Disk>(
-    host: &mut Host,
+    host: &mut Machine,
     store: &mut Store<D>,
-    batch: &mut Batch,
+    batch: &mut EventBatch,
     event: SizedEvent,
 ) -> Result<(), HoldFault>
     requires change { CanBeMade host.old event }
@@ -103,14 +103,18 @@ fn hold_change<D: Disk>(
     ensures way { MakesWay batch.old (held_of host.old) store.old store.new result }
 {
     is_event(event.as_event());
-    make_room(store, host.table(), batch)?;
+    checkpoint_if_due(store, host.table(), batch)?;
     add_change(host, batch, event)?;
     Ok(())
 }
 
 /// Makes a change that is allowed, and adds its event to `batch`. It allocates first for the
 /// event's bytes, then for the table. Err: `Memory`, and nothing has changed.
-fn add_change(host: &mut Host, batch: &mut Batch, event: SizedEvent) -> Result<(), HoldFault>
+fn add_change(
+    host: &mut Machine,
+    batch: &mut EventBatch,
+    event: SizedEvent,
+) -> Result<(), HoldFault>
     requires { CanBeMade host.old event }
     ensures change { MakesChange event host.old host.new result }
     ensures event { OnOk result (batch.new ≡ batch.old ++ event_image event) }

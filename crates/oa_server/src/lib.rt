@@ -24,5 +24,5 @@ mod starting;
 mod storage;
 
 pub use oa_frame::{End, Served};
-pub use oa_share::SessionEnd;
+pub use oa_mux::SessionEnd;
 pub use server::Server;

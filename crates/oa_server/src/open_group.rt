@@ -1,22 +1,22 @@
 //! The open group of a server over a store.
 ghost use Rattle.std.specs.Prelude.{◌≡◌, ◌<◌, ◌≤◌, [], None, IfOk, false, length, map, vec_capacity};
 ghost use Rattle.oa_decision.specs.Decided.{refusal};
-ghost use Rattle.oa_groups.specs.Groups.{fills};
+ghost use Rattle.oa_group_commit.specs.Groups.{fills};
 ghost use Rattle.oa_model.specs.Limits.{group_bytes};
 ghost use Rattle.oa_record.specs.Asks.{tag_at};
-ghost use Rattle.oa_server.specs.Requests.{withdrawn};
+ghost use Rattle.oa_server.specs.ServerMachine.{aborted_reply};
 
-use oa_groups::is_full;
+use oa_group_commit::is_full;
 use oa_model::HResult;
 use oa_record::{Reply, tag_of};
-use oa_store::Batch;
+use oa_store::EventBatch;
 use std::alloc::{AllocError, Global};
 
 /// The open group: its events, which are not committed yet, and its replies, which are held back.
 #[derive(Drop)]
 pub(crate) struct OpenGroup {
     /// The events.
-    pub batch: Batch,
+    pub batch: EventBatch,
     /// The replies.
     pub replies: Vec<Reply>,
     /// The greatest number of requests of a group.
@@ -34,7 +34,7 @@ impl OpenGroup {
     {
         let replies = Vec::with_capacity(alloc, size)?;
         Ok(OpenGroup {
-            batch: Batch::new(alloc),
+            batch: EventBatch::new(alloc),
             replies,
             size,
         })
@@ -47,7 +47,7 @@ impl OpenGroup {
         ensures size { result.size ≡ 0 }
     {
         OpenGroup {
-            batch: Batch::new(alloc),
+            batch: EventBatch::new(alloc),
             replies: Vec::new(alloc),
             size: 0,
         }
@@ -72,8 +72,8 @@ pub(crate) fn bare_reply(alloc: Global, body: &[u8], code: HResult) -> Reply
 
 /// Replaces each reply of a group that could not be committed by STG_E_WRITEFAULT, with the same
 /// tag. Allocates nothing.
-pub(crate) fn withdraw(alloc: Global, replies: &mut Vec<Reply>)
-    ensures items { replies.new.items ≡ map withdrawn replies.old.items }
+pub(crate) fn fail_replies(alloc: Global, replies: &mut Vec<Reply>)
+    ensures items { replies.new.items ≡ map aborted_reply replies.old.items }
     ensures len { length replies.new.items ≡ length replies.old.items }
     ensures places { vec_capacity replies.new ≡ vec_capacity replies.old }
 {
@@ -82,7 +82,7 @@ pub(crate) fn withdraw(alloc: Global, replies: &mut Vec<Reply>)
 
 /// Replaces each reply by STG_E_WRITEFAULT, with the same tag.
 fn take_back(alloc: Global, replies: &mut [Reply])
-    ensures { replies.new ≡ map withdrawn replies.old }
+    ensures { replies.new ≡ map aborted_reply replies.old }
 {
     for reply in replies.iter_mut() {
         *reply = Reply::bare(alloc, reply.tag(), HResult::STG_E_WRITEFAULT, None);

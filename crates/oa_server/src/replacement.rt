@@ -12,7 +12,7 @@ use oa_disk::Disk;
 use oa_model::HResult;
 use oa_record::Reply;
 use oa_store::{DeviceFailed, Store, WriteFault};
-use oa_turn::{Host, ReplacementPlan};
+use oa_turn::{Machine, ReplacementPlan};
 use std::alloc::Global;
 
 /// Executes a body of opcode 12 over a store as a group of its own, while no group is open, and
@@ -23,7 +23,7 @@ use std::alloc::Global;
 /// one after the turn.
 pub(crate) fn replace_over<D: Disk>(
     alloc: Global,
-    host: &mut Host,
+    host: &mut Machine,
     store: &mut Store<D>,
     body: &[u8],
 ) -> Result<Reply, DeviceFailed>

@@ -1,7 +1,7 @@
 //! The server: a library and a table in memory, and the storage of the table.
 ghost use Rattle.std.specs.Prelude.{◌≡◌, ◌≤◌, map, IfOk, OnErr};
 ghost use Rattle.oa_model.specs.Limits.{max_group};
-ghost use Rattle.oa_canonical.specs.Canonical.{canonical};
+ghost use Rattle.oa_printer.specs.Canonical.{canonical};
 ghost use Rattle.oa_journal.specs.Shapes.{body_bytes, default_bank_bytes};
 ghost use Rattle.oa_turn.specs.Limits.{IsSoundTable};
 ghost use Rattle.oa_server.specs.Storages.{AnswersOne, InMemory, Serves, disk_of};
@@ -9,21 +9,21 @@ ghost use Rattle.oa_turn.specs.Turns.{Run, Turn};
 ghost use Rattle.oa_server.specs.declared.storage.Storage.TheVariants.{Disk as ADisk};
 ghost use Rattle.oa_table.specs.Tables.{first_table};
 
-use crate::engine::{Engine, answer_with, run_with};
+use crate::engine::{ServerState, answer_with, run_with};
 use crate::storage::Storage;
 use oa_disk::{Disk, NoDisk};
 use oa_journal::DEFAULT_BANK_BYTES;
 use oa_record::Reply;
 use oa_store::Store;
 use oa_table::Table;
-use oa_turn::Host;
+use oa_turn::Machine;
 use oa_typelib::Library;
 use std::alloc::{AllocError, Global};
 
 /// An automation object server: in memory, or over a store.
 #[derive(Drop)]
 pub struct Server<D: Disk> {
-    pub(crate) engine: Engine<D>,
+    pub(crate) engine: ServerState<D>,
 }
 
 impl Server<NoDisk> {
@@ -32,9 +32,9 @@ impl Server<NoDisk> {
         ensures state { result.engine.host ≡ record { bank = default_bank_bytes; library = library; table = first_table } }
         ensures memory { InMemory result.engine.storage }
     {
-        let host = Host::new(alloc, DEFAULT_BANK_BYTES, library);
+        let host = Machine::new(alloc, DEFAULT_BANK_BYTES, library);
         Server {
-            engine: Engine::new(alloc, host, Storage::Memory(NoDisk::new())),
+            engine: ServerState::new(alloc, host, Storage::Memory(NoDisk::new())),
         }
     }
 }
@@ -53,9 +53,9 @@ impl<D: Disk> Server<D> {
         ensures state { result.engine.host ≡ record { bank = body_bytes store.bank.shape; library = library; table = table } }
         ensures store { result.engine.storage ≡ ADisk store }
     {
-        let host = Host::over(alloc, store.bank_size(), library, table);
+        let host = Machine::over(alloc, store.bank_size(), library, table);
         Server {
-            engine: Engine::new(alloc, host, Storage::Disk(store)),
+            engine: ServerState::new(alloc, host, Storage::Disk(store)),
         }
     }
 

@@ -1,40 +1,40 @@
 //! Sessions over streams.
 ghost use Rattle.std.specs.Prelude.{◌≡◌, ◌≤◌, [], IfOk, OnErr, OnOk, false, map, vec_capacity};
 ghost use Rattle.oa_model.specs.Limits.{max_group};
-ghost use Rattle.oa_stream.specs.Ahead.{ahead};
+ghost use Rattle.oa_stream.specs.BufferedSource.{ahead};
 ghost use Rattle.oa_stream.specs.Sink.{Puts};
 ghost use Rattle.oa_frame.specs.Beginnings.{AreUnbroken, HoldLongest};
 ghost use Rattle.oa_frame.specs.Framings.{frames, hex_lines, records};
 ghost use Rattle.oa_frame.specs.Sessions.{spelled_all};
 ghost use Rattle.oa_record.specs.Replacement.{is_replacement};
 ghost use Rattle.oa_record.specs.Replies.{reply_record};
-ghost use Rattle.oa_server.specs.Talks.{HasTalked, HasTalkedInMemory, TakesBodies, ended_written, taken_written};
+ghost use Rattle.oa_server.specs.Talks.{HasTalkedInMemory, IsStoreSession, TakesBodies, ended_written, taken_written};
 ghost use Rattle.oa_server.specs.Storages.{InMemory};
 
 use crate::Server;
-use crate::engine::Engine;
-use crate::grouping::{finish, take, take_alone};
+use crate::engine::ServerState;
+use crate::grouping::{admit, admit_barrier, flush_held};
 use crate::open_group::OpenGroup;
 use crate::storage::Storage;
 use oa_disk::Disk;
 use oa_frame::{Framing, Responder, Served, put_reply, serve};
 use oa_model::{HResult, MAX_LINE_CHARACTERS, MAX_REQUEST_BYTES};
 use oa_record::{Reply, is_replacement};
-use oa_stream::{Ahead, Sink, Source, Unwritten};
+use oa_stream::{BufferedSource, Sink, Source, Unwritten};
 use std::alloc::AllocError;
 
 /// In memory each reply is written at once. Over a store it is held until its group ends, and then
 /// all replies of the group are written.
-impl<D: Disk> Responder for Engine<D> {
+impl<D: Disk> Responder for ServerState<D> {
     ghost ready = { TakesBodies };
 
     ghost turn = { taken_written };
 
     ghost ends = { ended_written };
 
-    ghost alone = { is_replacement };
+    ghost barrier = { is_replacement };
 
-    fn comes_alone(&self, body: &[u8]) -> bool {
+    fn is_barrier(&self, body: &[u8]) -> bool {
         is_replacement(body)
     }
 
@@ -50,7 +50,7 @@ impl<D: Disk> Responder for Engine<D> {
                 put_reply(framing, writer, &reply.head(), reply.body())
             }
             Storage::Disk(store) => {
-                if !take(
+                if !admit(
                     self.alloc,
                     &mut self.host,
                     store,
@@ -64,7 +64,7 @@ impl<D: Disk> Responder for Engine<D> {
         }
     }
 
-    fn respond_alone<W: Sink>(
+    fn respond_barrier<W: Sink>(
         &mut self,
         framing: Framing,
         body: &[u8],
@@ -76,7 +76,7 @@ impl<D: Disk> Responder for Engine<D> {
                 put_reply(framing, writer, &reply.head(), reply.body())
             }
             Storage::Disk(store) => {
-                let reply = take_alone(
+                let reply = admit_barrier(
                     self.alloc,
                     &mut self.host,
                     store,
@@ -88,21 +88,21 @@ impl<D: Disk> Responder for Engine<D> {
         }
     }
 
-    fn finish<W: Sink>(&mut self, framing: Framing, writer: &mut W) -> Result<(), Unwritten> {
+    fn flush_held<W: Sink>(&mut self, framing: Framing, writer: &mut W) -> Result<(), Unwritten> {
         match &mut self.storage {
             Storage::Memory(_) => Ok(()),
             Storage::Disk(store) => {
-                finish(self.alloc, &self.host, store, &mut self.desk.open_group);
+                flush_held(self.alloc, &self.host, store, &mut self.desk.open_group);
                 put_held(framing, writer, &mut self.desk.open_group.replies)
             }
         }
     }
 
-    fn abandon(&mut self) {
+    fn drop_held(&mut self) {
         match &mut self.storage {
             Storage::Memory(_) => {}
             Storage::Disk(store) => {
-                finish(self.alloc, &self.host, store, &mut self.desk.open_group);
+                flush_held(self.alloc, &self.host, store, &mut self.desk.open_group);
                 self.desk.open_group.replies.clear();
             }
         }
@@ -153,14 +153,14 @@ impl<D: Disk> Server<D> {
     /// more input. Err: an allocation failed before anything was read.
     pub fn serve_hex<R: Source + Drop, W: Sink>(
         &mut self,
-        reader: &mut Ahead<R>,
+        reader: &mut BufferedSource<R>,
         writer: &mut W,
         group: usize,
     ) -> Result<Served, AllocError>
         requires positive { 1 ≤ group }
         requires small { group ≤ max_group }
         requires unbroken { AreUnbroken (ahead R.input reader.old) (W.out writer.old) }
-        ensures session { IfOk result (HasTalked hex_lines (ahead R.input reader.old) (ahead R.input reader.new)
+        ensures session { IfOk result (IsStoreSession hex_lines (ahead R.input reader.old) (ahead R.input reader.new)
             (W.out writer.old) (W.out writer.new) group self.old.engine self.new.engine) }
         ensures memory { InMemory self.old.engine.storage → IfOk result (HasTalkedInMemory hex_lines (ahead R.input reader.old)
             (ahead R.input reader.new) (W.out writer.old) (W.out writer.new) self.old.engine.host self.new.engine.host) }
@@ -180,14 +180,14 @@ impl<D: Disk> Server<D> {
     /// failed before anything was read.
     pub fn serve<R: Source + Drop, W: Sink>(
         &mut self,
-        reader: &mut Ahead<R>,
+        reader: &mut BufferedSource<R>,
         writer: &mut W,
         group: usize,
     ) -> Result<Served, AllocError>
         requires positive { 1 ≤ group }
         requires small { group ≤ max_group }
         requires unbroken { AreUnbroken (ahead R.input reader.old) (W.out writer.old) }
-        ensures session { IfOk result (HasTalked records (ahead R.input reader.old) (ahead R.input reader.new)
+        ensures session { IfOk result (IsStoreSession records (ahead R.input reader.old) (ahead R.input reader.new)
             (W.out writer.old) (W.out writer.new) group self.old.engine self.new.engine) }
         ensures memory { InMemory self.old.engine.storage → IfOk result (HasTalkedInMemory records (ahead R.input reader.old)
             (ahead R.input reader.new) (W.out writer.old) (W.out writer.new) self.old.engine.host self.new.engine.host) }
@@ -203,15 +203,15 @@ impl<D: Disk> Server<D> {
 /// line and the longest body, and frees them at the end. Err: one of these allocations failed
 /// before anything was read.
 fn session_with<D: Disk, R: Source + Drop, W: Sink>(
-    engine: &mut Engine<D>,
+    engine: &mut ServerState<D>,
     framing: Framing,
-    reader: &mut Ahead<R>,
+    reader: &mut BufferedSource<R>,
     writer: &mut W,
     group: usize,
 ) -> Result<Served, AllocError>
     requires positive { 1 ≤ group }
     requires unbroken { AreUnbroken (ahead R.input reader.old) (W.out writer.old) }
-    ensures session { IfOk result (HasTalked (frames framing) (ahead R.input reader.old) (ahead R.input reader.new)
+    ensures session { IfOk result (IsStoreSession (frames framing) (ahead R.input reader.old) (ahead R.input reader.new)
         (W.out writer.old) (W.out writer.new) group engine.old engine.new) }
     ensures memory { InMemory engine.old.storage → IfOk result (HasTalkedInMemory (frames framing) (ahead R.input reader.old)
         (ahead R.input reader.new) (W.out writer.old) (W.out writer.new) engine.old.host engine.new.host) }
@@ -233,9 +233,9 @@ fn session_with<D: Disk, R: Source + Drop, W: Sink>(
 /// Serves one client with all memory allocated: an empty group with capacity for its replies, and
 /// buffers for a line and a body.
 fn talk<D: Disk, R: Source + Drop, W: Sink>(
-    engine: &mut Engine<D>,
+    engine: &mut ServerState<D>,
     framing: Framing,
-    reader: &mut Ahead<R>,
+    reader: &mut BufferedSource<R>,
     writer: &mut W,
     line: &mut Vec<u8>,
     body: &mut Vec<u8>,
@@ -246,7 +246,7 @@ fn talk<D: Disk, R: Source + Drop, W: Sink>(
     requires batch { engine.old.desk.open_group.batch ≡ [] }
     requires buffers { HoldLongest (vec_capacity line.now) (vec_capacity body.now) }
     requires unbroken { AreUnbroken (ahead R.input reader.old) (W.out writer.old) }
-    ensures session { HasTalked (frames framing) (ahead R.input reader.old) (ahead R.input reader.new)
+    ensures session { IsStoreSession (frames framing) (ahead R.input reader.old) (ahead R.input reader.new)
         (W.out writer.old) (W.out writer.new) engine.old.desk.open_group.size engine.old engine.new result }
     ensures memory { InMemory engine.old.storage → HasTalkedInMemory (frames framing) (ahead R.input reader.old) (ahead R.input reader.new)
         (W.out writer.old) (W.out writer.new) engine.old.host engine.new.host result }

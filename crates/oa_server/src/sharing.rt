@@ -4,37 +4,37 @@ ghost use Rattle.oa_frame.specs.Beginnings.{AreUnbroken};
 ghost use Rattle.oa_frame.specs.Sessions.{is_answered};
 ghost use Rattle.oa_model.specs.Limits.{max_group};
 ghost use Rattle.oa_record.specs.Replacement.{is_replacement};
-ghost use Rattle.oa_server.specs.Desks.{ClearsDesk, all_frames, frames_of, told_at, told_to, told_with};
-ghost use Rattle.oa_server.specs.SharedSessions.{HasServedClients};
+ghost use Rattle.oa_server.specs.SharedGroups.{ClearsDesk, all_frames, frames_of, told_at, told_to, told_with};
+ghost use Rattle.oa_server.specs.SharedSessions.{IsSharedSession};
 ghost use Rattle.oa_server.specs.SharedTalks.{TakesAsked, asked_written};
 ghost use Rattle.oa_server.specs.Sharing.ClientReply.{Leaves as ALeave};
-ghost use Rattle.oa_share.specs.Outgoing.{spelled_frames};
-ghost use Rattle.oa_stream.specs.Ahead.{ahead};
+ghost use Rattle.oa_mux.specs.Outgoing.{spelled_frames};
+ghost use Rattle.oa_stream.specs.BufferedSource.{ahead};
 ghost use Rattle.oa_stream.specs.Sink.{Puts};
 
 use crate::Server;
-use crate::desk::{Asker, Desk, ask_alone, ask_over, end_over, finish_over};
-use crate::engine::Engine;
+use crate::desk::{ReplyTo, SharedGroup, ask_alone, ask_over, end_over, finish_over};
+use crate::engine::ServerState;
 use crate::locking::{let_all_go, let_go, replace_for, turn_for};
 use crate::open_group::OpenGroup;
 use crate::storage::Storage;
 use oa_disk::Disk;
 use oa_frame::End;
 use oa_model::HResult;
+use oa_mux::{SessionEnd, SharedResponder, put_last_of, put_reply_of, serve_clients};
 use oa_record::{Reply, is_replacement};
-use oa_share::{SessionEnd, SharedResponder, put_last_of, put_reply_of, serve_clients};
-use oa_stream::{Ahead, Sink, Source, Unwritten};
-use oa_turn::Owners;
+use oa_stream::{BufferedSource, Sink, Source, Unwritten};
+use oa_turn::LockTable;
 use std::alloc::{AllocError, Global};
 
 /// In memory each reply is written at once. Over a store it is held until its group ends, and then
 /// all replies of the group are written, each to its client.
-impl<D: Disk> SharedResponder for Engine<D> {
+impl<D: Disk> SharedResponder for ServerState<D> {
     ghost ready = { TakesAsked };
 
     ghost turn = { asked_written };
 
-    ghost alone = { is_replacement };
+    ghost barrier = { is_replacement };
 
     fn is_alone(&self, body: &[u8]) -> bool {
         is_replacement(body)
@@ -141,7 +141,7 @@ impl<D: Disk> SharedResponder for Engine<D> {
 
 /// Writes the held replies, each to its client, and drops them. Err: the writer failed; they are
 /// dropped, too.
-fn put_told<W: Sink>(alloc: Global, writer: &mut W, desk: &mut Desk) -> Result<(), Unwritten>
+fn put_told<W: Sink>(alloc: Global, writer: &mut W, desk: &mut SharedGroup) -> Result<(), Unwritten>
     requires unbroken { (W.out writer.old).broken ≡ false }
     requires each { length desk.old.askers.items ≡ length desk.old.open_group.replies.items }
     ensures puts { Puts result (W.out writer.old) (W.out writer.new) (spelled_frames (all_frames (told_at desk.old))) }
@@ -153,7 +153,7 @@ fn put_told<W: Sink>(alloc: Global, writer: &mut W, desk: &mut Desk) -> Result<(
 }
 
 /// Drops the held replies.
-fn clear(desk: &mut Desk)
+fn clear(desk: &mut SharedGroup)
     ensures { ClearsDesk desk.old desk.new }
 {
     desk.askers.clear();
@@ -165,7 +165,7 @@ fn clear(desk: &mut Desk)
 fn put_all<W: Sink>(
     alloc: Global,
     writer: &mut W,
-    askers: &[Asker],
+    askers: &[ReplyTo],
     replies: &[Reply],
 ) -> Result<(), Unwritten>
     requires unbroken { (W.out writer.old).broken ≡ false }
@@ -180,7 +180,7 @@ fn put_all<W: Sink>(
 }
 
 /// Returns the client of reply `i`, counted from 0.
-fn asker_of(askers: &[Asker], i: usize) -> Asker
+fn asker_of(askers: &[ReplyTo], i: usize) -> ReplyTo
     requires { i < length askers.now }
     ensures { get_or askers.now i result ≡ result }
 {
@@ -191,7 +191,7 @@ fn asker_of(askers: &[Asker], i: usize) -> Asker
 fn put_one<W: Sink>(
     alloc: Global,
     writer: &mut W,
-    asker: Asker,
+    asker: ReplyTo,
     reply: &Reply,
 ) -> Result<(), Unwritten>
     requires { (W.out writer.old).broken ≡ false }
@@ -241,14 +241,14 @@ impl<D: Disk> Server<D> {
     /// allocation failed before anything was read.
     pub fn serve_shared<R: Source + Drop, W: Sink>(
         &mut self,
-        reader: &mut Ahead<R>,
+        reader: &mut BufferedSource<R>,
         writer: &mut W,
         group: usize,
     ) -> Result<SessionEnd, AllocError>
         requires positive { 1 ≤ group }
         requires small { group ≤ max_group }
         requires unbroken { AreUnbroken (ahead R.input reader.old) (W.out writer.old) }
-        ensures session { IfOk result (HasServedClients (ahead R.input reader.old) (ahead R.input reader.new) (W.out writer.old) (W.out writer.new) group
+        ensures session { IfOk result (IsSharedSession (ahead R.input reader.old) (ahead R.input reader.new) (W.out writer.old) (W.out writer.new) group
             self.old.engine self.new.engine) }
         ensures unlocked { OnOk result (self.new.engine.desk.owners ≡ []) }
         ensures input { OnErr result (ahead R.input reader.new ≡ ahead R.input reader.old) }
@@ -260,7 +260,7 @@ impl<D: Disk> Server<D> {
         let askers = Vec::with_capacity(alloc, group)?;
         self.engine.desk.open_group = open_group;
         self.engine.desk.askers = askers;
-        self.engine.desk.owners = Owners::new(alloc);
+        self.engine.desk.owners = LockTable::new(alloc);
         let ended = serve_clients(&mut self.engine, alloc, reader, writer);
         let engine = &mut self.engine;
         let_all_go(alloc, &mut engine.host, &mut engine.desk.owners);

@@ -1,17 +1,17 @@
 //! Starting a server over a store: its table must fit the library and a bank.
 ghost use Rattle.std.specs.Prelude.{◌≡◌, ◌↔◌, ◌≤◌, IsTrue, length, IfOk, IfErr};
 ghost use Rattle.oa_model.specs.Limits.{max_library_bytes};
-ghost use Rattle.oa_canonical.specs.Canonical.{canonical};
+ghost use Rattle.oa_printer.specs.Canonical.{canonical};
 ghost use Rattle.oa_turn.specs.Beginnings.{CanServe};
 ghost use Rattle.oa_server.specs.Openings.{IsNotOpened, IsOpened};
-ghost use Rattle.oa_server.specs.Storages.{OverStore, bank_of};
+ghost use Rattle.oa_server.specs.Storages.{OverStore, bank_bytes_of};
 
 use crate::Server;
-use oa_canonical::laws::marked_is_read;
+use oa_compat::fits;
 use oa_disk::Disk;
 use oa_idl::laws::one_tree;
 use oa_image::fits_bank;
-use oa_keeps::fits;
+use oa_printer::laws::marked_is_read;
 use oa_store::{OpenFault, Store};
 use oa_table::Table;
 use oa_typelib::Library;
@@ -68,7 +68,7 @@ impl<D: Disk> Server<D> {
     /// `Device` or `Memory`: a call of the device or an allocation failed.
     pub fn open(alloc: Global, disk: D, library: Library) -> Result<Server<D>, (D, OpenFault)>
         ensures library { IfOk result (λ server. server.engine.host.library ≡ library) }
-        ensures bank { IfOk result (λ server. server.engine.host.bank ≡ bank_of server.engine.storage) }
+        ensures bank { IfOk result (λ server. server.engine.host.bank ≡ bank_bytes_of server.engine.storage) }
         ensures opened { IfOk result (λ server. OverStore server.engine.storage
             (λ store. IsOpened D.Disk disk library store server.engine.host.table)) }
         ensures refused { IfErr result (λ e. IsNotOpened D.Disk disk e.0 library e.1) }

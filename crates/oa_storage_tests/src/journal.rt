@@ -5,10 +5,10 @@ ghost use Rattle.oa_table.specs.Tables.{first_table};
 ghost use Rattle.oa_journal.specs.Append.{IsAt};
 ghost use Rattle.oa_journal.specs.Banks.{first_gate};
 ghost use Rattle.oa_journal.specs.Shapes.{body_bytes};
-ghost use Rattle.oa_journal.specs.declared.shape.Shape.TheVariants.{Two};
+ghost use Rattle.oa_journal.specs.declared.shape.BankFormat.TheVariants.{Two};
 
 use oa_disk::{DeviceFault, Disk, MemoryDisk};
-use oa_journal::{AppendFault, Bank, Shape, laws};
+use oa_journal::{AppendFault, Bank, BankFormat, laws};
 use oa_table::Table;
 use std::alloc::Global;
 use std::rt::HostRuntime;
@@ -27,7 +27,7 @@ fn begin(disk: &mut MemoryDisk, library: &[u8], table: &Table) -> Result<Bank, D
     ensures bank { IfOk result (IsAt (Two 20971520) 20971520 0 (first_gate library.now first_table) false) }
     ensures size { ⟦<MemoryDisk as Disk>⟧.size_of disk.new ≡ ⟦<MemoryDisk as Disk>⟧.size_of disk.old }
 {
-    let mut bank = Bank::at(20_971_520, 0, Shape::Two(BODY));
+    let mut bank = Bank::at(20_971_520, 0, BankFormat::Two(BODY));
     let mut buffer = [0; 512];
     bank.start(disk, &mut buffer, library, table)?;
     Ok(bank)

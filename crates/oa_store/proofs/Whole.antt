@@ -1,11 +1,11 @@
 -- What is refused of a disk that has a whole store.
 use Rattle.std.proofs.Common.{◌≡◌, ◌⊎◌, ⊎_elim, ◌+◌, ◌<◌, ◌≤◌, ℕ, List, None, length, arith, ap, subst}
 use Rattle.oa_image.specs.Tables.{table_image}
-use Rattle.oa_journal.specs.declared.shape.Shape.TheVariants.{One, Two}
+use Rattle.oa_journal.specs.declared.shape.BankFormat.TheVariants.{One, Two}
 use Rattle.oa_store.specs.declared.fault.UpgradeFault.TheVariants as upgrades
 use Rattle.oa_store.proofs.OneStore.{one_store}
 use Rattle.oa_table.specs.Tables.{TableValue}
-use Rattle.oa_journal.specs.declared.shape.Shape.{Shape}
+use Rattle.oa_journal.specs.declared.shape.BankFormat.{BankFormat}
 use Rattle.oa_journal.proofs.Banks.{bank_header}
 use Rattle.oa_journal.proofs.Damages.{not_damaged}
 use Rattle.oa_journal.specs.Bank.{from_place}
@@ -17,7 +17,7 @@ use Rattle.oa_store.specs.Stores.{body_place, head_place, IsStore, IsStoreAt}
 use Rattle.oa_store.proofs.Opened.{its_bank, its_shape}
 
 -- a bank that is damaged in its body has a head of its format, so it is none of a store's
-spoilt_is_none : (shape other : Shape) (contents : List ℕ) (chosen gate place : ℕ) (library : List ℕ) (table : TableValue)
+spoilt_is_none : (shape other : BankFormat) (contents : List ℕ) (chosen gate place : ℕ) (library : List ℕ) (table : TableValue)
     → IsStoreAt shape chosen gate library table contents
     → IsDamagedBody other (from_place (head_place chosen) contents) (from_place (body_place other chosen) contents) place → ⊥
 spoilt_is_none shape other contents chosen gate place library table store damaged =
@@ -27,7 +27,7 @@ spoilt_is_none shape other contents chosen gate place library table store damage
     (λ image. its_shape shape other contents chosen gate image.0 image.1 library table image.2 store)
     (λ rest. its_shape shape other contents chosen gate rest.0 rest.1 library table rest.3.has store)
     damaged in
-    let here = subst (λ (s : Shape). IsStoreAt s chosen gate library table contents) same store in
+    let here = subst (λ (s : BankFormat). IsStoreAt s chosen gate library table contents) same store in
     not_damaged other head body place library table gate damaged here.bank
 
 pub whole_is_not_refused : (library : List ℕ) (table : TableValue) (size : ℕ) (contents : List ℕ) (e : OpenFault) → length contents ≡ size

@@ -3,7 +3,7 @@ use Rattle.std.specs.Prelude.{◌≡◌, ℕ, ◌+◌, ◌≤◌, IsTrue, length
 use Rattle.oa_disk.specs.Disk.{NothingPending, Only}
 use Rattle.oa_disk.specs.declared.disk.Disk.{Ghosts}
 use Rattle.oa_image.specs.Tables.{FitsBank}
-use Rattle.oa_journal.specs.declared.shape.Shape.TheVariants.{One}
+use Rattle.oa_journal.specs.declared.shape.BankFormat.TheVariants.{One}
 use Rattle.oa_model.specs.Limits.{max_library_bytes}
 use Rattle.oa_store.specs.declared.upgrading.OldStore.{OldStore}
 use Rattle.oa_store.specs.Stores.{IsStoreAt}

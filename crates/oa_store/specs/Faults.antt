@@ -8,8 +8,8 @@ use Rattle.oa_model.specs.Limits.{max_library_bytes}
 use Rattle.oa_table.specs.Tables.{TableValue}
 use Rattle.oa_journal.specs.declared.bank.BankFault.{BankFault}
 use Rattle.oa_journal.specs.declared.bank.BankFault.TheVariants as banks
-use Rattle.oa_journal.specs.declared.shape.Shape.{Shape}
-use Rattle.oa_journal.specs.declared.shape.Shape.TheVariants.{One, Two}
+use Rattle.oa_journal.specs.declared.shape.BankFormat.{BankFormat}
+use Rattle.oa_journal.specs.declared.shape.BankFormat.TheVariants.{One, Two}
 use Rattle.oa_journal.specs.Bank.{from_place, HasHead, HasLibrary}
 use Rattle.oa_journal.specs.Damages.{IsDamagedBody, IsDamagedHead}
 use Rattle.oa_journal.specs.Shapes.{disk_bytes}
@@ -83,13 +83,13 @@ moments_until most (Device fault) = most
 moments_until most Memory = most
 
 -- an error of the device is returned only if a call has failed, and any other only if none has
-abbrev pub IsCaused : ℕ → ℕ → OpenFault → Type 0
-IsCaused before now NotAStore = now ≡ before
-IsCaused before now OldFormat = now ≡ before
-IsCaused before now LibraryDiffers = now ≡ before
-IsCaused before now (Damaged place) = now ≡ before
-IsCaused before now (Device fault) = HasCounted before now
-IsCaused before now Memory = now ≡ before
+abbrev pub IsCausedOpenFault : ℕ → ℕ → OpenFault → Type 0
+IsCausedOpenFault before now NotAStore = now ≡ before
+IsCausedOpenFault before now OldFormat = now ≡ before
+IsCausedOpenFault before now LibraryDiffers = now ≡ before
+IsCausedOpenFault before now (Damaged place) = now ≡ before
+IsCausedOpenFault before now (Device fault) = HasCounted before now
+IsCausedOpenFault before now Memory = now ≡ before
 
 -- Which kind of call failed. Everything written is on the device before the first read; if the first sync fails, a
 -- crash may still leave each of the old images.
@@ -118,13 +118,13 @@ pub record IsOther (contents library : List ℕ) : Type 0 where
   pub differs : other ≢ library
 
 -- it has the wanted library, if one is wanted, and then in format 2
-abbrev pub HasWanted : Option (List ℕ) → Shape → (ℕ → ℕ) → (ℕ → ℕ) → Type 0
+abbrev pub HasWanted : Option (List ℕ) → BankFormat → (ℕ → ℕ) → (ℕ → ℕ) → Type 0
 HasWanted None shape head body = ⊤
 HasWanted (Some library) One head body = ⊥
 HasWanted (Some library) (Two size) head body = HasLibrary (Two size) head body library
 
 -- it is in format 1
-abbrev pub HasOldShape : Shape → (ℕ → ℕ) → (ℕ → ℕ) → Type 0
+abbrev pub HasOldShape : BankFormat → (ℕ → ℕ) → (ℕ → ℕ) → Type 0
 HasOldShape shape head body = shape ≡ One
 
 -- its bank has a head of format 1
@@ -143,10 +143,10 @@ pub record IsBeheaded (contents : List ℕ) (place : ℕ) : Type 0 where
   pub none : IsDamagedHead (head_place chosen) contents
 
 -- its bank has a head, begins in the given way, and its body is damaged at this place of the disk
-pub record IsSpoilt (Begins : Shape → (ℕ → ℕ) → (ℕ → ℕ) → Type 0) (contents : List ℕ) (place : ℕ) : Type 0 where
+pub record IsSpoilt (Begins : BankFormat → (ℕ → ℕ) → (ℕ → ℕ) → Type 0) (contents : List ℕ) (place : ℕ) : Type 0 where
   pub chosen : ℕ
   pub head : IsFormatted chosen contents
-  pub shape : Shape
+  pub shape : BankFormat
   pub room : disk_bytes shape ≤ length contents
   pub offset : ℕ
   pub there : place ≡ body_place shape chosen + offset
@@ -208,7 +208,7 @@ pub record CanBeBrought (bank : ℕ) (contents : List ℕ) : Type 0 where
   pub fits : FitsBank bank table
 
 -- The contents were such a store, and each image is one of format 2 with the same library and table.
-pub record IsBrought (bank : ℕ) (contents : List ℕ) (image : List ℕ → Type 0) : Type 0 where
+pub record IsMigrated (bank : ℕ) (contents : List ℕ) (image : List ℕ → Type 0) : Type 0 where
   pub was : CanBeBrought bank contents
   pub each : (c : List ℕ) → image c → IsStoreIn (Two bank) c was.library was.table
 

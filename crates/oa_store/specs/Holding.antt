@@ -37,7 +37,8 @@ KeepsCommitted batch held old new =
     (committed : TableValue) → IsLastCommitted batch held committed → AllHold old committed → AllHold new committed
 
 -- A call keeps what was committed, with the same library, and makes at most one checkpoint.
-pub record Carries {D : Type 0} {g : Ghosts D} (batch : List ℕ) (held : TableValue) (old new : Store D g) : Type 0 where
+pub record PreservesCommitted {D : Type 0} {g : Ghosts D} (batch : List ℕ) (held : TableValue)
+    (old new : Store D g) : Type 0 where
   pub any_moment : LeavesCommitted batch held old new
   pub each : new.stopped ≡ false → KeepsCommitted batch held old new
   pub library : new.library.items ≡ old.library.items
@@ -53,7 +54,7 @@ pub record MakesRoom {D T E : Type 0} {g : Ghosts D} (batch : List ℕ) (old new
 
 -- An atomic commit: whichever table the images are stores of, and whatever the events of the batch make of it, a
 -- crash leaves one or the other, and a store that has not stopped has the latter.
-pub record Commits {D : Type 0} {g : Ghosts D} (batch : List ℕ) (old new : Store D g) : Type 0 where
+pub record CommitsAtomically {D : Type 0} {g : Ghosts D} (batch : List ℕ) (old new : Store D g) : Type 0 where
   pub any_moment : (committed now : TableValue) → Replays batch committed now → AllHold old committed
       → LeavesEither old new committed now
   pub each : new.stopped ≡ false → (committed now : TableValue) → Replays batch committed now → AllHold old committed

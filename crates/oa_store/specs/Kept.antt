@@ -1,15 +1,15 @@
 -- A disk with a store of a table: of its library, and of the table without its locks. (This project's choice.)
 use Rattle.std.specs.Prelude.{◌⊎◌, ℕ, ◌-◌, ◌<◌, ◌≤◌, IsTrue, List, length}
 use Rattle.oa_disk.specs.declared.disk.Disk.{Ghosts}
-use Rattle.oa_disk.specs.Disk.{LeavesOnly}
-use Rattle.oa_journal.specs.declared.shape.Shape.{Shape}
+use Rattle.oa_disk.specs.Disk.{CrashInvariant}
+use Rattle.oa_journal.specs.declared.shape.BankFormat.{BankFormat}
 use Rattle.oa_journal.specs.Shapes.{ample_bytes, body_bytes}
 use Rattle.oa_store.specs.Stores.{IsStoreAt, IsStoreIn}
 use Rattle.oa_store.specs.declared.store.Store.{Store}
 use Rattle.oa_table.specs.Tables.{TableValue}
 
 -- each image is a store of this library and this table, in this bank
-abbrev pub EachIs : (List ℕ → Type 0) → Shape → ℕ → ℕ → List ℕ → TableValue → Type 0
+abbrev pub EachIs : (List ℕ → Type 0) → BankFormat → ℕ → ℕ → List ℕ → TableValue → Type 0
 EachIs image shape chosen gate library held = (c : List ℕ) → image c → IsStoreAt shape chosen gate library held c
 
 -- its disk is honest, and each image of it is a store of this table
@@ -21,12 +21,12 @@ AllHold {D} {g} store held =
 -- a crash at any point in time of a call leaves a store of this table, with the same format and library
 abbrev pub LeavesTable : {D : Type 0} {g : Ghosts D} → Store D g → Store D g → TableValue → Type 0
 LeavesTable {D} {g} old new held =
-    LeavesOnly g.moment g.image_since old.disk new.disk (λ c. IsStoreIn old.bank.shape c old.library.items held)
+    CrashInvariant g.moment g.image_since old.disk new.disk (λ c. IsStoreIn old.bank.shape c old.library.items held)
 
 -- or of one of two tables
 abbrev pub LeavesEither : {D : Type 0} {g : Ghosts D} → Store D g → Store D g → TableValue → TableValue → Type 0
 LeavesEither {D} {g} old new before after =
-    LeavesOnly g.moment g.image_since old.disk new.disk
+    CrashInvariant g.moment g.image_since old.disk new.disk
     (λ c. IsStoreIn old.bank.shape c old.library.items before ⊎ IsStoreIn old.bank.shape c old.library.items after)
 
 -- If the batch has events, the largest group fits into the bank in use.

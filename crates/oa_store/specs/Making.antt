@@ -4,7 +4,7 @@ use Rattle.oa_disk.specs.Disk.{Only}
 use Rattle.oa_disk.specs.declared.disk.Disk.{Ghosts}
 use Rattle.oa_image.specs.Tables.{is_numbered}
 use Rattle.oa_journal.specs.Reads.{WritesNothing}
-use Rattle.oa_journal.specs.declared.shape.Shape.TheVariants.{One, Two}
+use Rattle.oa_journal.specs.declared.shape.BankFormat.TheVariants.{One, Two}
 use Rattle.oa_journal.specs.Shapes.{disk_bytes}
 use Rattle.oa_store.specs.declared.fault.UpgradeFault.{UpgradeFault}
 use Rattle.oa_store.specs.declared.fault.UpgradeFault.TheVariants as upgrades

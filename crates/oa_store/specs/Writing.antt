@@ -15,7 +15,7 @@ use Rattle.oa_store.specs.declared.store.Store.{Store}
 use Rattle.oa_table.specs.Tables.{TableValue}
 
 -- What every call keeps: the rules of the device's failures, and the store's format.
-pub record Goes {D : Type 0} {g : Ghosts D} (old new : Store D g) : Type 0 where
+pub record DeviceFrame {D : Type 0} {g : Ghosts D} (old new : Store D g) : Type 0 where
   pub honest : g.is_honest new.disk ≡ g.is_honest old.disk
   pub size : g.size_of new.disk ≡ g.size_of old.disk
   pub failures : g.failures_of old.disk ≤ g.failures_of new.disk

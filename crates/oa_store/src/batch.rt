@@ -9,12 +9,12 @@ use std::marker::Model;
 
 /// The bytes of the events of a group, one after the other. A new batch has no memory.
 #[derive(Drop)]
-pub struct Batch {
+pub struct EventBatch {
     /// Empty, or four free bytes, the events, and one free byte.
     pub(crate) bytes: Vec<u8>,
 }
 
-impl Model for Batch {
+impl Model for EventBatch {
     ghost use Rattle.std.specs.Prelude.{◌≡◌, ◌⊎◌, ◌≤◌, List, ℕ, length};
     ghost use Rattle.oa_journal.specs.Append.{group_of};
 
@@ -25,12 +25,12 @@ impl Model for Batch {
     ghost invariant = { λ f. (length f.bytes.items ≡ 0) ⊎ (5 ≤ length f.bytes.items) };
 }
 
-impl Batch {
+impl EventBatch {
     /// Makes a batch without events. Allocates nothing.
-    pub fn new(alloc: Global) -> Batch
+    pub fn new(alloc: Global) -> EventBatch
         ensures { result ≡ [] }
     {
-        Batch {
+        EventBatch {
             bytes: Vec::new(alloc),
         }
     }

@@ -3,12 +3,12 @@ ghost use Rattle.std.specs.Prelude.{◌≡◌, ◌≢◌, ◌⊎◌, ◌+◌, �
 ghost use Rattle.std.specs.Prelude.{IsErrOf};
 ghost use Rattle.std.specs.Int.{div_ceil};
 ghost use Rattle.oa_disk.specs.After.{AfterAttempt, AfterWrites};
-ghost use Rattle.oa_disk.specs.Disk.{LeavesOnly, LeavesStep, Torn};
+ghost use Rattle.oa_disk.specs.Disk.{CrashInvariant, LeavesStep, Torn};
 ghost use Rattle.oa_model.specs.Limits.{max_library_bytes};
 ghost use Rattle.oa_table.specs.Tables.{first_table, unlocked_table};
 ghost use Rattle.oa_image.specs.Tables.{is_numbered};
 ghost use Rattle.oa_store.specs.declared.fault.FormatFault.{FormatFault};
-ghost use Rattle.oa_journal.specs.declared.shape.Shape.TheVariants.{Two};
+ghost use Rattle.oa_journal.specs.declared.shape.BankFormat.TheVariants.{Two};
 ghost use Rattle.oa_journal.specs.Shapes.{disk_bytes, least_bank_bytes, most_bank_bytes};
 ghost use Rattle.oa_store.specs.Stores.{IsStoreAt};
 ghost use Rattle.oa_store.specs.Calls.{format_calls};
@@ -20,7 +20,7 @@ use crate::FormatFault;
 use crate::head::{SELECTOR, buffer};
 use crate::reading::bank_of;
 use oa_disk::{DeviceFault, Disk, flip};
-use oa_journal::Shape;
+use oa_journal::BankFormat;
 use oa_table::Table;
 use std::alloc::Global;
 
@@ -52,13 +52,13 @@ fn fill<D: Disk>(
     requires fits { first_gate library.now table.now < size }
     requires numbered { is_numbered table.now ≡ true }
     ensures any_moment { IsTrue (D.is_honest disk.old) → ((c : List ℕ) → D.image disk.old c → slice_index c 0 ≡ 0)
-        → LeavesOnly D.moment D.image_since disk.old disk.new (λ c. (slice_index c 0 ≢ 1)
+        → CrashInvariant D.moment D.image_since disk.old disk.new (λ c. (slice_index c 0 ≢ 1)
         ⊎ HasBank size library.now (unlocked_table table.now) (first_gate library.now table.now) c) }
     ensures done { OnOk result (IsTrue (D.is_honest disk.old) → (c : List ℕ) → D.image disk.new c
         → HasBank size library.now (unlocked_table table.now) (first_gate library.now table.now) c × (slice_index c 0 ≡ 1)) }
     ensures after { AfterWrites D.Disk (5 + div_ceil (1 + first_gate library.now table.now) (length buffer.old)) disk.old disk.new result }
 {
-    bank_of(Shape::Two(size), 0).start(disk, buffer, library, table)?;
+    bank_of(BankFormat::Two(size), 0).start(disk, buffer, library, table)?;
     disk.write_at(SELECTOR, &[0])?;
     flip(disk, 0, 1)
 }
@@ -79,14 +79,14 @@ pub fn format<D: Disk>(
     requires most { size ≤ most_bank_bytes }
 
     ensures any_moment { IsTrue (D.is_honest disk.old)
-        → LeavesOnly D.moment D.image_since disk.old disk.new (IsFormatting size (D.image disk.old) library.now) }
+        → CrashInvariant D.moment D.image_since disk.old disk.new (IsFormatting size (D.image disk.old) library.now) }
     ensures done { OnOk result (IsTrue (D.is_honest disk.old) → (c : List ℕ) → D.image disk.new c
         → IsStoreAt (Two size) 0 (first_gate library.now first_table) library.now first_table c) }
     ensures small { RefusesSmall D.Disk FormatFault.TooSmall size disk.old disk.new result }
     ensures memory { IsErrOf result FormatFault.Memory → disk.new ≡ disk.old }
     ensures after { AfterAttempt D.Disk FormatFault.Device (format_calls library.now) disk.old disk.new result }
 {
-    if disk.size() < Shape::Two(size).disk_bytes() {
+    if disk.size() < BankFormat::Two(size).disk_bytes() {
         return Err(FormatFault::TooSmall);
     }
     let Ok(mut buffer) = buffer(alloc) else {

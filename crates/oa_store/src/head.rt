@@ -14,7 +14,7 @@ ghost use Rattle.oa_store.specs.Stores.{store_bytes, body_place, head_place};
 
 use crate::fault::FindFault;
 use oa_disk::{DeviceFault, Disk};
-use oa_journal::{FORMAT_ONE_BODY_BYTES, FORMAT_ONE_BYTES, Head, Shape, read_head};
+use oa_journal::{BankFormat, BankHead, FORMAT_ONE_BODY_BYTES, FORMAT_ONE_BYTES, read_head};
 use oa_model::MAX_LIBRARY_BYTES;
 use std::alloc::{AllocError, Global};
 
@@ -60,7 +60,7 @@ pub(crate) fn head_place(bank: u8) -> u64
 }
 
 /// Returns the place of the body of bank 0 or 1, in bytes from the start of the disk.
-pub(crate) fn body_place(shape: Shape, bank: u8) -> u64
+pub(crate) fn body_place(shape: BankFormat, bank: u8) -> u64
     requires two { bank < 2 }
     requires known { IsShape shape }
     ensures value { result ≡ body_place shape bank }
@@ -68,8 +68,8 @@ pub(crate) fn body_place(shape: Shape, bank: u8) -> u64
     ensures behind { head_place bank + 32 ≤ result }
 {
     match shape {
-        Shape::One => FIRST_HEAD + 32 + u64::from(bank) * NEXT_HEAD,
-        Shape::Two(size) => FORMAT_ONE_BYTES + u64::from(bank) * u64::from(size),
+        BankFormat::One => FIRST_HEAD + 32 + u64::from(bank) * NEXT_HEAD,
+        BankFormat::Two(size) => FORMAT_ONE_BYTES + u64::from(bank) * u64::from(size),
     }
 }
 
@@ -114,7 +114,7 @@ pub(crate) fn find_bank<D: Disk>(disk: &mut D) -> Result<u8, FindFault>
 
 /// Returns the number of the bank in use, 0 or 1, and its head. Errors are those of `find_bank`,
 /// and `Damaged` for the head.
-pub(crate) fn find_head<D: Disk>(disk: &mut D) -> Result<(u8, Head), FindFault>
+pub(crate) fn find_head<D: Disk>(disk: &mut D) -> Result<(u8, BankHead), FindFault>
     ensures found { IfOk result (λ r. FindsChosen D.Disk r.0 r.1 disk.old disk.new) }
     ensures refused { IfErr result (λ e. RefusesChosen D.Disk disk.old disk.new e) }
     ensures memory { IsErrOf result FindFault.Memory → ⊥ }
@@ -134,7 +134,7 @@ pub(crate) struct Room {
     /// The number of the bank in use, 0 or 1.
     pub chosen: u8,
     /// The head of that bank.
-    pub head: Head,
+    pub head: BankHead,
     /// The buffer through which banks are written and read.
     pub buffer: Vec<u8>,
     /// Empty, with capacity for any library.

@@ -3,9 +3,9 @@
 //!
 //! Contract: `Store::open` returns the one table that the contents are a store of (`IsStore`). A
 //! crash in `commit`, `checkpoint` or `upgrade` leaves a store of the table before or after.
-//! `Batch` holds the events of a group, which are committed together.
+//! `EventBatch` holds the events of a group, which are committed together.
 //!
-//! Used by oa_groups and oa_server, and by format, upgrade and dump of the program.
+//! Used by oa_group_commit and oa_server, and by format, upgrade and dump of the program.
 #![tactic(auto)]
 
 mod batch;
@@ -19,8 +19,8 @@ mod store;
 mod switching;
 mod upgrading;
 
-pub use batch::Batch;
-pub use committing::{commit, make_room};
+pub use batch::EventBatch;
+pub use committing::{checkpoint_if_due, commit};
 pub use fault::{DeviceFailed, FormatFault, OpenFault, UpgradeFault, WriteFault};
 pub use formatting::format;
 pub use reading::inspect;

@@ -14,7 +14,7 @@ ghost use Rattle.oa_store.specs.Stores.{body_place, head_place, BankWithin};
 use crate::OpenFault;
 use crate::head::{Room, body_place, buffer, find_head, find_room, head_place};
 use oa_disk::Disk;
-use oa_journal::{Bank, BankFault, Shape};
+use oa_journal::{Bank, BankFault, BankFormat};
 use oa_table::Table;
 use std::alloc::Global;
 
@@ -41,7 +41,7 @@ fn same(one: &[u8], other: &[u8]) -> bool
 }
 
 /// Returns the bank with this number, 0 or 1, of a store of that format.
-pub(crate) fn bank_of(shape: Shape, number: u8) -> Bank
+pub(crate) fn bank_of(shape: BankFormat, number: u8) -> Bank
     requires two { number < 2 }
     requires known { IsShape shape }
     ensures { IsAt shape (head_place number) (body_place shape number) (body_bytes shape - 1) false result }
@@ -67,7 +67,7 @@ pub(crate) fn find_store<D: Disk>(
     ensures after { AfterCalls D.Disk disk.old disk.new result }
 {
     let found = find_room(alloc, disk)?;
-    if let Shape::One = found.head.shape {
+    if let BankFormat::One = found.head.shape {
         return Err(OpenFault::OldFormat);
     }
     // (a head may give any length for its library, so the library is read only if the length is
@@ -103,7 +103,7 @@ pub(crate) fn look<D: Disk>(
     alloc: Global,
     disk: &mut D,
     chosen: u8,
-    shape: Shape,
+    shape: BankFormat,
     buffer: Vec<u8>,
 ) -> Result<(Vec<u8>, Table, Bank, Vec<u8>), BankFault>
     requires some { 5 ≤ length buffer.items }

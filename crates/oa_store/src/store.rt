@@ -47,7 +47,7 @@ pub struct Store<D: Disk> {
 impl<D: Disk> Store<D> {
     ghost use Rattle.oa_store.specs.declared.fault.WriteFault.{WriteFault};
     ghost use Rattle.oa_store.specs.Openings.{FindsStore, RefusesDisk, Starts};
-    ghost use Rattle.oa_store.specs.Writing.{AddsGroup, Goes, StopsAtFault, SwitchesBank};
+    ghost use Rattle.oa_store.specs.Writing.{AddsGroup, DeviceFrame, StopsAtFault, SwitchesBank};
 
     /// Opens the store of `library` on the disk, and returns it with its table, which has no locks.
     /// It writes nothing, and begins with a sync. An error returns the disk, too: `NotAStore`,
@@ -153,7 +153,7 @@ impl<D: Disk> Store<D> {
         ensures adds { AddsGroup batch.old self.old self.new result }
         ensures kept { group_of batch.new ≡ group_of batch.old }
         ensures stops { StopsAtFault self.old self.new result }
-        ensures goes { Goes self.old self.new }
+        ensures goes { DeviceFrame self.old self.new }
         // (at most four calls)
         ensures calls { IsTrue (D.is_honest self.old.disk) → D.moment self.new.disk ≤ D.moment self.old.disk + 8 }
     {
@@ -187,7 +187,7 @@ impl<D: Disk> Store<D> {
             self.old.disk self.new.disk result }
         ensures switches { SwitchesBank self.old.library.items table.now self.old self.new result }
         ensures stops { StopsAtFault self.old self.new result }
-        ensures goes { Goes self.old self.new }
+        ensures goes { DeviceFrame self.old self.new }
         ensures calls { IsTrue (D.is_honest self.old.disk)
             → D.moment self.new.disk ≤ D.moment self.old.disk + 2 * checkpoint_calls self.old.library.items table.now }
     {
@@ -231,7 +231,7 @@ impl<D: Disk> Store<D> {
             self.old.disk self.new.disk result }
         ensures switches { SwitchesBank library.now table.now self.old self.new result }
         ensures stops { StopsAtFault self.old self.new result }
-        ensures goes { Goes self.old self.new }
+        ensures goes { DeviceFrame self.old self.new }
         ensures calls { IsTrue (D.is_honest self.old.disk)
             → D.moment self.new.disk ≤ D.moment self.old.disk + 2 * checkpoint_calls library.now table.now }
     {

@@ -6,14 +6,14 @@ ghost use Rattle.oa_image.specs.Tables.{is_numbered};
 ghost use Rattle.oa_table.specs.Tables.{unlocked_table};
 ghost use Rattle.oa_journal.specs.Append.{IsAt};
 ghost use Rattle.oa_journal.specs.Banks.{first_gate};
-ghost use Rattle.oa_journal.specs.declared.shape.Shape.TheVariants.{Two};
+ghost use Rattle.oa_journal.specs.declared.shape.BankFormat.TheVariants.{Two};
 ghost use Rattle.oa_store.specs.Changes.{IsMove, IsMoved};
 ghost use Rattle.oa_store.specs.Stores.{body_place, head_place, BankWithin};
 
 use crate::head::SELECTOR;
 use crate::reading::bank_of;
 use oa_disk::{DeviceFault, Disk, flip};
-use oa_journal::{Bank, Shape};
+use oa_journal::{Bank, BankFormat};
 use oa_table::Table;
 
 /// Writes the bank that is not `chosen`, in format 2 with a body of `size` bytes: this library,
@@ -43,7 +43,7 @@ pub(crate) fn switch_to<D: Disk>(
     ensures after { AfterWrites D.Disk (4 + div_ceil (1 + first_gate library.now table.now) (length buffer.old)) disk.old disk.new result }
 {
     let other = 1 - chosen;
-    let mut bank = bank_of(Shape::Two(size), other);
+    let mut bank = bank_of(BankFormat::Two(size), other);
     bank.start(disk, buffer, library, table)?;
     flip(disk, SELECTOR, other)?;
     Ok(bank)

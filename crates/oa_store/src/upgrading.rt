@@ -6,11 +6,11 @@ ghost use Rattle.oa_image.specs.Tables.{FitsBank, is_numbered};
 ghost use Rattle.oa_model.specs.Limits.{max_library_bytes};
 ghost use Rattle.oa_journal.specs.Reads.{WritesNothing};
 ghost use Rattle.oa_journal.specs.Shapes.{disk_bytes, least_bank_bytes, most_bank_bytes};
-ghost use Rattle.oa_journal.specs.declared.shape.Shape.TheVariants.{Two};
+ghost use Rattle.oa_journal.specs.declared.shape.BankFormat.TheVariants.{Two};
 ghost use Rattle.oa_store.specs.declared.fault.UpgradeFault.{UpgradeFault};
 ghost use Rattle.oa_store.specs.Calls.{checkpoint_calls, piece_bytes};
 ghost use Rattle.oa_store.specs.Changes.{IsUpgrade};
-ghost use Rattle.oa_store.specs.Faults.{IsBrought};
+ghost use Rattle.oa_store.specs.Faults.{IsMigrated};
 ghost use Rattle.oa_store.specs.Making.{CallsForUpgrade, FindsFormatOne, RefusesReading, RefusesSmall, RefusesUpgrade};
 ghost use Rattle.oa_store.specs.Stores.{IsStoreIn};
 
@@ -20,7 +20,7 @@ use crate::reading::look;
 use crate::switching::switch_to;
 use oa_disk::{DeviceFault, Disk};
 use oa_image::fits_bank;
-use oa_journal::Shape;
+use oa_journal::BankFormat;
 use oa_model::MAX_LIBRARY_BYTES;
 use oa_table::Table;
 use std::alloc::Global;
@@ -50,7 +50,11 @@ impl OldStore {
     /// Reads the store of format 1 on the disk. It writes nothing, and begins with a sync. Errors
     /// are those of `upgrade` except `TooSmall`. `Damaged(0)`: the library is longer than a server
     /// accepts, or the table does not fit into a body of `size` bytes.
-    pub fn find<D: Disk>(alloc: Global, disk: &mut D, size: u32) -> Result<OldStore, UpgradeFault>
+    pub fn find_old_store<D: Disk>(
+        alloc: Global,
+        disk: &mut D,
+        size: u32,
+    ) -> Result<OldStore, UpgradeFault>
         requires { least_bank_bytes ≤ size }
         ensures found { IfOk result (FindsOld D.Disk size disk.old disk.new) }
         ensures refused { IfErr result (λ e. RefusesReading D.Disk size disk.old disk.new e) }
@@ -76,7 +80,7 @@ impl OldStore {
     /// Upgrades the store on a disk that holds it: the disk on which it was found, or a longer one.
     /// Library and table are written to the bank that is not in use, and the selector then names
     /// that bank. Reads and allocates nothing. Err: a write or a sync failed; no call follows it.
-    pub fn bring<D: Disk>(self, disk: &mut D) -> Result<(), DeviceFault>
+    pub fn migrate<D: Disk>(self, disk: &mut D) -> Result<(), DeviceFault>
         requires most { self.size ≤ most_bank_bytes }
         requires room { disk_bytes (Two self.size) ≤ D.size_of disk.old }
         requires held { IsTrue (D.is_honest disk.old) → HoldsOld D.Disk self disk.old }
@@ -113,7 +117,7 @@ fn find_old<D: Disk>(
     ensures most { IsTrue (D.is_honest disk.new) → D.moment disk.new ≤ D.moment disk.old + (20 + D.size_of disk.old) }
 {
     let (chosen, head) = find_head(disk)?;
-    if let Shape::Two(_) = head.shape {
+    if let BankFormat::Two(_) = head.shape {
         return Err(UpgradeFault::AlreadyNew);
     }
     let Ok(buffer) = buffer(alloc) else {
@@ -139,16 +143,16 @@ pub fn upgrade<D: Disk>(alloc: Global, disk: &mut D, size: u32) -> Result<(), Up
         → LeavesStep D.moment D.image_since D.image disk.old disk.new (IsUpgrade size) }
     // (and at `Ok` only in the new one, with the old contents, none of them larger than a server
     // accepts)
-    ensures done { OnOk result (IsTrue (D.is_honest disk.new) → IsBrought size (D.contents disk.old) (D.image disk.new)) }
+    ensures done { OnOk result (IsTrue (D.is_honest disk.new) → IsMigrated size (D.contents disk.old) (D.image disk.new)) }
     ensures small { RefusesSmall D.Disk UpgradeFault.TooSmall size disk.old disk.new result }
     ensures refused { IfErr result (λ e. RefusesUpgrade D.Disk size disk.old disk.new e) }
     ensures calls { OnOk result (IsTrue (D.is_honest disk.new) → CallsForUpgrade D.Disk disk.old disk.new) }
     ensures after { AfterCalls D.Disk disk.old disk.new result }
 {
-    if disk.size() < Shape::Two(size).disk_bytes() {
+    if disk.size() < BankFormat::Two(size).disk_bytes() {
         return Err(UpgradeFault::TooSmall);
     }
-    let old = OldStore::find(alloc, disk, size)?;
-    old.bring(disk).map_err(UpgradeFault::Device)?;
+    let old = OldStore::find_old_store(alloc, disk, size)?;
+    old.migrate(disk).map_err(UpgradeFault::Device)?;
     Ok(())
 }

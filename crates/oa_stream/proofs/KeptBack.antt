@@ -3,7 +3,7 @@ use Rattle.std.proofs.Common.{◌≡◌, ℕ, ◌+◌, List, [], ◌++◌, Resul
 use Rattle.std.proofs.lemmas.List.{append-nil, length-append}
 use Rattle.oa_stream.specs.declared.sink.Unwritten.{Unwritten}
 use Rattle.oa_stream.specs.Sink.{Output, Writes, Breaks, Puts, Delivers}
-use Rattle.oa_stream.specs.Behind.{with_back}
+use Rattle.oa_stream.specs.BufferedSink.{with_back}
 use Rattle.oa_stream.proofs.Stretches.{writes_then, breaks_after}
 
 -- what was kept back and these bytes went to the writer in part, and the others are kept back now

@@ -1,6 +1,6 @@
 //! A buffer between a reader and its caller.
 ghost use Rattle.std.specs.Prelude.{◌≡◌, ◌≤◌, ◌-◌, ◌++◌, [], false, length, drop, take, IfOk};
-ghost use Rattle.oa_stream.specs.Ahead.{TakesAhead, Waits, ahead, passed, read_ahead};
+ghost use Rattle.oa_stream.specs.BufferedSource.{TakesAhead, Waits, ahead, passed, read_ahead};
 ghost use Rattle.oa_stream.specs.Sink.{IsHandedOn};
 
 use crate::stretch::Front;
@@ -25,18 +25,18 @@ pub enum More {
 /// In contracts its input is that of the reader with the buffered bytes in front; it is steady if
 /// the reader is.
 #[derive(Drop)]
-pub struct Ahead<R> {
+pub struct BufferedSource<R> {
     reader: R,
     front: Front,
 }
 
-impl<R: Source + Drop> Ahead<R> {
+impl<R: Source + Drop> BufferedSource<R> {
     /// Makes a reader with an empty buffer. Err: the allocation of 8,192 bytes failed.
-    pub fn new(alloc: Global, reader: R) -> Result<Ahead<R>, AllocError>
+    pub fn new(alloc: Global, reader: R) -> Result<BufferedSource<R>, AllocError>
         ensures { IfOk result (λ a. (a.reader ≡ reader) × (read_ahead a ≡ [])) }
     {
         let front = Front::new(alloc)?;
-        Ok(Ahead { reader, front })
+        Ok(BufferedSource { reader, front })
     }
 
     /// Returns the buffered bytes.

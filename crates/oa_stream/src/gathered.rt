@@ -8,18 +8,18 @@ use crate::{Sink, Unwritten};
 /// A vector that accepts bytes while they fit or allocations succeed. It keeps nothing back, and
 /// remembers a failure.
 #[derive(Drop)]
-pub struct Gathered {
+pub struct VecSink {
     bytes: Vec<u8>,
     broken: bool,
 }
 
-impl Gathered {
+impl VecSink {
     /// Makes a writer that appends to `bytes`.
-    pub fn new(bytes: Vec<u8>) -> Gathered
+    pub fn new(bytes: Vec<u8>) -> VecSink
         ensures bytes { result.bytes ≡ bytes }
         ensures unbroken { result.broken ≡ false }
     {
-        Gathered {
+        VecSink {
             bytes,
             broken: false,
         }
@@ -33,7 +33,7 @@ impl Gathered {
     }
 }
 
-impl Sink for Gathered {
+impl Sink for VecSink {
     ghost out = { gathered_output };
 
     ghost keeps = { λ _. le_refl 0 };

@@ -17,12 +17,12 @@ mod sink;
 mod source;
 mod stretch;
 
-pub use ahead::{Ahead, More};
-pub use behind::Behind;
-pub use cutting::Cutting;
-pub use gathered::Gathered;
-pub use inlet::Inlet;
+pub use ahead::{BufferedSource, More};
+pub use behind::BufferedSink;
+pub use cutting::ChunkedSource;
+pub use gathered::VecSink;
+pub use inlet::StdSource;
 pub use interrupted::Interrupted;
-pub use outlet::Outlet;
+pub use outlet::StdSink;
 pub use sink::{Sink, Unwritten};
 pub use source::{Next, Source};

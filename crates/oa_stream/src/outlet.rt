@@ -1,7 +1,7 @@
 //! Writers of the standard library.
 ghost use Rattle.std.specs.Prelude.{◌≡◌, ◌⊎◌, ◌<◌, ◌≤◌, [], true, false, IsErr, length};
 ghost use Rattle.std.proofs.Common.{le_refl};
-ghost use Rattle.oa_stream.specs.Outlet.{Flushes, Took, Tried, most_tries, outlet};
+ghost use Rattle.oa_stream.specs.StdSink.{Flushes, Took, Tried, most_tries, outlet};
 ghost use Rattle.oa_stream.specs.Sink.{Delivers, Puts};
 
 use crate::{Sink, Unwritten};
@@ -25,7 +25,7 @@ pub(crate) enum Taken {
 /// whether it needs a flush, whether a call has failed, and how many calls were interrupted since
 /// the last put or delivery.
 #[derive(Drop)]
-pub struct Outlet<W> {
+pub struct StdSink<W> {
     writer: W,
     flushed: bool,
     broken: bool,
@@ -33,15 +33,15 @@ pub struct Outlet<W> {
     tries: usize,
 }
 
-impl<W: Write> Outlet<W> {
+impl<W: Write> StdSink<W> {
     /// Makes a writer to which nothing has been written.
-    pub fn new(writer: W) -> Outlet<W>
+    pub fn new(writer: W) -> StdSink<W>
         ensures output { outlet W.contents result
             ≡ record { reached = W.contents writer; kept = []; flushed = true; back = 0; room = 0; broken = false } }
         ensures failed { result.failed ≡ false }
         ensures tries { result.tries ≡ 0 }
     {
-        Outlet {
+        StdSink {
             writer,
             flushed: true,
             broken: false,
@@ -115,7 +115,7 @@ impl<W: Write> Outlet<W> {
 
 // Both loops repeat an interrupted call. Every other call of `put` writes at least one byte, so no
 // loop reaches its limit.
-impl<W: Write> Sink for Outlet<W> {
+impl<W: Write> Sink for StdSink<W> {
     ghost out = { outlet W.contents };
 
     ghost keeps = { λ _. le_refl 0 };

@@ -24,7 +24,7 @@ use Rattle.oa_array.proofs.Fills.{kept_is}
 use Rattle.oa_model.specs.Limits.{greatest_object_number, max_cell_locks, max_cells}
 use Rattle.std.proofs.lemmas.Bool.{eq-eqb, false_from_ne_true, le-leb, le-ltb}
 use Rattle.oa_model.specs.declared.var_type.VarType.{VarType}
-use Rattle.oa_layout.specs.Lengths.{element_size, value_size}
+use Rattle.oa_formats.specs.Lengths.{element_size, value_size}
 use Rattle.oa_variant.specs.Scalars.{fits_type, zero_of}
 use Rattle.oa_variant.specs.declared.scalar.Scalar.{Scalar}
 use Rattle.oa_variant.specs.declared.variant.Variant.{Variant}

@@ -4,7 +4,7 @@
 //! Contract: `apply` of an event results in the one new table (`applied`), or returns the reason
 //! why the event does not apply, or out of memory with nothing changed.
 //!
-//! Used by oa_image, which encodes it; by oa_keeps, oa_decision and oa_turn; and by the storage
+//! Used by oa_image, which encodes it; by oa_compat, oa_decision and oa_turn; and by the storage
 //! crates, whose stores contain such tables.
 #![tactic(auto)]
 

@@ -3,7 +3,7 @@ ghost use Rattle.std.specs.Prelude.{◌≡◌, ◌≤◌, ◌+◌, [], None, Ok,
 ghost use Rattle.std.specs.List.Sorted.{IsStrictlySortedBy};
 ghost use Rattle.std.specs.Map.{keys_of};
 ghost use Rattle.std.specs.Option.{option_map};
-ghost use Rattle.oa_layout.specs.Lengths.{value_size};
+ghost use Rattle.oa_formats.specs.Lengths.{value_size};
 ghost use Rattle.oa_table.specs.Elements.{with_element_put, locked_value, redimensioned_value, released_value};
 ghost use Rattle.oa_table.specs.Objects.{any_locked, locks_of_cell, with_change, with_put};
 ghost use Rattle.oa_table.specs.Outcomes.{CountsLocks, Does};
@@ -188,7 +188,7 @@ impl LiveObject {
     /// Overwrites a cell that was put before, and returns the difference in size. Err: there is no
     /// such cell, it is above the limits of `room`, or it is locked; the value is returned, and
     /// nothing changes. Allocates nothing.
-    pub(crate) fn put_again(
+    pub(crate) fn overwrite(
         &mut self,
         place: &Place,
         value: Variant,

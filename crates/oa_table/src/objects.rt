@@ -4,7 +4,7 @@ ghost use Rattle.std.specs.List.Sorted.{IsStrictlySortedBy};
 ghost use Rattle.std.specs.Map.{keys_of};
 ghost use Rattle.std.specs.Option.{option_map};
 ghost use Rattle.std.specs.Ordering.{nat_cmp};
-ghost use Rattle.oa_layout.specs.Lengths.{value_size};
+ghost use Rattle.oa_formats.specs.Lengths.{value_size};
 ghost use Rattle.oa_table.specs.Events.{BringsNoLocks, applied};
 ghost use Rattle.oa_table.specs.Locks.{locked_in, locks_at, with_lock, without_lock};
 ghost use Rattle.oa_table.specs.Memory.{MayWantMemory};
@@ -229,7 +229,7 @@ impl Objects {
     /// such cell, it is above the limits of `room`, or it is locked; the value is returned, and
     /// nothing changes. Allocates nothing.
     #[inline(always)]
-    pub(crate) fn put_again(
+    pub(crate) fn overwrite(
         &mut self,
         name: &CellName,
         value: Variant,
@@ -249,7 +249,7 @@ impl Objects {
         let Some(found) = self.objects.get_mut_near(&name.object, near(name.object)) else {
             return Err(value);
         };
-        found.put_again(&name.place, value, room)
+        found.overwrite(&name.place, value, room)
     }
 
     /// Sets an element of the array in a cell. Err: `NoObject`, `NotArray`, or what the array

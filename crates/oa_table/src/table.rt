@@ -4,7 +4,7 @@ ghost use Rattle.std.specs.List.Sorted.{IsStrictlySortedBy};
 ghost use Rattle.std.specs.Map.{keys_of};
 ghost use Rattle.std.specs.Option.{option_map};
 ghost use Rattle.std.specs.Ordering.{nat_cmp};
-ghost use Rattle.oa_layout.specs.Lengths.{value_size};
+ghost use Rattle.oa_formats.specs.Lengths.{value_size};
 ghost use Rattle.oa_table.specs.Elements.{locks_of};
 ghost use Rattle.oa_table.specs.Events.{BringsNoLocks, applied};
 ghost use Rattle.oa_table.specs.Locks.{locked_in, locks_at, with_lock, without_lock};
@@ -295,7 +295,7 @@ impl Table {
         ensures starved { IfErr result (λ e. e.1 ≡ TableFault.Memory → MayWantMemory (Event.Put name value) self.old) }
     {
         // Most puts overwrite a value: these have no event to return.
-        let value = match self.put_again(&name, value, u64::MAX, LARGEST_IMAGE) {
+        let value = match self.overwrite(&name, value, u64::MAX, LARGEST_IMAGE) {
             Ok(()) => return Ok(()),
             Err(value) => value,
         };
@@ -316,7 +316,7 @@ impl Table {
     /// Overwrites a cell that was put before. The new value's image must have at most `longest`
     /// bytes, and the table's image then at most `most` bytes. Otherwise (no such cell, too long,
     /// locked) it returns the value as the error, and nothing changes. Allocates nothing.
-    pub fn put_again(
+    pub fn overwrite(
         &mut self,
         name: &CellName,
         value: Variant,
@@ -336,7 +336,7 @@ impl Table {
             size: self.size,
             most,
         };
-        match self.objects.put_again(name, value, room) {
+        match self.objects.overwrite(name, value, room) {
             Ok(Difference { gone, come }) => {
                 self.size = self.size + come - gone;
                 Ok(())

@@ -1,7 +1,7 @@
 //! Changes of the value in a cell.
 ghost use Rattle.std.specs.Prelude.{◌≡◌, ◌≤◌, ◌+◌, Ok, IfOk, IfErr, OnErr, OnOk};
 ghost use Rattle.oa_variant.specs.declared.variant.Variant.TheVariants as variants;
-ghost use Rattle.oa_layout.specs.Lengths.{max_value_image, value_size};
+ghost use Rattle.oa_formats.specs.Lengths.{max_value_image, value_size};
 ghost use Rattle.oa_table.specs.Elements.{with_element_put, locked_value, locks_of, of_array, redimensioned_value, released_value};
 ghost use Rattle.oa_table.specs.Elements.{replaced_value};
 ghost use Rattle.oa_table.specs.Outcomes.{CountsLocks, Does};

@@ -12,7 +12,7 @@ use Rattle.oa_tokens.specs.declared.lexer.TokenKind.TheVariants as kinds
 use Rattle.oa_tokens.specs.declared.lexer.Token.{Token}
 use Rattle.oa_tokens.specs.declared.lexer.Piece.{Piece}
 use Rattle.oa_tokens.specs.declared.lexer.Piece.TheVariants.{Word, Gap}
-use Rattle.oa_tokens.specs.Bytes.{is_in, run, end_from, one_more, closes, marks, EndsInside, group, is_guid}
+use Rattle.oa_tokens.specs.Bytes.{is_in, run, end_from, incremented, closes, marks, EndsInside, group, is_guid}
 use Rattle.oa_tokens.specs.Tokens.{closed, front, AreTokens, IsPiece, AreInOrder}
 use Rattle.oa_tokens.specs.Tokens.AreTokens.{End, Apart, Next, Rest}
 
@@ -32,7 +32,7 @@ unfolding end_from
 end_within close marked [] = tt
 end_within close marked (b ∷ bs) = by_test (closes close marked b) (end_from close (marks close marked b) bs) (length bs) (end_within close (marks close marked b) bs)
   where
-    by_test : (is : Bool) (o : Option ℕ) (m : ℕ) → EndsInside o m → EndsInside (if is then Some 1 else one_more o) (suc m)
+    by_test : (is : Bool) (o : Option ℕ) (m : ℕ) → EndsInside o m → EndsInside (if is then Some 1 else incremented o) (suc m)
     by_test true o m le = omega arith
     by_test false None m le = tt
     by_test false (Some n) m le = omega (arith, le)

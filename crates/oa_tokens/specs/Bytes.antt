@@ -34,15 +34,15 @@ marks Quote marked b = not marked && b == 92
 marks Comment marked b = b == 42
 
 -- One more, if there is a number.
-abbrev pub one_more : Option ℕ → Option ℕ
-one_more None = None
-one_more (Some n) = Some (suc n)
+abbrev pub incremented : Option ℕ → Option ℕ
+incremented None = None
+incremented (Some n) = Some (suc n)
 
 -- The number of bytes up to and including the one that ends the string or comment.
 unfoldable pub end_from : Close → Bool → List ℕ → Option ℕ
 end_from close marked [] = None
 end_from close marked (b ∷ bs) = if closes close marked b then Some 1
-    else one_more (end_from close (marks close marked b) bs)
+    else incremented (end_from close (marks close marked b) bs)
 
 -- The number is at most the length.
 abbrev pub EndsInside : Option ℕ → ℕ → Type 0

@@ -4,7 +4,7 @@
 //! Contract: `tokens` returns the one list of tokens of a text (`AreTokens`), each with its
 //! position. Bytes that form no token are a last token, so that each text has such a list.
 //!
-//! Used by oa_idl, whose grammar is over tokens, and by oa_canonical, which proves that its texts
+//! Used by oa_idl, whose grammar is over tokens, and by oa_printer, which proves that its texts
 //! have the intended tokens.
 #![tactic(auto)]
 

@@ -12,9 +12,9 @@ use Rattle.oa_image.specs.Tables.{is_numbered, objects, table as a_table, table_
 use Rattle.oa_image.proofs.Numbered.{numbers_stay, unlocked_numbers}
 use Rattle.oa_image.proofs.Sized.{event_sized, table_sized}
 use Rattle.oa_image.proofs.TablesWithImages.{same_table}
-use Rattle.oa_layout.specs.Formats.{only, made_where, counted, coded, next_by, times, raw}
-use Rattle.oa_layout.specs.Lengths.{value_size}
-use Rattle.oa_layout.specs.Numbers.{u32}
+use Rattle.oa_formats.specs.Formats.{only, made_where, counted, coded, next_by, times, raw}
+use Rattle.oa_formats.specs.Lengths.{value_size}
+use Rattle.oa_formats.specs.Numbers.{u32}
 use Rattle.oa_variant.specs.declared.variant.Variant.{Variant}
 use Rattle.oa_turn.proofs.Relocked.{lock_stays, unlock_stays}
 use Rattle.oa_model.specs.declared.hresult.HResult.{HResult}

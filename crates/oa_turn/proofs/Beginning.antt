@@ -19,8 +19,8 @@ use Rattle.oa_turn.specs.Beginnings.{CanBegin}
 use Rattle.oa_turn.proofs.SameLibrary.{turn_bank}
 use Rattle.oa_decision.specs.States.{State}
 use Rattle.oa_decision.specs.Decided.{decided}
-use Rattle.oa_keeps.specs.Keeps.{first_lost}
-use Rattle.oa_keeps.specs.declared.lost.Lost.{Lost}
+use Rattle.oa_compat.specs.Keeps.{first_lost}
+use Rattle.oa_compat.specs.declared.lost.Incompatibility.{Incompatibility}
 use Rattle.oa_turn.specs.Replacing.{Replacement, after_replacement}
 use Rattle.oa_turn.specs.Turns.{Ordinary, Turn}
 use Rattle.oa_turn.proofs.Allowed.{first_sound, relock_sound, stays_sound}
@@ -66,7 +66,7 @@ ordinary_sound old new body reply (inr (inr (inl s))) was = subst (λ (x : State
 ordinary_sound old new body reply (inr (inr (inr s))) was = subst (λ (x : State). IsSoundTable old.bank x.table) (sym s.leaves) was
 
 -- a replacement carries the table
-same_table_after : (old : State) (library : TreeValue) (lost : Option Lost) → (after_replacement old library lost).table ≡ old.table
+same_table_after : (old : State) (library : TreeValue) (lost : Option Incompatibility) → (after_replacement old library lost).table ≡ old.table
 same_table_after old library None = refl
 same_table_after old library (Some lost) = refl
 

@@ -22,7 +22,7 @@ use Rattle.oa_coerce.specs.declared.fault.CoerceFault.{CoerceFault}
 use Rattle.oa_coerce.proofs.Computed.{answer_scalar, answer_value}
 use Rattle.oa_coerce.proofs.Properties.{answer_fits, scalar_fits}
 use Rattle.oa_typelib.specs.Bindable.{AreScalars, IsBindable, IsOne}
-use Rattle.oa_checks.specs.Defaults.{default_of, number_as, text_as, truth_as, wide}
+use Rattle.oa_sema.specs.Defaults.{default_of, number_as, text_as, truth_as, wide}
 use Rattle.oa_typelib.specs.MemberValues.{MemberValue}
 use Rattle.oa_typelib.specs.declared.access.Kind.{Kind}
 use Rattle.oa_typelib.specs.declared.access.Kind.TheVariants.{Get, Put}
@@ -30,10 +30,10 @@ use Rattle.oa_bind.specs.declared.fault.BindFault.{BindFault}
 use Rattle.oa_bind.specs.Bindings.{bound_call, bound_to, given_new_value, new_value_of, parameter_value, scalar_type, told_of_argument, value_by_argument, value_of_parameter}
 use Rattle.oa_bind.specs.Bindings.{without_default}
 use Rattle.oa_bind.specs.Calls.{BoundCallValue}
-use Rattle.oa_bind.specs.Given.{Given, argument_for, at, argument_index, new_value_id}
+use Rattle.oa_bind.specs.Given.{Given, argument_for, given_argument, argument_index, new_value_id}
 use Rattle.oa_bind.specs.Names.{complete, well_named}
 use Rattle.oa_bind.specs.Refusals.{◌>>=◌, each_at}
-use Rattle.oa_keeps.specs.Fits.{key_fits}
+use Rattle.oa_compat.specs.Fits.{key_fits}
 use Rattle.oa_decision.proofs.Keys.{if_both}
 
 -- ---- defaults
@@ -120,8 +120,8 @@ unfolding each_at
 key_made call place [] ones = refl
 key_made call place (p ∷ ps) ones =
     if_both _ (parameter_value call place p) _ (λ s here. if_both _ (each_at (parameter_value call) (place + 1) ps) _ (λ ss rest.
-    let first : fits_declared (One s) p.value_type ≡ true = rw here at (parameter_fits p (argument_for call place) ones.0) in
-    let others : key_fits ps ss ≡ true = rw rest at (key_made call (place + 1) ps ones.1) in
+    let first : fits_declared (One s) p.value_type ≡ true = rw here given_argument (parameter_fits p (argument_for call place) ones.0) in
+    let others : key_fits ps ss ≡ true = rw rest given_argument (key_made call (place + 1) ps ones.1) in
     and_from (fits_declared (One s) p.value_type) (key_fits ps ss) first others))
 
 -- ---- the new value of a put
@@ -146,7 +146,7 @@ new_made declared (Some i) (Some argument) = by (told_of_argument i (coerced arg
 
 new_fits : (call : Given) (declared : ValueType) (kind : Kind) → IfOk (given_new_value call declared kind) (FitsValue declared)
 new_fits call declared Get = tt
-new_fits call declared Put = let i = argument_index call.named (length call.arguments) new_value_id in new_made declared i (at i call.arguments)
+new_fits call declared Put = let i = argument_index call.named (length call.arguments) new_value_id in new_made declared i (given_argument i call.arguments)
 
 -- ---- the call
 pub record FitsMember (member : MemberValue) (call : BoundCallValue) : Type 0 where
@@ -161,6 +161,6 @@ bound_fits member kind call is =
     if_both (FitsMember member) (each_at (parameter_value call) 0 member.parameters) _ (λ key keyed.
     if_both (FitsMember member) (given_new_value call member.value_type kind) _ (λ value valued.
     record {
-      key = rw keyed at (key_made call 0 member.parameters is.scalars);
-      value = rw valued at (new_fits call member.value_type kind);
+      key = rw keyed given_argument (key_made call 0 member.parameters is.scalars);
+      value = rw valued given_argument (new_fits call member.value_type kind);
     }))))

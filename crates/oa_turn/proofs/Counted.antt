@@ -17,7 +17,7 @@ use Rattle.oa_model.specs.Limits.{greatest_object_number, max_cell_locks, max_ce
 use Rattle.oa_model.specs.declared.bound.Bound.{Bound}
 use Rattle.oa_turn.proofs.CellOrder.{cell_laws, is_equal}
 use Rattle.oa_turn.specs.ClientLocks.{ClientLock, cell_cmp, cells_of, is_cell, is_lock_of, lock_cmp, of_others, owns, with_one, without_first, without_one}
-use Rattle.oa_turn.specs.Counts.{HasLocks, count_in, name_of}
+use Rattle.oa_turn.specs.Counts.{HasLocks, count_in, locked_name}
 use Rattle.std.proofs.lemmas.Map.Steps.{set_value_same}
 use Rattle.oa_turn.proofs.Finding.{found_again, found_put, found_set, same_found, set_twice, sorted_put, sorted_removed}
 use Rattle.oa_array.specs.Arrays.{redimensioned, with_cell, with_first, with_locks}
@@ -441,7 +441,7 @@ pub has_same : (one two : List CellName) (table : TableValue) → ((name : CellN
 has_same one two table same has name = has name ∙ same name
 
 -- one lock more
-pub count_more_of : (name : CellName) (locks : List ClientLock) (client : ℕ) (own : CellName) → count_in name (own ∷ map name_of locks) ≡ count_in name (map name_of (with_one client own locks))
+pub count_more_of : (name : CellName) (locks : List ClientLock) (client : ℕ) (own : CellName) → count_in name (own ∷ map locked_name locks) ≡ count_in name (map locked_name (with_one client own locks))
 count_more_of name [] client own = refl
 count_more_of name (x ∷ locks) client own = by (lock_cmp new x) refl (count_more_of name locks client own)
   where
@@ -453,54 +453,54 @@ count_more_of name (x ∷ locks) client own = by (lock_cmp new x) refl (count_mo
     same_cell Equal p e = ap is_eq e
     same_cell Greater p e = absurd cc
 
-    by : (o : Ordering) → lock_cmp new x ≡ o → count_in name (own ∷ map name_of locks) ≡ count_in name (map name_of (with_one client own locks))
-        → count_in name (own ∷ x.name ∷ map name_of locks) ≡ count_in name (map name_of (match_ordering o (new ∷ x ∷ locks) (x ∷ x ∷ locks) (x ∷ with_one client own locks)))
+    by : (o : Ordering) → lock_cmp new x ≡ o → count_in name (own ∷ map locked_name locks) ≡ count_in name (map locked_name (with_one client own locks))
+        → count_in name (own ∷ x.name ∷ map locked_name locks) ≡ count_in name (map locked_name (match_ordering o (new ∷ x ∷ locks) (x ∷ x ∷ locks) (x ∷ with_one client own locks)))
     by Less e rest = refl
     by Equal e rest =
         let one : is_cell own x.name ≡ true = sym (is_equal own x.name) ∙ same_cell (nat_cmp client x.client) (cell_cmp own x.name) e in
-        count_first name own (x.name ∷ map name_of locks) ∙ ap (λ (b : Bool). one_if b + count_in name (x.name ∷ map name_of locks)) (same_cells own x.name name one)
-        ∙ sym (count_first name x.name (x.name ∷ map name_of locks))
+        count_first name own (x.name ∷ map locked_name locks) ∙ ap (λ (b : Bool). one_if b + count_in name (x.name ∷ map locked_name locks)) (same_cells own x.name name one)
+        ∙ sym (count_first name x.name (x.name ∷ map locked_name locks))
     by Greater e rest =
-        omega (arith, count_first name own (x.name ∷ map name_of locks), count_first name x.name (map name_of locks), count_first name x.name (map name_of (with_one client own locks)), rest, count_first name own (map name_of locks))
+        omega (arith, count_first name own (x.name ∷ map locked_name locks), count_first name x.name (map locked_name locks), count_first name x.name (map locked_name (with_one client own locks)), rest, count_first name own (map locked_name locks))
 
 -- those of a client, and of others
-pub count_owned : (name : CellName) (client : ℕ) (locks : List ClientLock) → count_in name (map name_of locks) ≡ count_in name (cells_of client locks ++ map name_of (of_others client locks))
+pub count_owned : (name : CellName) (client : ℕ) (locks : List ClientLock) → count_in name (map locked_name locks) ≡ count_in name (cells_of client locks ++ map locked_name (of_others client locks))
 unfolding cells_of
 count_owned name client [] = refl
 count_owned name client (lock ∷ locks) = by (lock.client == client) (count_owned name client locks)
   where
-    by : (b : Bool) → count_in name (map name_of locks) ≡ count_in name (cells_of client locks ++ map name_of (of_others client locks))
-        → count_in name (lock.name ∷ map name_of locks)
-        ≡ count_in name ((if b then lock.name ∷ cells_of client locks else cells_of client locks) ++ map name_of (if not b then lock ∷ of_others client locks else of_others client locks))
-    by true rest = omega (arith, count_first name lock.name (map name_of locks), count_first name lock.name (cells_of client locks ++ map name_of (of_others client locks)), rest)
+    by : (b : Bool) → count_in name (map locked_name locks) ≡ count_in name (cells_of client locks ++ map locked_name (of_others client locks))
+        → count_in name (lock.name ∷ map locked_name locks)
+        ≡ count_in name ((if b then lock.name ∷ cells_of client locks else cells_of client locks) ++ map locked_name (if not b then lock ∷ of_others client locks else of_others client locks))
+    by true rest = omega (arith, count_first name lock.name (map locked_name locks), count_first name lock.name (cells_of client locks ++ map locked_name (of_others client locks)), rest)
     by false rest =
         omega (
           arith,
-          count_first name lock.name (map name_of locks),
-          count_split name (cells_of client locks) (lock.name ∷ map name_of (of_others client locks)),
-          count_split name (cells_of client locks) (map name_of (of_others client locks)),
-          count_first name lock.name (map name_of (of_others client locks)),
+          count_first name lock.name (map locked_name locks),
+          count_split name (cells_of client locks) (lock.name ∷ map locked_name (of_others client locks)),
+          count_split name (cells_of client locks) (map locked_name (of_others client locks)),
+          count_first name lock.name (map locked_name (of_others client locks)),
           rest,
         )
 
 -- one lock fewer
-pub count_without : (other : CellName) (client : ℕ) (name : CellName) (locks : List ClientLock) → owns client name locks ≡ true → count_in other (map name_of locks) ≡ count_in other (name ∷ map name_of (without_one client name locks))
+pub count_without : (other : CellName) (client : ℕ) (name : CellName) (locks : List ClientLock) → owns client name locks ≡ true → count_in other (map locked_name locks) ≡ count_in other (name ∷ map locked_name (without_one client name locks))
 count_without other client name [] is = absurd (true≢false (sym is))
 count_without other client name (x ∷ xs) is = by (is_lock_of client name x) refl is (count_without other client name xs)
   where
-    by : (b : Bool) → is_lock_of client name x ≡ b → (b || owns client name xs) ≡ true → (owns client name xs ≡ true → count_in other (map name_of xs) ≡ count_in other (name ∷ map name_of (without_one client name xs)))
-        → count_in other (x.name ∷ map name_of xs) ≡ count_in other (name ∷ map name_of (if b then xs else x ∷ without_one client name xs))
+    by : (b : Bool) → is_lock_of client name x ≡ b → (b || owns client name xs) ≡ true → (owns client name xs ≡ true → count_in other (map locked_name xs) ≡ count_in other (name ∷ map locked_name (without_one client name xs)))
+        → count_in other (x.name ∷ map locked_name xs) ≡ count_in other (name ∷ map locked_name (if b then xs else x ∷ without_one client name xs))
     by true e now rest =
         let one : is_cell x.name name ≡ true = (and_parts (x.client == client) (is_cell x.name name) e).1 in
-        count_first other x.name (map name_of xs) ∙ ap (λ (b : Bool). one_if b + count_in other (map name_of xs)) (same_cells x.name name other one) ∙ sym (count_first other name (map name_of xs))
+        count_first other x.name (map locked_name xs) ∙ ap (λ (b : Bool). one_if b + count_in other (map locked_name xs)) (same_cells x.name name other one) ∙ sym (count_first other name (map locked_name xs))
     by false e now rest =
         omega (
           arith,
-          count_first other x.name (map name_of xs),
+          count_first other x.name (map locked_name xs),
           rest now,
-          count_first other name (map name_of (without_one client name xs)),
-          count_first other name (x.name ∷ map name_of (without_one client name xs)),
-          count_first other x.name (map name_of (without_one client name xs)),
+          count_first other name (map locked_name (without_one client name xs)),
+          count_first other name (x.name ∷ map locked_name (without_one client name xs)),
+          count_first other x.name (map locked_name (without_one client name xs)),
         )
 
 -- ---- where there is one client alone
@@ -514,16 +514,16 @@ own_head client x xs own = by (x.client == client) refl own
 own_more : (client : ℕ) (x : ClientLock) (xs : List ClientLock) → (x.client == client) ≡ true → of_others client xs ≡ [] → of_others client (x ∷ xs) ≡ []
 own_more client x xs e own = ap (λ (b : Bool). if not b then x ∷ of_others client xs else of_others client xs) e ∙ own
 
-pub count_of_none : (client : ℕ) (name : CellName) (locks : List ClientLock) → of_others client locks ≡ [] → owns client name locks ≡ false → count_in name (map name_of locks) ≡ 0
+pub count_of_none : (client : ℕ) (name : CellName) (locks : List ClientLock) → of_others client locks ≡ [] → owns client name locks ≡ false → count_in name (map locked_name locks) ≡ 0
 count_of_none client name [] alone none = count_none name
 count_of_none client name (x ∷ xs) alone none = by (is_cell x.name name) refl (ap (λ (b : Bool). (b && is_cell x.name name) || owns client name xs) (sym parts.0) ∙ none) (count_of_none client name xs parts.1)
   where
     parts : ((x.client == client) ≡ true) × (of_others client xs ≡ [])
     parts = own_head client x xs alone
 
-    by : (b : Bool) → is_cell x.name name ≡ b → (is_cell x.name name || owns client name xs) ≡ false → (owns client name xs ≡ false → count_in name (map name_of xs) ≡ 0) → count_in name (x.name ∷ map name_of xs) ≡ 0
+    by : (b : Bool) → is_cell x.name name ≡ b → (is_cell x.name name || owns client name xs) ≡ false → (owns client name xs ≡ false → count_in name (map locked_name xs) ≡ 0) → count_in name (x.name ∷ map locked_name xs) ≡ 0
     by true e now rest = absurd (true≢false (ap (λ (c : Bool). c || owns client name xs) (sym e) ∙ now))
-    by false e now rest = omega (arith, count_first name x.name (map name_of xs), ap one_if e, rest (ap (λ (c : Bool). c || owns client name xs) (sym e) ∙ now))
+    by false e now rest = omega (arith, count_first name x.name (map locked_name xs), ap one_if e, rest (ap (λ (c : Bool). c || owns client name xs) (sym e) ∙ now))
 
 pub own_one_more : (client : ℕ) (name : CellName) (locks : List ClientLock) → of_others client locks ≡ [] → of_others client (with_one client name locks) ≡ []
 own_one_more client name [] own = own_more client (record { client = client; name = name }) [] (eq-eqb client client refl) refl

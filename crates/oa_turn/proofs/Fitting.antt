@@ -19,9 +19,9 @@ use Rattle.oa_variant.specs.Variants.{fits_declared, unlocked, zero_value}
 use Rattle.oa_variant.specs.declared.variant.Variant.{Variant}
 use Rattle.oa_typelib.specs.Bindable.{AreSound, IsBindable, IsSoundItem}
 use Rattle.oa_typelib.specs.Checked.{IsChecked}
-use Rattle.oa_checks.specs.Declarations.{declarations}
-use Rattle.oa_checks.specs.Libraries.{as_interface, class_of, item_guid, has_interface, if_entered, interface_of, item_with, same}
-use Rattle.oa_checks.specs.Libraries.{selected_in}
+use Rattle.oa_sema.specs.Declarations.{declarations}
+use Rattle.oa_sema.specs.Libraries.{as_interface, class_of, item_guid, has_interface, if_entered, interface_of, item_with, same}
+use Rattle.oa_sema.specs.Libraries.{selected_in}
 use Rattle.oa_typelib.specs.MemberValues.{MemberValue}
 use Rattle.oa_typelib.specs.Members.{member_in, property_in}
 use Rattle.oa_typelib.specs.declared.access.Access.{Access}
@@ -47,10 +47,10 @@ use Rattle.oa_table.specs.Elements.{redimensioned_value}
 use Rattle.oa_table.specs.Events.{applied}
 use Rattle.oa_table.specs.Places.{PlaceValue}
 use Rattle.oa_table.specs.Tables.{ObjectValue, TableValue, class_in, object_at}
-use Rattle.oa_keeps.specs.Brings.{brings_fitting, put_fits}
-use Rattle.oa_keeps.specs.Fits.{entered, fits, key_fits}
-use Rattle.oa_keeps.proofs.Entered.{found_property, selected_entered}
-use Rattle.oa_keeps.proofs.Kept.{lock_kept, redim_leaves, unlock_kept, unlocked_alike}
+use Rattle.oa_compat.specs.Brings.{brings_fitting, put_fits}
+use Rattle.oa_compat.specs.Fits.{entered, fits, key_fits}
+use Rattle.oa_compat.proofs.Entered.{found_property, selected_entered}
+use Rattle.oa_compat.proofs.Kept.{lock_kept, redim_leaves, unlock_kept, unlocked_alike}
 use Rattle.oa_decision.specs.Limits.{allowed}
 use Rattle.oa_decision.specs.declared.decision.Decision.{Decision}
 use Rattle.oa_decision.specs.declared.decision.Decision.TheVariants.{Answer, Change, Relock}
@@ -70,10 +70,10 @@ use Rattle.oa_decision.specs.Redimension.{resizing, zero_with}
 use Rattle.oa_decision.specs.Refusals.{◌>>=◌, known, unless}
 use Rattle.oa_decision.specs.States.{State}
 use Rattle.oa_decision.specs.Decided.{decided}
-use Rattle.oa_keeps.specs.Keeps.{first_lost}
-use Rattle.oa_keeps.specs.declared.lost.Lost.{Lost}
-use Rattle.oa_keeps.proofs.KeptFits.{kept_fits}
-use Rattle.oa_keeps.proofs.Losses.{keeps_all}
+use Rattle.oa_compat.specs.Keeps.{first_lost}
+use Rattle.oa_compat.specs.declared.lost.Incompatibility.{Incompatibility}
+use Rattle.oa_compat.proofs.KeptFits.{kept_fits}
+use Rattle.oa_compat.proofs.Losses.{keeps_all}
 use Rattle.oa_turn.specs.Replacing.{Replacement, after_replacement}
 use Rattle.oa_turn.specs.Turns.{Ordinary, Run, Turn}
 use Rattle.oa_decision.specs.TypeInfo.{description_of}
@@ -272,7 +272,7 @@ module _ (event_kept : EventKept) where
   replacement_fit : (old new : State) (body : List ℕ) (reply : ReplyValue) → IsChecked old.library → fits old.library old.table ≡ true → Replacement old body reply new → IsFit new
   replacement_fit old new body reply is fit (inl s) = by (first_lost s.library old.library) refl s.leaves
     where
-      by : (lost : Option Lost) → first_lost s.library old.library ≡ lost → new ≡ after_replacement old s.library lost → IsFit new
+      by : (lost : Option Incompatibility) → first_lost s.library old.library ≡ lost → new ≡ after_replacement old s.library lost → IsFit new
       by None none leaves = let checked : IsChecked s.library = (s.asked.text, s.asked.stands.1) in subst IsFit (sym leaves) (checked, kept_fits s.library old.library checked (keeps_all s.library old.library none) old.table fit)
       by (Some lost) some leaves = subst IsFit (sym leaves) (is, fit)
   replacement_fit old new body reply is fit (inr (inl s)) = subst IsFit (sym s.leaves) (is, fit)

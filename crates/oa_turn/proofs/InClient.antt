@@ -13,7 +13,7 @@ use Rattle.std.proofs.lemmas.Bool.{eqb-true}
 use Rattle.oa_turn.proofs.CellOrder.{any_at, fewer_at, is_cell_by, more_at, none_fewer}
 use Rattle.oa_turn.proofs.Finding.{above_all, none_above}
 use Rattle.oa_turn.specs.ClientLocks.{cell_cmp, cells_total, is_cell}
-use Rattle.oa_turn.specs.Kept.{AreCounted, copies, each_counted, has_cell, with_cell, without_cell}
+use Rattle.oa_turn.specs.Kept.{AreCounted, copies, each_counted, has_cell, with_locked_cell, without_cell}
 use Rattle.oa_table.specs.declared.name.CellName.{CellName}
 
 abbrev Counts : Type 0
@@ -27,7 +27,7 @@ module _ (name : CellName) where
   found es = lookup (is_at (cell_cmp name)) es
 
   -- ---- one more
-  past_copies : (other : CellName) (n : ℕ) (rest : List CellName) → cell_cmp name other ≡ Greater → with_cell name (copies n other rest) ≡ copies n other (with_cell name rest)
+  past_copies : (other : CellName) (n : ℕ) (rest : List CellName) → cell_cmp name other ≡ Greater → with_locked_cell name (copies n other rest) ≡ copies n other (with_locked_cell name rest)
   past_copies other zero rest above = refl
   past_copies other (suc n) rest above = more_at cell_cmp name other (copies n other rest) Greater above ∙ ap (λ (l : List CellName). other ∷ l) (past_copies other n rest above)
 
@@ -44,7 +44,7 @@ module _ (name : CellName) where
       one k e = omega (arith, e)
 
   pub counted_more : (es : Counts) (held : ℕ) → IsStrictlySortedBy cell_cmp (keys_of es) → AreCounted es → held ≡ unwrap_or (found es) 0
-      → with_cell name (each_counted es) ≡ each_counted (insert_entry cell_cmp es name (held + 1))
+      → with_locked_cell name (each_counted es) ≡ each_counted (insert_entry cell_cmp es name (held + 1))
   unfolding IsStrictlySortedBy
   counted_more [] held sorted counted is = one_copy name held [] is
   counted_more ((other, zero) ∷ es) held sorted counted is = absurd (omega (arith, counted.0))
@@ -53,8 +53,8 @@ module _ (name : CellName) where
       ∙ by (cell_cmp name other) refl is (counted_more es held sorted.1 counted.1)
     where
       by : (o : Ordering) → cell_cmp name other ≡ o → held ≡ unwrap_or (cond (is_eq o) (Some (suc n)) (found es)) 0
-          → (held ≡ unwrap_or (found es) 0 → with_cell name (each_counted es) ≡ each_counted (insert_entry cell_cmp es name (held + 1)))
-          → match_ordering o (name ∷ other ∷ copies n other (each_counted es)) (other ∷ other ∷ copies n other (each_counted es)) (other ∷ with_cell name (copies n other (each_counted es)))
+          → (held ≡ unwrap_or (found es) 0 → with_locked_cell name (each_counted es) ≡ each_counted (insert_entry cell_cmp es name (held + 1)))
+          → match_ordering o (name ∷ other ∷ copies n other (each_counted es)) (other ∷ other ∷ copies n other (each_counted es)) (other ∷ with_locked_cell name (copies n other (each_counted es)))
           ≡ each_counted (match_ordering o ((name, held + 1) ∷ (other, suc n) ∷ es) ((other, held + 1) ∷ es) ((other, suc n) ∷ insert_entry cell_cmp es name (held + 1)))
       by Less at now rest =
           let none : found es ≡ None = none_above cells_total name es (above_all cells_total name other (keys_of es) at sorted.0) in
@@ -194,7 +194,7 @@ module _ (name : CellName) where
           at false zero_is = refl
 
   pub counts_more : (es new : Counts) (held : ℕ) → IsStrictlySortedBy cell_cmp (keys_of es) → AreCounted es → held ≡ unwrap_or (found es) 0 → new ≡ insert_entry cell_cmp es name (held + 1)
-      → each_counted new ≡ with_cell name (each_counted es)
+      → each_counted new ≡ with_locked_cell name (each_counted es)
   counts_more es new held sorted counted is put = ap (λ (l : Counts). each_counted l) put ∙ sym (counted_more es held sorted counted is)
 
   pub counts_more_counted : (es new : Counts) (held : ℕ) → AreCounted es → new ≡ insert_entry cell_cmp es name (held + 1) → AreCounted new

@@ -15,8 +15,8 @@ use Rattle.std.proofs.lemmas.Map.Steps.{set_value_same}
 use Rattle.oa_turn.proofs.CellOrder.{any_at, fewer_at, more_at, none_fewer}
 use Rattle.oa_turn.proofs.Finding.{Above, above_all, none_above}
 use Rattle.oa_turn.specs.ClientLocks.{ClientLock, cell_cmp, cells_of, is_cell, is_lock_of, lock_cmp, of_others, owns, with_one, without_one}
-use Rattle.oa_turn.specs.Counts.{name_of}
-use Rattle.oa_turn.specs.Kept.{all_cells, all_locks, client_locks, has_cell, with_cell, without_cell}
+use Rattle.oa_turn.specs.Counts.{locked_name}
+use Rattle.oa_turn.specs.Kept.{all_locked_cells, all_locks, client_locks, has_cell, with_locked_cell, without_cell}
 use Rattle.oa_table.specs.declared.name.CellName.{CellName}
 
 abbrev Clients : Type 0
@@ -30,11 +30,11 @@ cells_in None = []
 cells_in (Some names) = names
 
 -- the cells of all
-pub same_cells_of_all : (cs : Clients) → all_cells cs ≡ map name_of (all_locks cs)
+pub same_cells_of_all : (cs : Clients) → all_locked_cells cs ≡ map locked_name (all_locks cs)
 same_cells_of_all [] = refl
 same_cells_of_all (c ∷ cs) = on c.1 (same_cells_of_all cs)
   where
-    on : (names : List CellName) → all_cells cs ≡ map name_of (all_locks cs) → names ++ all_cells cs ≡ map name_of (client_locks c.0 names (all_locks cs))
+    on : (names : List CellName) → all_locked_cells cs ≡ map locked_name (all_locks cs) → names ++ all_locked_cells cs ≡ map locked_name (client_locks c.0 names (all_locks cs))
     on [] rest = rest
     on (name ∷ names) rest = ap (λ (l : List CellName). name ∷ l) (on names rest)
 
@@ -141,16 +141,16 @@ module _ (client : ℕ) where
     first_of_all ((k, other ∷ names) ∷ cs) all =
         more_at lock_cmp new (record { client = k; name = other }) (client_locks k names (all_locks cs)) Less (ap (λ (o : Ordering). ordering_then o (cell_cmp name other)) all.0)
 
-    more_own : (k : ℕ) (names : List CellName) (rest : List ClientLock) → client ≡ k → nat_cmp client k ≡ Equal → with_one client name rest ≡ new ∷ rest → with_one client name (client_locks k names rest) ≡ client_locks k (with_cell name names) rest
+    more_own : (k : ℕ) (names : List CellName) (rest : List ClientLock) → client ≡ k → nat_cmp client k ≡ Equal → with_one client name rest ≡ new ∷ rest → with_one client name (client_locks k names rest) ≡ client_locks k (with_locked_cell name names) rest
     more_own k [] rest same at first = first ∙ ap (λ (n : ℕ). record { client = n; name = name } ∷ rest) same
     more_own k (other ∷ names) rest same at first =
         more_at lock_cmp new (record { client = k; name = other }) (client_locks k names rest) (cell_cmp name other) (ap (λ (o : Ordering). ordering_then o (cell_cmp name other)) at)
         ∙ by (cell_cmp name other) (more_own k names rest same at first)
       where
-        by : (o : Ordering) → with_one client name (client_locks k names rest) ≡ client_locks k (with_cell name names) rest
+        by : (o : Ordering) → with_one client name (client_locks k names rest) ≡ client_locks k (with_locked_cell name names) rest
             → match_ordering o (new ∷ record { client = k; name = other } ∷ client_locks k names rest) (record { client = k; name = other } ∷ record { client = k; name = other } ∷ client_locks k names rest)
             (record { client = k; name = other } ∷ with_one client name (client_locks k names rest))
-            ≡ client_locks k (match_ordering o (name ∷ other ∷ names) (other ∷ other ∷ names) (other ∷ with_cell name names)) rest
+            ≡ client_locks k (match_ordering o (name ∷ other ∷ names) (other ∷ other ∷ names) (other ∷ with_locked_cell name names)) rest
         by Less so = ap (λ (n : ℕ). record { client = n; name = name } ∷ record { client = k; name = other } ∷ client_locks k names rest) same
         by Equal so = refl
         by Greater so = ap (λ (l : List ClientLock). record { client = k; name = other } ∷ l) so
@@ -161,14 +161,14 @@ module _ (client : ℕ) where
         more_at lock_cmp new (record { client = k; name = other }) (client_locks k names rest) Greater (ap (λ (o : Ordering). ordering_then o (cell_cmp name other)) at)
         ∙ ap (λ (l : List ClientLock). record { client = k; name = other } ∷ l) (more_past k names rest at)
 
-    pub one_more : (cs : Clients) (names : List CellName) → IsSorted cs → found cs ≡ Some names → with_one client name (all_locks cs) ≡ all_locks (set_value (is_at (nat_cmp client)) cs (with_cell name names))
+    pub one_more : (cs : Clients) (names : List CellName) → IsSorted cs → found cs ≡ Some names → with_one client name (all_locks cs) ≡ all_locks (set_value (is_at (nat_cmp client)) cs (with_locked_cell name names))
     unfolding IsStrictlySortedBy
     one_more [] names sorted is = absurd cc
     one_more (c ∷ cs) names sorted is = by (nat_cmp client c.0) refl is (one_more cs names sorted.1)
       where
         by : (o : Ordering) → nat_cmp client c.0 ≡ o → cond (is_eq o) (Some c.1) (found cs) ≡ Some names
-            → (found cs ≡ Some names → with_one client name (all_locks cs) ≡ all_locks (set_value (is_at (nat_cmp client)) cs (with_cell name names)))
-            → with_one client name (client_locks c.0 c.1 (all_locks cs)) ≡ all_locks (cond (is_eq o) ((c.0, with_cell name names) ∷ cs) (c ∷ set_value (is_at (nat_cmp client)) cs (with_cell name names)))
+            → (found cs ≡ Some names → with_one client name (all_locks cs) ≡ all_locks (set_value (is_at (nat_cmp client)) cs (with_locked_cell name names)))
+            → with_one client name (client_locks c.0 c.1 (all_locks cs)) ≡ all_locks (cond (is_eq o) ((c.0, with_locked_cell name names) ∷ cs) (c ∷ set_value (is_at (nat_cmp client)) cs (with_locked_cell name names)))
         by Less at now rest = absurd (nowhere (sym (none_above nat_cmp_total client cs (above_all nat_cmp_total client c.0 (keys_of cs) at sorted.0)) ∙ now))
           where
             nowhere : None ≡ Some names → ⊥
@@ -176,7 +176,7 @@ module _ (client : ℕ) where
         by Equal at now rest =
             let same : client ≡ c.0 = eqb-true client c.0 (sym (unsigned_tied client c.0) ∙ ap is_eq at) in
             more_own c.0 c.1 (all_locks cs) same at (first_of_all cs (rw same sorted.0))
-            ∙ ap (λ (l : List CellName). client_locks c.0 (with_cell name l) (all_locks cs)) (ap cells_in now)
+            ∙ ap (λ (l : List CellName). client_locks c.0 (with_locked_cell name l) (all_locks cs)) (ap cells_in now)
         by Greater at now rest = more_past c.0 c.1 (all_locks cs) at ∙ ap (λ (l : List ClientLock). client_locks c.0 c.1 l) (rest now)
 
     -- ---- whether it has one
@@ -244,7 +244,7 @@ module _ (client : ℕ) where
 
     -- ---- by what is known of the entry
     pub adds : {U E : Type 0} (result : Result U E) (cs cs' : Clients) (names names' : List CellName) → IsSorted cs → found cs ≡ Some names → cs' ≡ set_value (is_at (nat_cmp client)) cs names'
-        → OnOk result (names' ≡ with_cell name names) → OnOk result (all_locks cs' ≡ with_one client name (all_locks cs))
+        → OnOk result (names' ≡ with_locked_cell name names) → OnOk result (all_locks cs' ≡ with_one client name (all_locks cs))
     adds (Ok u) cs cs' names names' sorted there set is =
         ap (λ (l : Clients). all_locks l) set ∙ ap (λ (l : List CellName). all_locks (set_value (is_at (nat_cmp client)) cs l)) is ∙ sym (one_more cs names sorted there)
     adds (Err e) cs cs' names names' sorted there set is = tt

@@ -18,8 +18,8 @@ use Rattle.oa_decision.specs.Limits.{allowed}
 use Rattle.oa_decision.specs.States.{State}
 use Rattle.oa_decision.specs.Decided.{decided}
 use Rattle.oa_turn.specs.Steps.{outcome, reply_to}
-use Rattle.oa_keeps.specs.Keeps.{first_lost}
-use Rattle.oa_keeps.specs.declared.lost.Lost.{Lost}
+use Rattle.oa_compat.specs.Keeps.{first_lost}
+use Rattle.oa_compat.specs.declared.lost.Incompatibility.{Incompatibility}
 use Rattle.oa_turn.specs.Replacing.{Replacement, after_replacement, replacement_reply}
 use Rattle.oa_turn.specs.Turns.{Ordinary, Turn, Run}
 use Rattle.oa_turn.specs.Traces.{done_bodies, done_replies, kept_bodies, kept_replies}
@@ -63,7 +63,7 @@ quiet_ordinary old new body reply (inr (inr (inr s))) n = s.leaves
 quiet_replacement : (old new : State) (body : List ℕ) (reply : ReplyValue) → Replacement old body reply new → (reply.code.0 ≡ 0 → ⊥) → new ≡ old
 quiet_replacement old new body reply (inl s) n = by (first_lost s.library old.library) s.answers s.leaves
   where
-    by : (lost : Option Lost) → reply ≡ replacement_reply (tag_at body) lost → new ≡ after_replacement old s.library lost → new ≡ old
+    by : (lost : Option Incompatibility) → reply ≡ replacement_reply (tag_at body) lost → new ≡ after_replacement old s.library lost → new ≡ old
     by None told leaves = absurd (n (ap (λ (r : ReplyValue). r.code.0) told))
     by (Some lost) told leaves = leaves
 quiet_replacement old new body reply (inr (inl s)) n = s.leaves

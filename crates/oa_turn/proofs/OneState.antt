@@ -6,11 +6,11 @@ use Rattle.oa_record.specs.Replies.{ReplyValue}
 use Rattle.oa_record.specs.declared.request.Request.{Request}
 use Rattle.oa_idl.specs.IsTree.{IsTree}
 use Rattle.oa_idl.specs.Trees.{TreeValue}
-use Rattle.oa_keeps.specs.Keeps.{first_lost}
+use Rattle.oa_compat.specs.Keeps.{first_lost}
 use Rattle.oa_turn.proofs.NoTrace.{quiet_turn}
 use Rattle.oa_turn.specs.Replacing.{Replaces, Replacement, after_replacement}
 use Rattle.oa_decision.specs.States.{State}
-use Rattle.oa_turn.specs.Steps.{after}
+use Rattle.oa_turn.specs.Steps.{state_after}
 use Rattle.oa_turn.proofs.Texts.{one_asked}
 use Rattle.oa_turn.specs.Turns.{Ordinary, Run, Steps, Turn}
 
@@ -33,7 +33,7 @@ is_replaced old new body reply (inr (inr s)) ok = let e : 2147942414 ≡ 0 = sym
 
 module _ (one : (body : List ℕ) (p q : Request) → Asks body p → Asks body q → p ≡ q) (one_tree : (text : List ℕ) (s t : TreeValue) → IsTree text s → IsTree text t → s ≡ t) where
   one_step : (old a b : State) (body : List ℕ) (reply : ReplyValue) → Steps old body reply a → Steps old body reply b → a ≡ b
-  one_step old a b body reply s t = s.leaves ∙ ap (λ (request : Request). after old request) (one body s.request t.request s.asked t.asked) ∙ sym t.leaves
+  one_step old a b body reply s t = s.leaves ∙ ap (λ (request : Request). state_after old request) (one body s.request t.request s.asked t.asked) ∙ sym t.leaves
 
   one_replaced : (old a b : State) (body : List ℕ) (reply : ReplyValue) → Replaces old body reply a → Replaces old body reply b → a ≡ b
   one_replaced old a b body reply s t =

@@ -50,7 +50,7 @@ use Rattle.std.specs.Prelude.{not}
 use Rattle.std.specs.List.{position_from}
 use Rattle.oa_array.specs.Arrays.{array_element}
 use Rattle.oa_array.specs.Within.{in_bounds}
-use Rattle.oa_bind.specs.Given.{argument_for, at, by_position, argument_index, new_value_id}
+use Rattle.oa_bind.specs.Given.{argument_for, given_argument, by_position, argument_index, new_value_id}
 use Rattle.oa_bind.specs.Names.{is_consistent, lacks, most, names_none}
 use Rattle.oa_bind.specs.Refusals.{any_at, each_at}
 use Rattle.oa_coerce.specs.Answers.{coerced, coerced_scalar}
@@ -62,7 +62,7 @@ use Rattle.oa_model.specs.Codes.{disp_e_unknowninterface, disp_e_unknownname, e_
 use Rattle.oa_model.specs.Codes.{regdb_e_classnotreg, rpc_e_disconnected, s_ok, stg_e_mediumfull}
 use Rattle.oa_record.specs.Asks.{tag_at}
 use Rattle.oa_table.specs.Tables.{class_in, object_at}
-use Rattle.oa_checks.specs.Libraries.{class_of, selected_in}
+use Rattle.oa_sema.specs.Libraries.{class_of, selected_in}
 use Rattle.oa_typelib.specs.Members.{member_in}
 use Rattle.oa_variant.specs.Variants.{zero_value}
 use Rattle.uuid.specs.Parts.{is_nil_bytes}
@@ -86,8 +86,8 @@ use Rattle.oa_decision.specs.Refusals.{◌>>=◌, known, unless}
 use Rattle.oa_decision.specs.States.{State}
 use Rattle.oa_decision.specs.Decided.{decided}
 use Rattle.oa_turn.specs.Steps.{reply_to}
-use Rattle.oa_keeps.specs.Keeps.{first_lost}
-use Rattle.oa_keeps.specs.declared.lost.Lost.{Lost}
+use Rattle.oa_compat.specs.Keeps.{first_lost}
+use Rattle.oa_compat.specs.declared.lost.Incompatibility.{Incompatibility}
 use Rattle.oa_turn.specs.Replacing.{Replacement, replacement_reply}
 use Rattle.oa_turn.specs.Turns.{Ordinary, Turn}
 
@@ -130,7 +130,7 @@ unless_own : (code : HResult) (bad : Bool) → is_own code ≡ true → Own (unl
 unless_own code true own = own
 unless_own code false own = tt
 
-bind_unless : (code : HResult) (bad : Bool) → is_own code ≡ true → OwnBind (binding.unless code bad)
+bind_unless : (code : HResult) (bad : Bool) → is_own code ≡ true → OwnBind (binding.bind_fault_if code bad)
 bind_unless code true own = own
 bind_unless code false own = tt
 
@@ -185,7 +185,7 @@ each_own answer own place (x ∷ xs) = bind_then (answer place x) _ (own place x
 
 new_own : (call : Given) (declared : ValueType) (kind : Kind) → OwnBind (bindings.given_new_value call declared kind)
 new_own call declared forms.Get = tt
-new_own call declared forms.Put = by i (at i call.arguments)
+new_own call declared forms.Put = by i (given_argument i call.arguments)
   where
     i : Option ℕ
     i = argument_index call.named (length call.arguments) new_value_id
@@ -198,11 +198,11 @@ new_own call declared forms.Put = by i (at i call.arguments)
 named_own : (parameters : List Parameter) (kind : Kind) (named : List ℤ) (count : ℕ) → OwnBind (well_named parameters kind named count)
 unfolding well_named
 named_own parameters kind named count = bind_then (unless_consistent) _ (bind_unless e_invalidarg (not (is_consistent kind named count)) refl)
-    (λ _. bind_then (binding.unless disp_e_badparamcount (nat_lt (most kind parameters) count)) _ (bind_unless disp_e_badparamcount (nat_lt (most kind parameters) count) refl)
+    (λ _. bind_then (binding.bind_fault_if disp_e_badparamcount (nat_lt (most kind parameters) count)) _ (bind_unless disp_e_badparamcount (nat_lt (most kind parameters) count) refl)
     (λ _. bind_unless_at disp_e_paramnotfound (position_from (names_none (by_position named count) (length parameters)) 0 named) refl))
   where
     unless_consistent : Result (Unit {0}) BindFault
-    unless_consistent = binding.unless e_invalidarg (not (is_consistent kind named count))
+    unless_consistent = binding.bind_fault_if e_invalidarg (not (is_consistent kind named count))
 
 complete_own : (parameters : List Parameter) (call : Given) → OwnBind (complete parameters call)
 unfolding complete
@@ -243,7 +243,7 @@ cell_own state call access =
     (λ bound. tt)))
 
 -- arrays in cells
-array_of_own : (v : Variant) → Own (array_cells.array_of v)
+array_of_own : (v : Variant) → Own (array_cells.array_in_value v)
 array_of_own (variants.One s) = refl
 array_of_own (variants.Array a) = tt
 
@@ -251,11 +251,11 @@ within_own : (index : List ℤ) (array : ArrayValue Scalar) → Own (array_cells
 within_own index array = unless_own (array_code arrays.BadIndex) (not (in_bounds array.bounds index)) refl
 
 element_own : (index : List ℤ) (v : Variant) → Own (array_cells.element_of index v)
-element_own index v = then_own (array_cells.array_of v) (array_cells.element_at index) (array_of_own v)
+element_own index v = then_own (array_cells.array_in_value v) (array_cells.array_element_at index) (array_of_own v)
     (λ array. then_own (array_cells.if_in_bounds index array) _ (within_own index array) (λ _. known_own (array_code arrays.BadIndex) (array_element array index) refl))
 
 type_own : (index : List ℤ) (v : Variant) → Own (array_cells.element_type_of index v)
-type_own index v = then_own (array_cells.array_of v) (array_cells.element_type_at index) (array_of_own v) (λ array. then_own (array_cells.if_in_bounds index array) _ (within_own index array) (λ _. tt))
+type_own index v = then_own (array_cells.array_in_value v) (array_cells.element_type_at index) (array_of_own v) (λ array. then_own (array_cells.if_in_bounds index array) _ (within_own index array) (λ _. tt))
 
 coerced_own : (r : Result Scalar CoerceFault) → Own (array_cells.told_as_element r)
 coerced_own (Ok element) = tt
@@ -266,7 +266,7 @@ as_element_own elem (variants.One s) = coerced_own (coerced_scalar s elem)
 as_element_own elem (variants.Array a) = refl
 
 locks_own : (declared : ValueType) (o : Option Variant) → Own (array_cells.array_locks declared o)
-locks_own declared (Some v) = then_own (array_cells.array_of v) _ (array_of_own v) (λ array. tt)
+locks_own declared (Some v) = then_own (array_cells.array_in_value v) _ (array_of_own v) (λ array. tt)
 locks_own (kinds.One t) None = refl
 locks_own (kinds.Array t) None = refl
 
@@ -362,7 +362,7 @@ ordinary_own old body reply new (inr (inl it)) = ap (λ (r : ReplyValue). is_own
 ordinary_own old body reply new (inr (inr (inl it))) = ap (λ (r : ReplyValue). is_own r.code) it.answers
 ordinary_own old body reply new (inr (inr (inr it))) = ap (λ (r : ReplyValue). is_own r.code) it.answers
 
-lost_own : (tag : ℕ) (lost : Option Lost) → is_own (replacement_reply tag lost).code ≡ true
+lost_own : (tag : ℕ) (lost : Option Incompatibility) → is_own (replacement_reply tag lost).code ≡ true
 lost_own tag None = refl
 lost_own tag (Some lost) = refl
 

@@ -7,8 +7,8 @@ use Rattle.oa_table.specs.declared.event.Event.{Event}
 use Rattle.oa_table.specs.declared.fault.TableFault.{TableFault}
 use Rattle.oa_table.specs.Tables.{TableValue}
 use Rattle.oa_decision.specs.declared.decision.LockChange.{LockChange}
-use Rattle.oa_keeps.specs.Keeps.{first_lost}
-use Rattle.oa_keeps.specs.declared.lost.Lost.{Lost}
+use Rattle.oa_compat.specs.Keeps.{first_lost}
+use Rattle.oa_compat.specs.declared.lost.Incompatibility.{Incompatibility}
 use Rattle.oa_turn.specs.Steps.{Outcome, after_event, after_locks, after_outcome, with_table}
 use Rattle.oa_turn.specs.Replacing.{Replacement, after_replacement}
 use Rattle.oa_decision.specs.States.{State}
@@ -50,7 +50,7 @@ ordinary_library old new body reply s = ap (λ (r : Rest). r.library) (ordinary_
 pub ordinary_bank : (old new : State) (body : List ℕ) (reply : ReplyValue) → Ordinary old body reply new → new.bank ≡ old.bank
 ordinary_bank old new body reply s = ap (λ (r : Rest). r.bank) (ordinary_rest old new body reply s)
 
-replaced_bank : (old : State) (library : TreeValue) (lost : Option Lost) → (after_replacement old library lost).bank ≡ old.bank
+replaced_bank : (old : State) (library : TreeValue) (lost : Option Incompatibility) → (after_replacement old library lost).bank ≡ old.bank
 replaced_bank old library None = refl
 replaced_bank old library (Some lost) = refl
 

@@ -1,7 +1,7 @@
 -- A reply has its body's tag.
 use Rattle.std.proofs.Common.{◌≡◌, ℕ, List, Option, Some, None, inl, inr, refl, ap, ◌∙◌}
-use Rattle.oa_keeps.specs.Keeps.{first_lost}
-use Rattle.oa_keeps.specs.declared.lost.Lost.{Lost}
+use Rattle.oa_compat.specs.Keeps.{first_lost}
+use Rattle.oa_compat.specs.declared.lost.Incompatibility.{Incompatibility}
 use Rattle.oa_record.specs.Asks.{tag_at}
 use Rattle.oa_record.specs.Replies.{ReplyValue}
 use Rattle.oa_turn.specs.Replacing.{Replacement, replacement_reply}
@@ -14,7 +14,7 @@ ordinary_tag old new body reply (inr (inl s)) = ap (λ (r : ReplyValue). r.tag) 
 ordinary_tag old new body reply (inr (inr (inl s))) = ap (λ (r : ReplyValue). r.tag) s.answers
 ordinary_tag old new body reply (inr (inr (inr s))) = ap (λ (r : ReplyValue). r.tag) s.answers
 
-replacement_tag : (tag : ℕ) (lost : Option Lost) → (replacement_reply tag lost).tag ≡ tag
+replacement_tag : (tag : ℕ) (lost : Option Incompatibility) → (replacement_reply tag lost).tag ≡ tag
 replacement_tag tag None = refl
 replacement_tag tag (Some lost) = refl
 

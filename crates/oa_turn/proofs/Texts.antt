@@ -1,16 +1,16 @@
 -- A text is that of one library, and a library is that of its canonical text.
 use Rattle.std.proofs.Common.{rules, ◌≡◌, ℕ, ◌≤◌, nat_le, Bool, true, false, if◌then◌else◌, List, length, Option, Some, None, refl, sym, ap, ◌∙◌, subst}
 use Rattle.std.specs.Option.{option_or}
-use Rattle.oa_canonical.specs.Canonical.{canonical}
+use Rattle.oa_printer.specs.Canonical.{canonical}
 use Rattle.oa_idl.specs.IsTree.{IsTree, MayBeText}
 use Rattle.oa_idl.specs.Trees.{TreeValue}
 use Rattle.oa_model.specs.Limits.{max_library_bytes}
-use Rattle.oa_checks.specs.declared.fault.CheckError.{CheckError}
-use Rattle.oa_checks.specs.declared.fault.CheckError.TheVariants.{TextTooLong}
-use Rattle.oa_checks.specs.Breaches.{text_breach, tree_breach}
+use Rattle.oa_sema.specs.declared.fault.CheckError.{CheckError}
+use Rattle.oa_sema.specs.declared.fault.CheckError.TheVariants.{TextTooLong}
+use Rattle.oa_sema.specs.Breaches.{text_breach, tree_breach}
 use Rattle.oa_typelib.specs.Checked.{IsChecked}
-use Rattle.oa_checks.specs.IsLibrary.{IsLibrary}
-use Rattle.oa_checks.specs.Libraries.{marked}
+use Rattle.oa_sema.specs.IsLibrary.{IsLibrary}
+use Rattle.oa_sema.specs.Libraries.{marked}
 use Rattle.oa_turn.specs.Replacing.{AsksLibrary}
 
 second_none : (one two : Option CheckError) → option_or one two ≡ None → two ≡ None

@@ -1,6 +1,6 @@
 -- The states with which a server may begin. (This project's choice.)
 use Rattle.std.specs.Prelude.{◌≡◌, ℕ, true}
-use Rattle.oa_keeps.specs.Fits.{fits}
+use Rattle.oa_compat.specs.Fits.{fits}
 use Rattle.oa_idl.specs.Trees.{TreeValue}
 use Rattle.oa_image.specs.Tables.{FitsBank, is_numbered}
 use Rattle.oa_table.specs.Tables.{TableValue}

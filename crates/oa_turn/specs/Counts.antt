@@ -14,8 +14,8 @@ unfoldable pub count_in : CellName → List CellName → ℕ
 count_in name [] = 0
 count_in name (other ∷ names) = (if is_cell other name then 1 else 0) + count_in name names
 
-abbrev pub name_of : ClientLock → CellName
-name_of lock = lock.name
+abbrev pub locked_name : ClientLock → CellName
+locked_name lock = lock.name
 
 -- Each array has one lock for each occurrence of its name, and no others.
 abbrev pub HasLocks : List CellName → TableValue → Type 0
@@ -24,4 +24,4 @@ HasLocks names table = (name : CellName) → locks_at name table ≡ count_in na
 -- The locks of a table, whose objects are in the order of their numbers, are those of the clients.
 pub record IsLedger (locks : List ClientLock) (table : TableValue) : Type 0 where
   pub ordered : IsStrictlySortedBy nat_cmp (keys_of table.objects)
-  pub counted : HasLocks (map name_of locks) table
+  pub counted : HasLocks (map locked_name locks) table

@@ -22,8 +22,8 @@ AreCounted es = AllByRecursion (λ e. 0 < e.1) es
 abbrev pub has_cell : CellName → List CellName → Bool
 has_cell name names = list_any (λ other. is_cell other name) names
 
-abbrev pub with_cell : CellName → List CellName → List CellName
-with_cell name names = with_more cell_cmp name names
+abbrev pub with_locked_cell : CellName → List CellName → List CellName
+with_locked_cell name names = with_more cell_cmp name names
 
 abbrev pub without_cell : CellName → List CellName → List CellName
 without_cell name names = without_first (λ other. is_cell other name) names
@@ -40,6 +40,6 @@ all_locks [] = []
 all_locks (c ∷ cs) = client_locks c.0 c.1 (all_locks cs)
 
 -- and the cells that they are of
-abbrev pub all_cells : List (ℕ × List CellName) → List CellName
-all_cells [] = []
-all_cells (c ∷ cs) = c.1 ++ all_cells cs
+abbrev pub all_locked_cells : List (ℕ × List CellName) → List CellName
+all_locked_cells [] = []
+all_locked_cells (c ∷ cs) = c.1 ++ all_locked_cells cs

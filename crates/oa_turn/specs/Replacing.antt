@@ -5,9 +5,9 @@ use Rattle.oa_model.specs.Codes.{bad_stub_data, e_invalidarg, e_outofmemory, s_o
 use Rattle.oa_record.specs.Asks.{tag_at}
 use Rattle.oa_record.specs.Replacement.{text_in}
 use Rattle.oa_record.specs.Replies.{ReplyValue, lost_field}
-use Rattle.oa_keeps.specs.Keeps.{dispid_lost, first_lost, guid_lost}
-use Rattle.oa_keeps.specs.LibraryTexts.{MayBeLibrary, StandsFor}
-use Rattle.oa_keeps.specs.declared.lost.Lost.{Lost}
+use Rattle.oa_compat.specs.Keeps.{dispid_lost, first_lost, guid_lost}
+use Rattle.oa_compat.specs.LibraryTexts.{MayBeLibrary, StandsFor}
+use Rattle.oa_compat.specs.declared.lost.Incompatibility.{Incompatibility}
 use Rattle.oa_decision.specs.States.{State}
 use Rattle.oa_decision.specs.Decided.{refusal}
 
@@ -28,13 +28,13 @@ pub record BringsText (body : List ℕ) : Type 0 where
 -- ---- what becomes of it
 
 -- the reply: the first incompatibility in the documented order, or success
-abbrev pub replacement_reply : ℕ → Option Lost → ReplyValue
+abbrev pub replacement_reply : ℕ → Option Incompatibility → ReplyValue
 replacement_reply tag None = refusal tag s_ok None
 replacement_reply tag (Some lost) =
     record { tag = tag; code = e_invalidarg; index = None; body = lost_field (guid_lost lost) (dispid_lost lost) }
 
 -- the table and its locks stay
-abbrev pub after_replacement : State → TreeValue → Option Lost → State
+abbrev pub after_replacement : State → TreeValue → Option Incompatibility → State
 after_replacement old library None = record old { library = library }
 after_replacement old library (Some lost) = old
 

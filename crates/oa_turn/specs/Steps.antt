@@ -89,5 +89,5 @@ abbrev pub reply_to : State → ℕ → Request → ReplyValue
 reply_to state tag request = reply_with tag (outcome state request)
 
 -- the state after a request
-abbrev pub after : State → Request → State
-after state request = after_outcome state (outcome state request)
+abbrev pub state_after : State → Request → State
+state_after state request = after_outcome state (outcome state request)

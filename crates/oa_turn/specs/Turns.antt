@@ -7,7 +7,7 @@ use Rattle.oa_record.specs.Replies.{ReplyValue}
 use Rattle.oa_record.specs.Replacement.{is_replacement}
 use Rattle.oa_turn.specs.Replacing.{Replacement}
 use Rattle.oa_decision.specs.States.{State}
-use Rattle.oa_turn.specs.Steps.{after, reply_to}
+use Rattle.oa_turn.specs.Steps.{reply_to, state_after}
 use Rattle.oa_decision.specs.Decided.{RequestTakesMemory, refusal}
 
 -- the body is a request, and this is its step
@@ -15,7 +15,7 @@ pub record Steps (old : State) (body : List ℕ) (reply : ReplyValue) (new : Sta
   pub request : Request
   pub asked : Asks body request
   pub answers : reply ≡ reply_to old (tag_at body) request
-  pub leaves : new ≡ after old request
+  pub leaves : new ≡ state_after old request
 
 -- the body has the layout of no request, or the field of a value is invalid; nothing changes
 pub record RefusesStub (old : State) (body : List ℕ) (reply : ReplyValue) (new : State) : Type 0 where

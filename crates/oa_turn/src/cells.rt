@@ -4,7 +4,7 @@ ghost use Rattle.std.specs.BTreeMap.{is_at};
 ghost use Rattle.std.specs.Map.{lookup};
 ghost use Rattle.std.specs.Option.{unwrap_or};
 ghost use Rattle.oa_turn.specs.ClientLocks.{cell_cmp};
-ghost use Rattle.oa_turn.specs.Kept.{each_counted, has_cell, with_cell, without_cell};
+ghost use Rattle.oa_turn.specs.Kept.{each_counted, has_cell, with_locked_cell, without_cell};
 
 use crate::CellKey;
 use oa_ordered::{Iter, OrderedMap};
@@ -49,7 +49,7 @@ impl ClientCells {
     /// Adds a lock of a cell. It allocates only for the first lock of the cell. Err: the allocation
     /// failed; the key is returned, and nothing changed.
     pub(crate) fn add(&mut self, cell: CellKey) -> Result<(), CellKey>
-        ensures added { OnOk result (self.new ≡ with_cell cell self.old) }
+        ensures added { OnOk result (self.new ≡ with_locked_cell cell self.old) }
         ensures back { IfErr result (λ back. back ≡ cell) }
         ensures err { OnErr result (self.new ≡ self.old) }
     {
@@ -75,7 +75,7 @@ impl ClientCells {
     }
 
     /// Releases one of the client's locks of this cell, if it has one.
-    pub(crate) fn take_one(&mut self, cell: &CellKey)
+    pub(crate) fn release_one(&mut self, cell: &CellKey)
         ensures { self.new ≡ without_cell cell.now self.old }
     {
         let held = count_of(&self.counts, cell);

@@ -12,7 +12,7 @@ ghost use Rattle.oa_table.specs.declared.event.Event.TheVariants.{Put as APut, R
 ghost use Rattle.oa_table.specs.Memory.{MayWantMemory};
 ghost use Rattle.oa_table.specs.Tables.{cell_in, object_at, unlocked_table};
 
-use oa_decision::{LockChange, disallowed, is_surely_within, most_of};
+use oa_decision::{LockChange, limit_violation, max_table_image, surely_fits};
 use oa_image::SizedEvent;
 use oa_model::{HResult, MAX_EVENT_BYTES};
 use oa_table::{CellName, Event, LARGEST_IMAGE, Table, TableFault};
@@ -28,7 +28,7 @@ pub(crate) fn apply(table: &mut Table, event: Event) -> Result<(), AllocError>
     ensures sound { (bank : ℕ) → IsOk (allowed bank event table.old) → IsSoundTable bank table.old → IsSoundTable bank table.new }
 {
     match event {
-        Event::Put { name, value } => match table.put_again(&name, value, u64::MAX, LARGEST_IMAGE) {
+        Event::Put { name, value } => match table.overwrite(&name, value, u64::MAX, LARGEST_IMAGE) {
             Ok(()) => Ok(()),
             Err(value) => apply_any(table, Event::Put { name, value }),
         },
@@ -61,10 +61,10 @@ pub(crate) fn change(bank: u32, table: &mut Table, event: SizedEvent) -> Result<
 {
     // Far from the limits, as usual, the table itself reports whether the event applies, when it
     // applies it.
-    if is_surely_within(bank, table, &event) {
+    if surely_fits(bank, table, &event) {
         return change_within(table, event.into_event());
     }
-    if let Some(code) = disallowed(bank, table, &event) {
+    if let Some(code) = limit_violation(bank, table, &event) {
         return Err(code);
     }
     apply(table, event.into_event()).map_err(|_| HResult::E_OUTOFMEMORY)
@@ -76,7 +76,7 @@ const LONGEST_VALUE: u64 = MAX_EVENT_BYTES as u64 - 27;
 
 /// Overwrites a cell without a key that was put before, within the limits for banks of `bank`
 /// bytes. Err: the limits or the table do not allow it; the value is returned, and nothing changes.
-pub(crate) fn put_again(
+pub(crate) fn overwrite(
     bank: u32,
     table: &mut Table,
     name: &CellName,
@@ -89,7 +89,7 @@ pub(crate) fn put_again(
         → cell_in name.now.place (object_at name.now.object table.old) ≡ None) }
     ensures sound { IsSoundTable bank table.old → IsSoundTable bank table.new }
 {
-    table.put_again(name, value, LONGEST_VALUE, most_of(bank))
+    table.overwrite(name, value, LONGEST_VALUE, max_table_image(bank))
 }
 
 /// Applies an event that is within the limits, if the table accepts it. Err: the code of the

@@ -18,10 +18,10 @@ ghost use Rattle.oa_table.specs.declared.event.Event.TheVariants.{Put, Release a
 ghost use Rattle.oa_table.specs.Memory.{MayWantMemory};
 ghost use Rattle.oa_table.specs.Tables.{first_table};
 
-use crate::changes::{apply, change, change_locks, put_again};
+use crate::changes::{apply, change, change_locks, overwrite};
 use oa_decision::{
-    Decider, Decision, Fields, LockChange, Plan, Planned, Refusal, Undecided, ValuePlan, ValuePut,
-    disallowed,
+    DecideError, Decider, Decision, Fields, LockChange, Plan, Planned, Refusal, ValuePlan,
+    ValuePut, limit_violation,
 };
 use oa_image::SizedEvent;
 use oa_model::HResult;
@@ -38,7 +38,7 @@ pub(crate) mod replacement;
 
 /// The state on which replies depend: a library, a table of its objects, and how large the table
 /// may grow.
-pub struct Host {
+pub struct Machine {
     alloc: Global,
     /// The size in bytes of a bank's body, into which the table must fit.
     bank: u32,
@@ -47,9 +47,9 @@ pub struct Host {
 }
 
 // A `Drop` of its own, so that a function that holds a host, or a server, drops it in one step.
-impl Drop for Host {
+impl Drop for Machine {
     fn drop(self) {
-        let Host {
+        let Machine {
             alloc: _alloc,
             bank: _bank,
             library: _library,
@@ -58,7 +58,7 @@ impl Drop for Host {
     }
 }
 
-impl Model for Host {
+impl Model for Machine {
     ghost use Rattle.oa_decision.specs.States.{State};
     ghost use Rattle.oa_turn.specs.Limits.{IsSoundTable};
 
@@ -69,14 +69,14 @@ impl Model for Host {
     ghost invariant = { λ s. IsSoundTable s.bank s.table };
 }
 
-impl Host {
+impl Machine {
     /// Makes a host of `library` with the first table, with the limits of a new store with banks of
     /// `bank` bytes.
-    pub fn new(alloc: Global, bank: u32, library: Library) -> Host
+    pub fn new(alloc: Global, bank: u32, library: Library) -> Machine
         requires { least_bank ≤ bank }
         ensures { result ≡ record { bank = bank; library = library; table = first_table } }
     {
-        Host {
+        Machine {
             alloc,
             bank,
             library,
@@ -85,11 +85,11 @@ impl Host {
     }
 
     /// Makes a host of `library` with an existing table, with the limits of banks of `bank` bytes.
-    pub fn over(alloc: Global, bank: u32, library: Library, table: Table) -> Host
+    pub fn over(alloc: Global, bank: u32, library: Library, table: Table) -> Machine
         requires { IsSoundTable bank table }
         ensures { result ≡ record { bank = bank; library = library; table = table } }
     {
-        Host {
+        Machine {
             alloc,
             bank,
             library,
@@ -154,7 +154,7 @@ impl Host {
         } = put;
         let place = Place::new(interface, dispid, Vec::new(self.alloc));
         let name = CellName { object, place };
-        match put_again(self.bank, &mut self.table, &name, value) {
+        match overwrite(self.bank, &mut self.table, &name, value) {
             Ok(()) => Reply::bare(self.alloc, tag, HResult::S_OK, None),
             Err(value) => self.put_any(tag, name, value),
         }
@@ -243,8 +243,8 @@ impl Host {
             Ok(Decision::Relock { change, fields }) => {
                 Plan::Answered(self.relock(tag, change, fields))
             }
-            Err(Undecided::Refused(refusal)) => Plan::Answered(self.refuse(tag, refusal)),
-            Err(Undecided::OutOfMemory) => {
+            Err(DecideError::Refused(refusal)) => Plan::Answered(self.refuse(tag, refusal)),
+            Err(DecideError::OutOfMemory) => {
                 Plan::Answered(Reply::bare(self.alloc, tag, HResult::E_OUTOFMEMORY, None))
             }
         }
@@ -254,7 +254,7 @@ impl Host {
     fn plan_change(&self, tag: u32, event: SizedEvent, fields: Fields) -> Plan
         ensures { PlansChange self.now tag event fields result }
     {
-        match disallowed(self.bank, &self.table, &event) {
+        match limit_violation(self.bank, &self.table, &event) {
             Some(code) => Plan::Answered(Reply::bare(self.alloc, tag, code, None)),
             None => Plan::Change(Planned { tag, event, fields }),
         }
@@ -316,7 +316,7 @@ impl Host {
     }
 
     /// Decides a request. It only reads. Errors are those of `Decider`.
-    fn decide(&self, request: Request) -> Result<Decision, Undecided>
+    fn decide(&self, request: Request) -> Result<Decision, DecideError>
         ensures decided { Decides (decided self.now request) (DecidingTakesMemory self.now request) result }
         ensures unlocked { IfOk result ChangesNoLocks }
     {

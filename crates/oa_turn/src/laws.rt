@@ -2,7 +2,7 @@
 ghost use Rattle.std.specs.Prelude.{◌≡◌, ◌↔◌, ℕ, true, Bool, List, None, Ok};
 ghost use Rattle.oa_record.specs.declared.request.Request.{Request as ARequest};
 ghost use Rattle.oa_record.specs.Replies.{ReplyValue};
-ghost use Rattle.oa_keeps.specs.Fits.{fits};
+ghost use Rattle.oa_compat.specs.Fits.{fits};
 ghost use Rattle.oa_turn.specs.Steps.{IsQuiet};
 ghost use Rattle.oa_turn.specs.OwnCodes.{is_own};
 ghost use Rattle.oa_decision.specs.States.{State};
@@ -14,10 +14,10 @@ ghost use Rattle.oa_table.specs.Locks.{with_lock, without_lock};
 ghost use Rattle.oa_table.specs.Tables.{TableValue, unlocked_table};
 ghost use Rattle.oa_table.specs.declared.name.CellName.{CellName as AName};
 ghost use Rattle.oa_typelib.specs.Checked.{IsChecked};
-ghost use Rattle.oa_keeps.specs.Keeps.{KeepsLibrary, first_lost};
+ghost use Rattle.oa_compat.specs.Keeps.{KeepsLibrary, first_lost};
 
+use oa_compat::laws::changes_that_fit;
 use oa_idl::laws::one_tree;
-use oa_keeps::laws::changes_that_fit;
 use oa_record::laws::one_request;
 
 /// A request that is answered with another code than S_OK leaves no trace. It makes no event and
@@ -35,12 +35,12 @@ pub fn no_trace()
 
 /// A table that fits a library fits each library that is compatible with it. Locks do not matter
 /// for that. A library may replace another exactly if it is compatible with it.
-pub fn kept_fits()
+pub fn kept_library_fits()
     ensures fits { (new old : TreeValue) → IsChecked new → KeepsLibrary new old → (table : TableValue) → fits old table ≡ true
         → fits new table ≡ true }
     ensures keeps { (new old : TreeValue) → IsChecked new → (first_lost new old ≡ None) ↔ KeepsLibrary new old }
 {
-    oa_keeps::laws::kept_fits();
+    oa_compat::laws::kept_fits();
 }
 
 /// If a table fits its library, it still does after a turn and after a run, for the library of

@@ -2,7 +2,7 @@
 //! objects and its locks.
 //!
 //! Contract: `Host::turn` is one turn (`Turn`), `Host::run` several (`Run`), and `Host::plan` a
-//! turn without the change of the table that it asks for (`Plans`). `Owners` is the list of the
+//! turn without the change of the table that it asks for (`Plans`). `LockTable` is the list of the
 //! locks that clients have, each with its owner, in the order of the clients and then of the cells.
 //!
 //! Used by oa_server, which keeps the table in a store, and by oa_history.
@@ -16,8 +16,8 @@ pub mod laws;
 mod owners;
 
 pub use cells::ClientCells;
-pub use host::Host;
+pub use host::Machine;
 pub use host::replacement::ReplacementPlan;
 pub use key::CellKey;
 pub use oa_decision::{Fields, Plan, Planned};
-pub use owners::Owners;
+pub use owners::LockTable;

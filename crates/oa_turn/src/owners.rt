@@ -1,8 +1,8 @@
 //! Locks with their owners.
 ghost use Rattle.std.specs.Prelude.{◌≡◌, [], IfErr, OnErr, OnOk, map};
 ghost use Rattle.oa_turn.specs.ClientLocks.{cells_of, of_others, owns, with_one, without_one};
-ghost use Rattle.oa_turn.specs.Counts.{name_of};
-ghost use Rattle.oa_turn.specs.Kept.{all_cells};
+ghost use Rattle.oa_turn.specs.Counts.{locked_name};
+ghost use Rattle.oa_turn.specs.Kept.{all_locked_cells};
 
 use crate::{CellKey, ClientCells};
 use oa_ordered::{Iter, OrderedMap};
@@ -14,12 +14,12 @@ use std::marker::Model;
 /// A client has one entry, with one entry for each cell that it has locked and the number of its
 /// locks. Look-ups take logarithmic time. A client's entry stays until its end.
 #[derive(Drop)]
-pub struct Owners {
+pub struct LockTable {
     alloc: Global,
     clients: OrderedMap<u32, ClientCells>,
 }
 
-impl Model for Owners {
+impl Model for LockTable {
     ghost use Rattle.std.specs.Prelude.{List};
     ghost use Rattle.oa_turn.specs.ClientLocks.{ClientLock};
     ghost use Rattle.oa_turn.specs.Kept.{all_locks};
@@ -29,12 +29,12 @@ impl Model for Owners {
     ghost view = { λ o. all_locks o.clients };
 }
 
-impl Owners {
+impl LockTable {
     /// Makes a list without locks. Allocates nothing.
-    pub fn new(alloc: Global) -> Owners
+    pub fn new(alloc: Global) -> LockTable
         ensures { result ≡ [] }
     {
-        Owners {
+        LockTable {
             alloc,
             clients: OrderedMap::new(alloc),
         }
@@ -43,7 +43,7 @@ impl Owners {
     /// Returns the clients by rising number, each with the cells that it has locked and the number
     /// of its locks of each. Allocates nothing.
     pub fn clients(&self) -> Iter<'_, u32, ClientCells>
-        ensures { all_cells result ≡ map name_of self.now }
+        ensures { all_locked_cells result ≡ map locked_name self.now }
     {
         self.clients.iter()
     }
@@ -102,7 +102,7 @@ impl Owners {
     }
 
     /// Releases one lock of this cell of the client with this number, if it has one.
-    pub fn take_one(&mut self, client: u32, cell: &CellKey)
+    pub fn release_one(&mut self, client: u32, cell: &CellKey)
         ensures { self.new ≡ without_one client cell.now self.old }
     {
         // For the prover: the clause `ordered` of `len`.
@@ -110,11 +110,11 @@ impl Owners {
         let Some(cells) = self.clients.get_mut(&client) else {
             return;
         };
-        cells.take_one(cell);
+        cells.release_one(cell);
     }
 
     /// Releases all locks of the client with this number, which ends, and returns them.
-    pub fn take_all(&mut self, client: u32) -> ClientCells
+    pub fn release_all(&mut self, client: u32) -> ClientCells
         ensures others { self.new ≡ of_others client self.old }
         ensures own { result ≡ cells_of client self.old }
     {

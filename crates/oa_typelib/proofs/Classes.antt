@@ -13,14 +13,14 @@ use Rattle.oa_idl.specs.declared.parts.Entry.{Entry}
 use Rattle.oa_idl.specs.declared.items.Item.{Item}
 use Rattle.oa_idl.specs.declared.items.Item.TheVariants.{Interface, Coclass}
 use Rattle.oa_idl.specs.declared.stop.TreeLimit.TheVariants as limits
-use Rattle.oa_checks.specs.Breaches.{unknown_name, entry_breach}
+use Rattle.oa_sema.specs.Breaches.{unknown_name, entry_breach}
 use Rattle.oa_typelib.specs.Checked.{IsChecked, HasClass, HasSoundItems}
 use Rattle.oa_typelib.specs.Descriptions.{described_entry, entry_description, interfaces_of}
-use Rattle.oa_checks.specs.Libraries.{same, same_name, item_name, item_guid, as_interface, as_class, interface_named}
-use Rattle.oa_checks.specs.Libraries.{item_with, class_of, default_interface, mark_first, marked_entries, marked_item}
+use Rattle.oa_sema.specs.Libraries.{same, same_name, item_name, item_guid, as_interface, as_class, interface_named}
+use Rattle.oa_sema.specs.Libraries.{item_with, class_of, default_interface, mark_first, marked_entries, marked_item}
 use Rattle.oa_typelib.proofs.Found.{find_all}
 use Rattle.oa_typelib.proofs.Grouping.{any_place}
-use Rattle.oa_checks.proofs.Lists.{list_any-map, position-map}
+use Rattle.oa_sema.proofs.Lists.{list_any-map, position-map}
 use Rattle.oa_typelib.proofs.Sound.{breaks_none, none_of, tree_sound}
 use Rattle.oa_typelib.proofs.TypedTrees.{HasEntry, item_entered, tree_all}
 

@@ -9,22 +9,22 @@ use Rattle.oa_model.specs.Limits.{max_library_bytes}
 use Rattle.oa_model.specs.Folding.{folded_name}
 use Rattle.std.specs.Prelude.{nat_le, if◌then◌else◌}
 use Rattle.oa_idl.specs.Trees.{TreeValue}
-use Rattle.oa_canonical.specs.Canonical.{canonical}
+use Rattle.oa_printer.specs.Canonical.{canonical}
 use Rattle.oa_idl.specs.declared.parts.Entry.{Entry}
 use Rattle.oa_idl.specs.declared.items.Item.{Item}
 use Rattle.oa_idl.specs.declared.items.Item.TheVariants.{Interface, Coclass}
-use Rattle.oa_checks.specs.Libraries.{same, item_name, item_guid, as_interface, as_class, has_interface, if_entered}
-use Rattle.oa_checks.specs.Libraries.{interface_of, class_of, interface_named, default_interface, marked_item, marked}
-use Rattle.oa_checks.specs.declared.fault.CheckError.TheVariants.{TextTooLong}
-use Rattle.oa_checks.specs.Breaches.{RefusesBreach, first_breach, length_breach, text_breach}
-use Rattle.oa_checks.specs.IsLibrary.{IsLibrary}
-use Rattle.oa_checks.specs.declared.fault.CheckError.{CheckError}
+use Rattle.oa_sema.specs.Libraries.{same, item_name, item_guid, as_interface, as_class, has_interface, if_entered}
+use Rattle.oa_sema.specs.Libraries.{interface_of, class_of, interface_named, default_interface, marked_item, marked}
+use Rattle.oa_sema.specs.declared.fault.CheckError.TheVariants.{TextTooLong}
+use Rattle.oa_sema.specs.Breaches.{RefusesBreach, first_breach, length_breach, text_breach}
+use Rattle.oa_sema.specs.IsLibrary.{IsLibrary}
+use Rattle.oa_sema.specs.declared.fault.CheckError.{CheckError}
 use Rattle.oa_idl.specs.IsTree.{IsTree}
 use Rattle.oa_idl.specs.Values.{InterfaceValue, CoclassValue}
 use Rattle.oa_typelib.specs.Indexes.{default_in, enters, entered_in, flag_at, flag_of}
-use Rattle.oa_checks.specs.Libraries.{folded_names}
-use Rattle.oa_checks.proofs.Lists.{position_finds}
-use Rattle.oa_checks.proofs.Passes.{interface_by_place}
+use Rattle.oa_sema.specs.Libraries.{folded_names}
+use Rattle.oa_sema.proofs.Lists.{position_finds}
+use Rattle.oa_sema.proofs.Passes.{interface_by_place}
 
 -- The entry that is found, by its place.
 pub found_by_place : {X Y : Type 0} (f : X → Option Y) (p : X → Bool) (xs : List X) (o : Option ℕ) → o ≡ position p xs → option_and_then f (find p xs) ≡ option_and_then f (option_and_then (slice_get xs) o)

@@ -11,7 +11,7 @@ use Rattle.std.specs.List.{filter, filter_map, cons_option, list_any, position_o
 use Rattle.std.specs.Option.{option_map, option_and_then, unwrap_or}
 use Rattle.indexmap.specs.IndexSet.{insert_key}
 use Rattle.oa_typelib.specs.Groups.{distinct, places_of, with_place, places_in}
-use Rattle.oa_checks.proofs.Lists.{position_finds, length-mapped}
+use Rattle.oa_sema.proofs.Lists.{position_finds, length-mapped}
 
 -- ---- places
 

@@ -13,18 +13,18 @@ use Rattle.oa_idl.specs.Values.{InterfaceValue, CoclassValue}
 use Rattle.oa_variant.specs.declared.scalar.Scalar.{Scalar}
 use Rattle.oa_idl.specs.Trees.{TreeValue}
 use Rattle.oa_idl.specs.declared.parts.Entry.{Entry}
-use Rattle.oa_checks.specs.DeclarationValues.{DeclarationValue}
-use Rattle.oa_checks.specs.Declarations.{declarations}
+use Rattle.oa_sema.specs.DeclarationValues.{DeclarationValue}
+use Rattle.oa_sema.specs.Declarations.{declarations}
 use Rattle.oa_typelib.specs.DescriptionValues.ContentDescription.{OfCoclass}
 use Rattle.oa_typelib.specs.Descriptions.{first_names, put_last, members_described, described_entry, entry_description}
 use Rattle.oa_typelib.specs.Descriptions.{interfaces_of, classes_of, interface_description, class_description, description_at}
 use Rattle.oa_typelib.specs.Groups.{GroupsValue, distinct, keys_with_places, places_of, places_in}
 use Rattle.oa_typelib.specs.IndexValues.{MembersValue, IndexValue}
 use Rattle.oa_typelib.specs.Indexes.{grouped, enters, first_in, entry_in, described_class}
-use Rattle.oa_checks.specs.Defaults.{defaults_of}
-use Rattle.oa_checks.specs.Libraries.{same, same_name}
+use Rattle.oa_sema.specs.Defaults.{defaults_of}
+use Rattle.oa_sema.specs.Libraries.{same, same_name}
 use Rattle.oa_typelib.proofs.Grouping.{any_place, at_places, first_place, group_of}
-use Rattle.oa_checks.proofs.Lists.{insert_key-map, list_any-map, position-map}
+use Rattle.oa_sema.proofs.Lists.{insert_key-map, list_any-map, position-map}
 use Rattle.oa_typelib.proofs.Named.{map_twice}
 
 module _ (m : MembersValue) (ds : List DeclarationValue) (is : m ≡ grouped ds) where

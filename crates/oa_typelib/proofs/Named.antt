@@ -2,8 +2,8 @@
 use Rattle.std.proofs.Common.{◌≡◌, ℕ, ℤ, List, [], ◌∷◌, ◌++◌, map, Option, Some, slice_get, Vec, Global, refl, sym, ap, ◌∙◌}
 use Rattle.oa_idl.specs.Values.{InterfaceValue}
 use Rattle.oa_idl.specs.declared.parts.Parameter.{Parameter}
-use Rattle.oa_checks.specs.DeclarationValues.{DeclarationValue}
-use Rattle.oa_checks.specs.Declarations.{own_parameters}
+use Rattle.oa_sema.specs.DeclarationValues.{DeclarationValue}
+use Rattle.oa_sema.specs.Declarations.{own_parameters}
 use Rattle.oa_typelib.specs.Members.{main_form, forms_named}
 use Rattle.oa_typelib.specs.Names.{parameter_named, ids_in, named_in}
 

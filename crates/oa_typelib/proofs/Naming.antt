@@ -18,24 +18,24 @@ use Rattle.oa_idl.specs.Values.{InterfaceValue}
 use Rattle.oa_idl.specs.declared.parts.Parameter.{Parameter}
 use Rattle.oa_idl.specs.declared.items.Item.{Item}
 use Rattle.oa_idl.specs.declared.items.Item.TheVariants.{Interface, Coclass}
-use Rattle.oa_checks.specs.Agreement.{same_value_type, same_result, same_default, is_optional, same_parameter, agree}
+use Rattle.oa_sema.specs.Agreement.{same_value_type, same_result, same_default, is_optional, same_parameter, agree}
 use Rattle.oa_typelib.specs.Bindable.{IsSoundDeclaration, AreSound, IsSoundItem}
-use Rattle.oa_checks.specs.Breaches.{repeated_name, clashes, declared_breach, item_breach, inner_breach, name_breach}
-use Rattle.oa_checks.specs.Breaches.{id_breach, guid_breach, key_breaches, tree_breach, text_breach, interface_breach}
-use Rattle.oa_checks.specs.Breaches.{form_breaches, in_interface, broken_by, first_broken, disagrees}
+use Rattle.oa_sema.specs.Breaches.{repeated_name, clashes, declared_breach, item_breach, inner_breach, name_breach}
+use Rattle.oa_sema.specs.Breaches.{id_breach, guid_breach, key_breaches, tree_breach, text_breach, interface_breach}
+use Rattle.oa_sema.specs.Breaches.{form_breaches, in_interface, broken_by, first_broken, disagrees}
 use Rattle.oa_typelib.specs.Checked.{IsChecked}
-use Rattle.oa_checks.specs.DeclarationValues.{DeclarationValue}
-use Rattle.oa_checks.specs.Declarations.{declarations, is_put, own_parameters, type_of_value}
-use Rattle.oa_checks.specs.Repeats.{Has}
-use Rattle.oa_checks.specs.Libraries.{same, same_name, item_name, marked_item}
+use Rattle.oa_sema.specs.DeclarationValues.{DeclarationValue}
+use Rattle.oa_sema.specs.Declarations.{declarations, is_put, own_parameters, type_of_value}
+use Rattle.oa_sema.specs.Repeats.{Has}
+use Rattle.oa_sema.specs.Libraries.{same, same_name, item_name, marked_item}
 use Rattle.oa_typelib.specs.Members.{form_for, forms_named, lets, main_form}
 use Rattle.oa_typelib.specs.Names.{ids_in, named_in, parameter_named, place_as_id}
 use Rattle.oa_typelib.specs.Naming.{Declares, IsMember, IsParameterOf}
-use Rattle.oa_checks.specs.Repeats.{first_repeat, first_after}
+use Rattle.oa_sema.specs.Repeats.{first_repeat, first_after}
 use Rattle.oa_typelib.specs.declared.access.Kind.TheVariants as kinds
-use Rattle.oa_checks.specs.declared.fault.CheckError.TheVariants.{DuplicateName, DuplicateId, DuplicateGuid, UnknownInterface}
+use Rattle.oa_sema.specs.declared.fault.CheckError.TheVariants.{DuplicateName, DuplicateId, DuplicateGuid, UnknownInterface}
 use Rattle.oa_typelib.proofs.Grouping.{position_step}
-use Rattle.oa_checks.proofs.Rules.{agree_equiv}
+use Rattle.oa_sema.proofs.Rules.{agree_equiv}
 use Rattle.oa_typelib.proofs.Same.{found_at, inside}
 use Rattle.oa_typelib.proofs.Sound.{neither, unmapped, none_of, breaks_none, tree_sound}
 

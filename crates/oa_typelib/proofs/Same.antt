@@ -11,9 +11,9 @@ use Rattle.oa_model.specs.declared.var_type.VarType.{VarType}
 use Rattle.oa_model.specs.declared.var_type.VarType.TheVariants as types
 use Rattle.oa_model.specs.declared.var_type.ValueType.{ValueType}
 use Rattle.oa_model.specs.declared.var_type.ValueType.TheVariants.{One, Array}
-use Rattle.oa_checks.specs.Agreement.{same_value_type, same_result}
-use Rattle.oa_checks.specs.Libraries.{same}
-use Rattle.oa_checks.specs.Repeats.{first_answer}
+use Rattle.oa_sema.specs.Agreement.{same_value_type, same_result}
+use Rattle.oa_sema.specs.Libraries.{same}
+use Rattle.oa_sema.specs.Repeats.{first_answer}
 use Rattle.oa_typelib.proofs.Sound.{neither}
 
 pub inside : {X : Type 0} (x y : X) → Some x ≡ Some y → x ≡ y

@@ -8,10 +8,10 @@ use Rattle.oa_model.specs.declared.var_type.VarType.{VarType}
 use Rattle.oa_model.specs.declared.var_type.ValueType.{ValueType}
 use Rattle.oa_model.specs.declared.var_type.ValueType.TheVariants.{One, Array}
 use Rattle.oa_variant.specs.Variants.{HasZero}
-use Rattle.oa_idl.specs.Forms.{Word, Form, listed, nowhere}
+use Rattle.oa_idl.specs.Forms.{Word, Language, listed, nowhere}
 use Rattle.oa_idl.specs.Words.{word_type, type_named, if_cell}
 use Rattle.oa_idl.specs.Grammar.{value_type, property, result_type, parameter, separated, method, methods, members, entry}
-use Rattle.oa_idl.specs.Grammar.{entry_grow, last_entry, no_entry, item, LibraryContent, element, elements, items_in, library}
+use Rattle.oa_idl.specs.Grammar.{entry_grow, last_entry, no_entry, item, LibraryContent, element, library_contents, items_in, library}
 use Rattle.oa_idl.specs.Grammar.LibraryContent.{Import, OfItem}
 use Rattle.oa_idl.specs.Trees.{TreeValue}
 use Rattle.oa_idl.specs.MethodValues.{MethodValue}
@@ -21,8 +21,8 @@ use Rattle.oa_idl.specs.declared.parts.Parameter.{Parameter}
 use Rattle.oa_idl.specs.declared.parts.Property.{Property}
 use Rattle.oa_idl.specs.declared.items.Item.{Item}
 use Rattle.oa_idl.specs.declared.items.Item.TheVariants.{Interface, Coclass}
-use Rattle.oa_checks.specs.Declarations.{of_property, of_method}
-use Rattle.oa_checks.specs.Libraries.{marked, marked_item}
+use Rattle.oa_sema.specs.Declarations.{of_property, of_method}
+use Rattle.oa_sema.specs.Libraries.{marked, marked_item}
 use Rattle.oa_typelib.specs.Typed.{IsTypedDeclaration, IsTypedItem, IsTyped, IsOfText}
 
 -- a word that names the type of cells
@@ -51,13 +51,13 @@ type_typed (One t) ws f = tt
 type_typed (Array t) ws f = ⊎_elim (λ u. word_typed true t u.second.word u.second.is) (λ o. word_typed false t o.word o.is) f.second.second.first
 
 -- A property of each form of a list holds for each of its entries.
-listed_all : {S A B : Type 0} (F : S → A → Form) (grow : S → A → S) (apart : A → Word → Bool) (E : S → B → Form) (P : A → Type 0)
+listed_all : {S A B : Type 0} (F : S → A → Language) (grow : S → A → S) (apart : A → Word → Bool) (E : S → B → Language) (P : A → Type 0)
     → ((s : S) (x : A) (ws : List Word) → F s x ws → P x) → (s : S) (xs : List A) (b : B) (ws : List Word) → listed F grow apart E s xs b ws → AllByRecursion P xs
 listed_all F grow apart E P each s [] b ws l = tt
 listed_all F grow apart E P each s (x ∷ xs) b ws l = (each s x l.front l.first, listed_all F grow apart E P each (grow s x) xs b l.second.back l.second.second)
 
 -- A property of each form of the end holds for the end.
-listed_end : {S A B : Type 0} (F : S → A → Form) (grow : S → A → S) (apart : A → Word → Bool) (E : S → B → Form) (P : B → Type 0)
+listed_end : {S A B : Type 0} (F : S → A → Language) (grow : S → A → S) (apart : A → Word → Bool) (E : S → B → Language) (P : B → Type 0)
     → ((s : S) (b : B) (ws : List Word) → E s b ws → P b) → (s : S) (xs : List A) (b : B) (ws : List Word) → listed F grow apart E s xs b ws → P b
 listed_end F grow apart E P each s [] b ws l = each s b ws l
 listed_end F grow apart E P each s (x ∷ xs) b ws l = listed_end F grow apart E P each (grow s x) xs b l.second.back l.second.second
@@ -123,8 +123,8 @@ module _ (P : Item → Type 0) (each : (x : Item) (ws : List Word) → item x ws
   items_all (Import ∷ es) all = items_all es all.1
   items_all (OfItem x ∷ es) all = (all.0, items_all es all.1)
 
-  elements_all : (xs : List Item) (ws : List Word) → elements xs ws → AllByRecursion P xs
-  unfolding elements
+  elements_all : (xs : List Item) (ws : List Word) → library_contents xs ws → AllByRecursion P xs
+  unfolding library_contents
   elements_all xs ws f = subst (AllByRecursion P) (sym f.form.second.fact) (items_all f.value (listed_all _ _ _ _ OfContent (λ s. content_all) _ f.value tt f.form.front f.form.first))
 
   pub tree_all : (t : TreeValue) (ws : List Word) → library t ws → AllByRecursion P t.items

@@ -9,9 +9,9 @@ use Rattle.oa_idl.specs.declared.parts.Parameter.{Parameter}
 use Rattle.oa_idl.specs.declared.items.Item.{Item}
 use Rattle.oa_idl.specs.declared.items.Item.TheVariants.{Interface, Coclass}
 use Rattle.oa_variant.specs.Variants.{HasZero}
-use Rattle.oa_checks.specs.DeclarationValues.{DeclarationValue}
-use Rattle.oa_checks.specs.Declarations.{declarations, own_parameters, type_of_value}
-use Rattle.oa_checks.specs.Defaults.{default_of}
+use Rattle.oa_sema.specs.DeclarationValues.{DeclarationValue}
+use Rattle.oa_sema.specs.Declarations.{declarations, own_parameters, type_of_value}
+use Rattle.oa_sema.specs.Defaults.{default_of}
 use Rattle.oa_typelib.specs.Members.{is_method}
 use Rattle.oa_typelib.specs.MemberValues.{MemberValue}
 

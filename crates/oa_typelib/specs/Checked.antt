@@ -7,8 +7,8 @@ use Rattle.oa_idl.specs.declared.parts.Entry.{Entry}
 use Rattle.oa_idl.specs.declared.items.Item.{Item}
 use Rattle.oa_typelib.specs.Bindable.{IsSoundItem}
 use Rattle.oa_typelib.specs.Descriptions.{entry_description, interfaces_of}
-use Rattle.oa_checks.specs.IsLibrary.{IsLibrary}
-use Rattle.oa_checks.specs.Libraries.{as_class, default_interface}
+use Rattle.oa_sema.specs.IsLibrary.{IsLibrary}
+use Rattle.oa_sema.specs.Libraries.{as_class, default_interface}
 
 -- The tree is that of a library: it is parsed from some text, passes all checks, and one default interface is marked in
 -- each coclass.

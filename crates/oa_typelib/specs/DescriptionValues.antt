@@ -2,7 +2,7 @@
 use Rattle.std.specs.Prelude.{ℕ, ℤ, Bool, List, Option}
 use Rattle.oa_model.specs.declared.var_type.ValueType.{ValueType}
 use Rattle.oa_variant.specs.declared.scalar.Scalar.{Scalar}
-use Rattle.oa_checks.specs.declared.declaration.DeclarationKind.{DeclarationKind}
+use Rattle.oa_sema.specs.declared.declaration.DeclarationKind.{DeclarationKind}
 
 -- The description of a parameter.
 pub record ParameterDescription : Type 0 where

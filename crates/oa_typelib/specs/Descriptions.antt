@@ -9,14 +9,14 @@ use Rattle.oa_idl.specs.Values.{InterfaceValue, CoclassValue}
 use Rattle.oa_idl.specs.declared.parts.Entry.{Entry}
 use Rattle.oa_idl.specs.declared.parts.Parameter.{Parameter}
 use Rattle.oa_idl.specs.declared.items.Item.{Item}
-use Rattle.oa_checks.specs.Agreement.{is_optional}
-use Rattle.oa_checks.specs.DeclarationValues.{DeclarationValue}
-use Rattle.oa_checks.specs.Declarations.{declarations, is_put}
-use Rattle.oa_checks.specs.Defaults.{default_value}
+use Rattle.oa_sema.specs.Agreement.{is_optional}
+use Rattle.oa_sema.specs.DeclarationValues.{DeclarationValue}
+use Rattle.oa_sema.specs.Declarations.{declarations, is_put}
+use Rattle.oa_sema.specs.Defaults.{default_value}
 use Rattle.oa_typelib.specs.DescriptionValues.{ParameterDescription, MemberDescription, EntryDescription}
 use Rattle.oa_typelib.specs.DescriptionValues.{DescriptionValue}
 use Rattle.oa_typelib.specs.DescriptionValues.ContentDescription.{OfInterface, OfCoclass}
-use Rattle.oa_checks.specs.Libraries.{as_interface, as_class, same_name}
+use Rattle.oa_sema.specs.Libraries.{as_interface, as_class, same_name}
 use Rattle.oa_typelib.specs.Members.{forms_named}
 
 -- The description of a parameter, with the value of its default.

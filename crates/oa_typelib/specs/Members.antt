@@ -8,12 +8,12 @@ use Rattle.std.specs.Ordering.{int_eq}
 use Rattle.oa_model.specs.Invoke.{method_flag, get_flag, put_flag}
 use Rattle.oa_model.specs.declared.var_type.ValueType.{ValueType}
 use Rattle.oa_idl.specs.Values.{InterfaceValue}
-use Rattle.oa_checks.specs.declared.declaration.DeclarationKind.{DeclarationKind}
-use Rattle.oa_checks.specs.declared.declaration.DeclarationKind.TheVariants as declared
-use Rattle.oa_checks.specs.DeclarationValues.{DeclarationValue}
-use Rattle.oa_checks.specs.Declarations.{declarations, own_parameters, type_of_value}
+use Rattle.oa_sema.specs.declared.declaration.DeclarationKind.{DeclarationKind}
+use Rattle.oa_sema.specs.declared.declaration.DeclarationKind.TheVariants as declared
+use Rattle.oa_sema.specs.DeclarationValues.{DeclarationValue}
+use Rattle.oa_sema.specs.Declarations.{declarations, own_parameters, type_of_value}
 use Rattle.oa_typelib.specs.MemberValues.{MemberValue}
-use Rattle.oa_checks.specs.Libraries.{same_name}
+use Rattle.oa_sema.specs.Libraries.{same_name}
 use Rattle.oa_typelib.specs.declared.access.Access.{Access}
 use Rattle.oa_typelib.specs.declared.access.Access.TheVariants.{Flags, Get, Put}
 use Rattle.oa_typelib.specs.declared.access.Kind.{Kind}

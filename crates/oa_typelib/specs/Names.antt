@@ -8,9 +8,9 @@ use Rattle.std.specs.Option.{option_and_then, unwrap_or}
 use Rattle.oa_model.specs.Invoke.{unknown_dispid}
 use Rattle.oa_idl.specs.Values.{InterfaceValue}
 use Rattle.oa_idl.specs.declared.parts.Parameter.{Parameter}
-use Rattle.oa_checks.specs.DeclarationValues.{DeclarationValue}
-use Rattle.oa_checks.specs.Declarations.{own_parameters}
-use Rattle.oa_checks.specs.Libraries.{same_name}
+use Rattle.oa_sema.specs.DeclarationValues.{DeclarationValue}
+use Rattle.oa_sema.specs.Declarations.{own_parameters}
+use Rattle.oa_sema.specs.Libraries.{same_name}
 use Rattle.oa_typelib.specs.Members.{forms_named, main_form}
 use Rattle.oa_typelib.specs.NamedValues.{DispIdsValue}
 
@@ -41,9 +41,9 @@ abbrev pub or_unknown : Option ℤ → ℤ
 or_unknown id = unwrap_or id unknown_dispid
 
 -- The reply with these DISPIDs.
-abbrev pub told : List (Option ℤ) → DispIdsValue
-told ids = record { ids = map or_unknown ids; all_known = list_all is_some ids }
+abbrev pub dispids_reply : List (Option ℤ) → DispIdsValue
+dispids_reply ids = record { ids = map or_unknown ids; all_known = list_all is_some ids }
 
 -- The reply to a look-up of names in an interface.
 abbrev pub names_told : InterfaceValue → List (List ℕ) → DispIdsValue
-names_told i names = told (named_in i names)
+names_told i names = dispids_reply (named_in i names)

@@ -2,9 +2,9 @@
 use Rattle.std.specs.Prelude.{◌≡◌, ◌↔◌, ◌∷◌, ℕ, suc, ℤ, pos, true, List, Some, slice_get}
 use Rattle.oa_idl.specs.Values.{InterfaceValue}
 use Rattle.oa_idl.specs.declared.parts.Parameter.{Parameter}
-use Rattle.oa_checks.specs.DeclarationValues.{DeclarationValue}
-use Rattle.oa_checks.specs.Declarations.{declarations, own_parameters}
-use Rattle.oa_checks.specs.Libraries.{same_name}
+use Rattle.oa_sema.specs.DeclarationValues.{DeclarationValue}
+use Rattle.oa_sema.specs.Declarations.{declarations, own_parameters}
+use Rattle.oa_sema.specs.Libraries.{same_name}
 use Rattle.oa_typelib.specs.Names.{named_in}
 
 -- The interface has a declaration `d` with this name, without regard to the case of A to Z.

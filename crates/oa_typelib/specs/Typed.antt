@@ -7,8 +7,8 @@ use Rattle.oa_idl.specs.declared.parts.Parameter.{Parameter}
 use Rattle.oa_idl.specs.declared.items.Item.{Item}
 use Rattle.oa_idl.specs.declared.items.Item.TheVariants.{Interface, Coclass}
 use Rattle.oa_variant.specs.Variants.{HasZero}
-use Rattle.oa_checks.specs.DeclarationValues.{DeclarationValue}
-use Rattle.oa_checks.specs.Declarations.{declarations}
+use Rattle.oa_sema.specs.DeclarationValues.{DeclarationValue}
+use Rattle.oa_sema.specs.Declarations.{declarations}
 
 -- The tree is parsed from some text.
 abbrev pub IsOfText : TreeValue → Type 0

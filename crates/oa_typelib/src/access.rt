@@ -2,8 +2,8 @@
 ghost use Rattle.std.specs.Prelude.{◌≡◌};
 ghost use Rattle.oa_typelib.specs.Members.{is_method, kind_asked, lets, method_fault};
 
-use oa_checks::DeclarationKind;
 use oa_model::{GET_FLAG, METHOD_FLAG, PUT_FLAG};
+use oa_sema::DeclarationKind;
 use thiserror::Error;
 
 /// The form of a property that a call uses.

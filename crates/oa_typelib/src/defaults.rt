@@ -2,8 +2,8 @@
 ghost use Rattle.std.specs.Prelude.{◌≡◌, IfOk, map, find, option_copied};
 ghost use Rattle.oa_typelib.specs.Indexes.{default_among, default_in};
 
-use oa_checks::{FoldedNames, folded};
 use oa_idl::{Entry, Item};
+use oa_sema::{FoldedNames, folded};
 use std::alloc::{AllocError, Global};
 
 /// Returns the entry that is marked as the default; None if there is none.

@@ -2,19 +2,19 @@
 ghost use Rattle.std.specs.Prelude.{◌≡◌, ◌++◌, if◌then◌else◌, Some, None, IfOk, OnOk, map, length, option_copied, slice_get};
 ghost use Rattle.std.specs.List.{filter, filter_map};
 ghost use Rattle.std.specs.Option.{option_and_then};
-ghost use Rattle.oa_checks.specs.Declarations.{declarations};
-ghost use Rattle.oa_checks.specs.Defaults.{default_value};
+ghost use Rattle.oa_sema.specs.Declarations.{declarations};
+ghost use Rattle.oa_sema.specs.Defaults.{default_value};
 ghost use Rattle.oa_typelib.specs.Indexes.{described_class, entry_in, is_put_or_not};
 ghost use Rattle.oa_typelib.specs.Descriptions.{classes_of, described_entry, interface_description, interfaces_of};
 ghost use Rattle.oa_typelib.specs.Descriptions.{member_description, members_described, parameter_description, put_last};
-ghost use Rattle.oa_checks.specs.Libraries.{as_interface};
+ghost use Rattle.oa_sema.specs.Libraries.{as_interface};
 
 use crate::described::{Content, DescribedEntry, DescribedMember, DescribedParameter};
 use crate::dispinterface::Dispinterface;
 use crate::forms::Form;
 use crate::index::Index;
-use oa_checks::{DeclarationKind, folded, is_optional};
 use oa_idl::{Coclass, Entry, Interface, Item, Name, Parameter};
+use oa_sema::{DeclarationKind, folded, is_optional};
 use oa_variant::Scalar;
 use std::alloc::{AllocError, Global};
 use std::marker::Model;

@@ -2,9 +2,9 @@
 ghost use Rattle.std.specs.Prelude.{◌≡◌};
 ghost use Rattle.oa_typelib.specs.declared.described.DescribeError.TheVariants.{Memory};
 
-use oa_checks::DeclarationKind;
 use oa_idl::Name;
 use oa_model::ValueType;
+use oa_sema::DeclarationKind;
 use oa_variant::Scalar;
 use std::alloc::AllocError;
 use std::marker::Model;

@@ -3,8 +3,8 @@ ghost use Rattle.std.specs.Prelude.{◌≡◌, true, IfOk, IfSome, map, slice_ge
 ghost use Rattle.std.specs.List.{filter, filter_map};
 ghost use Rattle.std.specs.Option.{option_map};
 ghost use Rattle.oa_model.specs.Folding.{folded_name};
-ghost use Rattle.oa_checks.specs.Declarations.{declarations};
-ghost use Rattle.oa_checks.specs.Libraries.{same};
+ghost use Rattle.oa_sema.specs.Declarations.{declarations};
+ghost use Rattle.oa_sema.specs.Libraries.{same};
 ghost use Rattle.oa_typelib.specs.Bindable.{AreSound, IsBindable};
 ghost use Rattle.oa_typelib.specs.Indexes.{grouped};
 ghost use Rattle.oa_typelib.specs.Members.{forms_with, has_form, member_in, property_in};
@@ -15,8 +15,8 @@ use crate::forms::{Form, Forms, declaration_at};
 use crate::member::{Member, find, property};
 use crate::members::Members;
 use crate::names::{DispIds, named_in, told};
-use oa_checks::{DeclarationKind, at};
 use oa_idl::Interface;
+use oa_sema::{DeclarationKind, at};
 use std::alloc::{AllocError, Global};
 use std::marker::Model;
 
@@ -33,7 +33,7 @@ impl<'a> Model for Dispinterface<'a> {
     ghost use Rattle.std.specs.Prelude.{◌≡◌};
     ghost use Rattle.oa_idl.specs.Values.{InterfaceValue};
     ghost use Rattle.oa_typelib.specs.Bindable.{AreSound};
-    ghost use Rattle.oa_checks.specs.Declarations.{declarations};
+    ghost use Rattle.oa_sema.specs.Declarations.{declarations};
     ghost use Rattle.oa_typelib.specs.Indexes.{grouped};
 
     ghost Value = { InterfaceValue };

@@ -9,12 +9,12 @@ ghost use Rattle.std.specs.Ordering.{int_eq};
 ghost use Rattle.std.proofs.Common.{rules};
 ghost use Rattle.indexmap.specs.IndexSet.{insert_key};
 ghost use Rattle.oa_model.specs.Folding.{folded_name};
-ghost use Rattle.oa_checks.specs.Libraries.{same};
+ghost use Rattle.oa_sema.specs.Libraries.{same};
 ghost use Rattle.oa_typelib.specs.Groups.{keys_with_places, places_in, with_place};
 
 use indexmap::{Equivalent, IndexMap};
-use oa_checks::{Declaration, folded};
 use oa_idl::Name;
+use oa_sema::{Declaration, folded};
 use std::alloc::{AllocError, Global};
 use std::hash::{Hash, Hasher};
 use std::marker::Model;

@@ -1,15 +1,15 @@
 //! The index of a library's members and interfaces.
 ghost use Rattle.std.specs.Prelude.{◌≡◌, IfOk, map, slice_get, is_some, option_copied};
 ghost use Rattle.oa_model.specs.Folding.{folded_name};
-ghost use Rattle.oa_checks.specs.Libraries.{folded_names, same};
+ghost use Rattle.oa_sema.specs.Libraries.{folded_names, same};
 ghost use Rattle.oa_typelib.specs.Descriptions.{interfaces_of};
 ghost use Rattle.oa_typelib.specs.Groups.{keys_with_places};
 ghost use Rattle.oa_typelib.specs.Indexes.{entered_in, enters, first_in, flag_at, index_of, members_in};
 
 use crate::groups::{FoldedName, Groups, places_by_name};
 use crate::members::Members;
-use oa_checks::{at, entry_names, folded, item_name, items_of};
 use oa_idl::{Coclass, Item, Name, Tree};
+use oa_sema::{at, entry_names, folded, item_name, items_of};
 use std::alloc::{AllocError, Global};
 use std::marker::Model;
 

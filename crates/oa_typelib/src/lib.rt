@@ -4,7 +4,7 @@
 //! otherwise the first error. Each look-up returns what the definitions over the tree say
 //! (`Members`, `Names`, `Descriptions`).
 //!
-//! Used by oa_keeps, oa_bind, oa_decision, oa_turn, oa_server and the program.
+//! Used by oa_compat, oa_bind, oa_decision, oa_turn, oa_server and the program.
 #![tactic(auto)]
 
 mod access;

@@ -1,19 +1,19 @@
 //! Libraries.
 ghost use Rattle.std.specs.Prelude.{◌≡◌, true, List, ℕ, IfOk, IsSome, nat_le, length, map, position, option_copied, slice_get};
-ghost use Rattle.oa_canonical.specs.Canonical.{canonical};
+ghost use Rattle.oa_printer.specs.Canonical.{canonical};
 ghost use Rattle.std.specs.Option.{option_and_then, option_map};
 ghost use Rattle.oa_idl.specs.IsTree.{IsTree};
 ghost use Rattle.oa_model.specs.Limits.{max_library_bytes};
-ghost use Rattle.oa_checks.specs.Breaches.{RefusesBreach, first_breach, length_breach, text_breach, tree_breach};
+ghost use Rattle.oa_sema.specs.Breaches.{RefusesBreach, first_breach, length_breach, text_breach, tree_breach};
 ghost use Rattle.oa_typelib.specs.Checked.{IsChecked};
 ghost use Rattle.uuid.specs.Parts.{is_nil_bytes};
 ghost use Rattle.oa_typelib.specs.Contents.{Describes};
 ghost use Rattle.oa_typelib.specs.Descriptions.{description_at, interfaces_of};
-ghost use Rattle.oa_checks.specs.Libraries.{as_class, as_interface, same, item_guid, class_of, if_entered};
-ghost use Rattle.oa_checks.specs.Libraries.{interface_of, default_interface, selected_in, marked};
+ghost use Rattle.oa_sema.specs.Libraries.{as_class, as_interface, same, item_guid, class_of, if_entered};
+ghost use Rattle.oa_sema.specs.Libraries.{interface_of, default_interface, selected_in, marked};
 ghost use Rattle.oa_typelib.specs.Indexes.{default_in, entered_in, flag_at, index_of, members_in};
-ghost use Rattle.oa_checks.specs.Libraries.{folded_names};
-ghost use Rattle.oa_checks.specs.IsLibrary.{IsLibrary};
+ghost use Rattle.oa_sema.specs.Libraries.{folded_names};
+ghost use Rattle.oa_sema.specs.IsLibrary.{IsLibrary};
 ghost use Rattle.oa_typelib.specs.Typed.{IsOfText};
 
 use crate::defaults::find_defaults;
@@ -25,14 +25,14 @@ use crate::described::DescribeError;
 use crate::dispinterface::Dispinterface;
 use crate::index::Index;
 use crate::members::Members;
-use oa_canonical::laws::marked_is_read;
-use oa_canonical::print;
-use oa_checks::{
+use oa_idl::{Coclass, Item, Tree};
+use oa_model::MAX_LIBRARY_BYTES;
+use oa_printer::laws::marked_is_read;
+use oa_printer::print;
+use oa_sema::{
     CheckError, Checked, FoldedNames, Guids, at, check_tree, class_at, interface_at, is_zero_guid,
     items_of, mark, place_in_front,
 };
-use oa_idl::{Coclass, Item, Tree};
-use oa_model::MAX_LIBRARY_BYTES;
 use std::alloc::Global;
 use std::marker::Model;
 use uuid::Uuid;

@@ -1,8 +1,8 @@
 //! Properties of interfaces, as a call uses them.
 ghost use Rattle.std.specs.Prelude.{◌≡◌, map, option_copied, slice_get};
 ghost use Rattle.std.specs.Option.{option_and_then, option_map};
-ghost use Rattle.oa_checks.specs.Declarations.{type_of_value};
-ghost use Rattle.oa_checks.specs.Defaults.{default_value};
+ghost use Rattle.oa_sema.specs.Declarations.{type_of_value};
+ghost use Rattle.oa_sema.specs.Defaults.{default_value};
 ghost use Rattle.oa_typelib.specs.Members.{answer, has_form, main_form, property_of, property_with};
 
 use crate::access::{Access, Kind, MemberFault, is_method};
@@ -34,7 +34,7 @@ pub struct Member<'a> {
 
 impl<'a> Model for Member<'a> {
     ghost use Rattle.std.specs.Prelude.{◌≡◌, map};
-    ghost use Rattle.oa_checks.specs.Defaults.{default_value};
+    ghost use Rattle.oa_sema.specs.Defaults.{default_value};
     ghost use Rattle.oa_typelib.specs.MemberValues.{MemberValue};
 
     ghost Value = { MemberValue };

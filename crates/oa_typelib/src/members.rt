@@ -1,14 +1,14 @@
 //! The members of an interface: its declarations by their names and by their DISPIDs.
 ghost use Rattle.std.specs.Prelude.{◌≡◌, IfOk, map};
 ghost use Rattle.oa_model.specs.Folding.{folded_name};
-ghost use Rattle.oa_checks.specs.Defaults.{default_value, defaults_of};
-ghost use Rattle.oa_checks.specs.Libraries.{same};
+ghost use Rattle.oa_sema.specs.Defaults.{default_value, defaults_of};
+ghost use Rattle.oa_sema.specs.Libraries.{same};
 ghost use Rattle.oa_typelib.specs.Groups.{keys_with_places};
 ghost use Rattle.oa_typelib.specs.Indexes.{grouped, members_in};
 
 use crate::groups::{FoldedName, Groups, places_by_id, places_by_name};
-use oa_checks::{Declaration, declarations, value_of_default};
 use oa_idl::{Item, Name, Parameter};
+use oa_sema::{Declaration, declarations, value_of_default};
 use oa_variant::Scalar;
 use std::alloc::{AllocError, Global};
 use std::marker::Model;

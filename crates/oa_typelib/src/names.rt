@@ -1,13 +1,13 @@
 //! Looks up DISPIDs by names.
 ghost use Rattle.std.specs.Prelude.{◌≡◌, ◌++◌, IfOk, OnOk, map, position, None, Some};
 ghost use Rattle.oa_model.specs.Folding.{folded, folded_name};
-ghost use Rattle.oa_checks.specs.Libraries.{same_name};
-ghost use Rattle.oa_typelib.specs.Names.{ids_in, named_in, or_unknown, parameter_named, told};
+ghost use Rattle.oa_sema.specs.Libraries.{same_name};
+ghost use Rattle.oa_typelib.specs.Names.{dispids_reply, ids_in, named_in, or_unknown, parameter_named};
 
 use crate::dispinterface::Dispinterface;
-use oa_checks::Declaration;
 use oa_idl::Parameter;
 use oa_model::{UNKNOWN_DISPID, fold};
+use oa_sema::Declaration;
 use std::alloc::{AllocError, Global};
 use std::marker::Model;
 
@@ -148,7 +148,7 @@ fn or_unknown(id: Option<i32>) -> i32
 /// Makes the reply to a look-up of names from the DISPID of each, None for an unknown one. Err: the
 /// allocation fails.
 pub(crate) fn told(alloc: Global, ids: &[Option<i32>]) -> Result<DispIds, AllocError>
-    ensures { IfOk result (λ d. d ≡ told ids.now) }
+    ensures { IfOk result (λ d. d ≡ dispids_reply ids.now) }
 {
     let mut answered = Vec::with_capacity(alloc, ids.len())?;
     let mut all_known = true;

@@ -26,14 +26,14 @@ impl Drop for Counted<'_> {
 
 /// Why no cells were made: an allocation failed, or `fill` failed at this index.
 #[derive(Clone, Copy, PartialEq, Eq)]
-pub enum Refusal {
+pub enum CellsRefusal {
     Memory,
     At(usize),
 }
 
-impl From<AllocError> for Refusal {
-    fn from(_: AllocError) -> Refusal {
-        Refusal::Memory
+impl From<AllocError> for CellsRefusal {
+    fn from(_: AllocError) -> CellsRefusal {
+        CellsRefusal::Memory
     }
 }
 
@@ -42,9 +42,9 @@ fn make_counted<'a>(
     number: usize,
     refuse: usize,
     drops: &'a Cell<usize>,
-) -> Result<Counted<'a>, Refusal> {
+) -> Result<Counted<'a>, CellsRefusal> {
     if number == refuse {
-        return Err(Refusal::At(number));
+        return Err(CellsRefusal::At(number));
     }
     Ok(Counted {
         number: number as u128,
@@ -58,7 +58,7 @@ fn fill_once<'a>(
     len: usize,
     refuse: usize,
     drops: &'a Cell<usize>,
-) -> Result<Cells<Counted<'a>>, Refusal> {
+) -> Result<Cells<Counted<'a>>, CellsRefusal> {
     Cells::filled_by(alloc, len, |i| make_counted(i, refuse, drops))
 }
 
@@ -69,9 +69,9 @@ fn filled<'a>(
     len: usize,
     refuse: usize,
     drops: &'a Cell<usize>,
-) -> Result<Cells<Counted<'a>>, Refusal> {
+) -> Result<Cells<Counted<'a>>, CellsRefusal> {
     match fill_once(alloc, len, refuse, drops) {
-        Err(Refusal::Memory) if drops.get() == 0 => fill_once(alloc, len, refuse, drops),
+        Err(CellsRefusal::Memory) if drops.get() == 0 => fill_once(alloc, len, refuse, drops),
         answer => answer,
     }
 }
@@ -90,7 +90,7 @@ fn are_numbered(cells: &Cells<Counted<'_>>, len: usize) -> bool {
 fn is_told(alloc: Global, refuse: usize, drops: &Cell<usize>) -> bool {
     match filled(alloc, 4, refuse, drops) {
         Ok(cells) => refuse == 4 && are_numbered(&cells, 4) && drops.get() == 0,
-        Err(error) => error == Refusal::At(refuse),
+        Err(error) => error == CellsRefusal::At(refuse),
     }
 }
 
@@ -111,7 +111,7 @@ struct Resize {
     from: usize,
     len: usize,
     refuse: usize,
-    answer: Result<(), Refusal>,
+    answer: Result<(), CellsRefusal>,
     left: usize,
     dropped: usize,
     all: usize,
@@ -132,7 +132,7 @@ const RESIZES: [Resize; 7] = [
         from: 3,
         len: 5,
         refuse: 3,
-        answer: Err(Refusal::At(3)),
+        answer: Err(CellsRefusal::At(3)),
         left: 3,
         dropped: 0,
         all: 3,
@@ -141,7 +141,7 @@ const RESIZES: [Resize; 7] = [
         from: 3,
         len: 5,
         refuse: 4,
-        answer: Err(Refusal::At(4)),
+        answer: Err(CellsRefusal::At(4)),
         left: 3,
         dropped: 1,
         all: 4,
@@ -189,7 +189,7 @@ fn resize_once<'a>(
     cells: &mut Cells<Counted<'a>>,
     row: &Resize,
     drops: &'a Cell<usize>,
-) -> Result<(), Refusal> {
+) -> Result<(), CellsRefusal> {
     cells.resized(row.len, |i| make_counted(i, row.refuse, drops))
 }
 
@@ -198,9 +198,9 @@ fn resized<'a>(
     cells: &mut Cells<Counted<'a>>,
     row: &Resize,
     drops: &'a Cell<usize>,
-) -> Result<(), Refusal> {
+) -> Result<(), CellsRefusal> {
     match resize_once(cells, row, drops) {
-        Err(Refusal::Memory) if are_numbered(cells, row.from) && drops.get() == 0 => {
+        Err(CellsRefusal::Memory) if are_numbered(cells, row.from) && drops.get() == 0 => {
             resize_once(cells, row, drops)
         }
         answer => answer,
@@ -273,12 +273,12 @@ pub fn made<T: Copy>(
     len: usize,
     refuse: usize,
     value: T,
-) -> Result<Cells<T>, Refusal> {
+) -> Result<Cells<T>, CellsRefusal> {
     Cells::filled_by(alloc, len, |i| {
         if i == refuse {
-            return Err(Refusal::At(i));
+            return Err(CellsRefusal::At(i));
         }
-        Ok::<T, Refusal>(value)
+        Ok::<T, CellsRefusal>(value)
     })
 }
 
@@ -286,15 +286,15 @@ pub fn made<T: Copy>(
 /// allocation fails, the fill is repeated once.
 fn are_many(alloc: Global) -> bool {
     match made(alloc, 1 << 62, 2, ()) {
-        Err(Refusal::Memory) => made(alloc, 1 << 62, 2, ()).err() == Some(Refusal::At(2)),
-        answer => answer.err() == Some(Refusal::At(2)),
+        Err(CellsRefusal::Memory) => made(alloc, 1 << 62, 2, ()).err() == Some(CellsRefusal::At(2)),
+        answer => answer.err() == Some(CellsRefusal::At(2)),
     }
 }
 
 /// Returns whether the number of cells is bounded by their bytes. 2 ^ 62 values of size 0 need no
 /// bytes and fit in a block; 2 ^ 59 values of sixteen bytes would need 2 ^ 63 bytes.
 fn are_bounded(alloc: Global) -> bool {
-    are_many(alloc) && made(alloc, 1 << 59, 2, 7u128).err() == Some(Refusal::Memory)
+    are_many(alloc) && made(alloc, 1 << 59, 2, 7u128).err() == Some(CellsRefusal::Memory)
 }
 
 /// Returns whether a row has the size of one word, and cells have that of two.

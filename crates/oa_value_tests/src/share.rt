@@ -2,7 +2,7 @@
 //! order.
 use crate::asserts::expect;
 use oa_frame::End;
-use oa_share::{Clients, FrameHead, What};
+use oa_mux::{ClientItem, Clients, FrameHead};
 use std::alloc::Global;
 use std::rt::HostRuntime;
 
@@ -23,10 +23,10 @@ fn of_frame(
         }
         let step = clients.step(client, bytes).ok()?;
         match &step.what {
-            What::Nothing => {}
-            What::Body(record) => all.push((client, 'B', record.body().len())).ok()?,
-            What::Ends(End::TooLong) => all.push((client, 'L', 0)).ok()?,
-            What::Ends(_) => all.push((client, 'Z', 0)).ok()?,
+            ClientItem::Nothing => {}
+            ClientItem::Body(record) => all.push((client, 'B', record.body().len())).ok()?,
+            ClientItem::Ends(End::TooLong) => all.push((client, 'L', 0)).ok()?,
+            ClientItem::Ends(_) => all.push((client, 'Z', 0)).ok()?,
         }
         bytes = bytes.get(step.taken..)?;
     }
@@ -58,7 +58,7 @@ fn of_frames(alloc: Global, mut input: &[u8]) -> Option<Vec<Brought>> {
                 input = input.get(count..)?;
             }
             FrameHead::Last(client) => of_end(&mut clients, client, &mut all)?,
-            FrameHead::Now => all.push((0, 'N', 0)).ok()?,
+            FrameHead::Flush => all.push((0, 'N', 0)).ok()?,
             FrameHead::Unknown => break,
         }
     }

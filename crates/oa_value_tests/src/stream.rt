@@ -7,7 +7,8 @@ use crate::asserts::expect;
 use crate::stream::Step::{Ends, Fails, Interrupts, Moves};
 use oa_frame::laws;
 use oa_stream::{
-    Ahead, Cutting, Gathered, Interrupted, More, Next, Outlet, Sink, Source, Unwritten,
+    BufferedSource, ChunkedSource, Interrupted, More, Next, Sink, Source, StdSink, Unwritten,
+    VecSink,
 };
 use std::alloc::Global;
 use std::io::{self, ErrorKind, Write};
@@ -100,7 +101,7 @@ fn written(row: &Writing) -> (Result<(), Unwritten>, usize) {
         steps: row.steps,
         calls: 0,
     };
-    let result = put(&mut Outlet::new(&mut writer), row.bytes);
+    let result = put(&mut StdSink::new(&mut writer), row.bytes);
     (result, writer.calls)
 }
 
@@ -114,11 +115,11 @@ fn an_interrupted_write_is_made_again_and_a_failed_one_is_not(rt: HostRuntime) {
 /// Returns whether a buffer is empty, then contains the bytes of one call, and then those after the
 /// first byte.
 fn shown(alloc: Global) -> [bool; 4] {
-    let Ok(mut reader) = Ahead::new(alloc, Cutting::new(b"abcde", &[2])) else {
+    let Ok(mut reader) = BufferedSource::new(alloc, ChunkedSource::new(b"abcde", &[2])) else {
         return [false; 4];
     };
     let is_empty = reader.buffered().is_empty();
-    let is_more = reader.more(&Gathered::new(Vec::new(alloc))) == More::Some;
+    let is_more = reader.more(&VecSink::new(Vec::new(alloc))) == More::Some;
     let is_two = reader.buffered() == b"ab".as_slice();
     let count = reader.buffered().len().min(1);
     reader.advance(count);

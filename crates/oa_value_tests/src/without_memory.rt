@@ -10,7 +10,7 @@ use oa_array::SafeArray;
 use oa_bstr::Bstr;
 use oa_cells::Cells;
 use oa_idl::parse;
-use oa_image::Pieces;
+use oa_image::ImageChunks;
 use oa_model::{Bound, ValueType, VarType};
 use oa_ndr::Ndr;
 use oa_record::{RecordFault, read_request, tag_of};
@@ -132,7 +132,7 @@ fn is_locked(table: &mut Table, name: &CellName) -> bool {
         table.get(name).is_some(),
         table.class_of(1).is_some(),
         table.next() == 2,
-        Pieces::new(table).fill(&mut front) == 8,
+        ImageChunks::new(table).fill(&mut front) == 8,
         table.size_after(&Event::Release { number: 2 }) == table.image_size(),
         table.unlock(name).is_ok(),
     ];

@@ -5,7 +5,7 @@ use Rattle.std.specs.Prelude.{pos}
 use Rattle.std.proofs.lemmas.Bool.{leb-false}
 use Rattle.std.proofs.lemmas.Option.{none-some}
 use Rattle.std.specs.Int.{Width, cast_signed}
-use Rattle.oa_ndr.specs.Reading.{Cursor, Reading, and_then, bind, give, unit_at, many}
+use Rattle.oa_ndr.specs.Reading.{Cursor, Decoder, and_then, bind, give, unit_at, many}
 use Rattle.oa_model.specs.declared.var_type.VarType.{VarType}
 use Rattle.oa_model.specs.declared.var_type.VarType.TheVariants as types
 use Rattle.oa_model.specs.Types.{is_signed_type}
@@ -20,7 +20,7 @@ use Rattle.oa_wire_array.specs.ArrayCanon.{plain_width}
 use Rattle.oa_wire_text.proofs.Memory.{unit_there}
 
 -- A decoder that returns a value has moved past at least n bytes.
-abbrev Takes_bytes : {A : Type 0} → ℕ → Reading A → Type 0
+abbrev Takes_bytes : {A : Type 0} → ℕ → Decoder A → Type 0
 Takes_bytes {A} n read = (s t : Cursor) (x : A) → read s ≡ Some (x, t) → n + length t.rest ≤ length s.rest
 
 unit_takes : (n : ℕ) → Takes_bytes n (unit_at n)
@@ -32,7 +32,7 @@ end_of d None = d
 end_of d (Some x) = x.1
 
 -- as does one of a value that is made of it
-made_of : {A B : Type 0} (n : ℕ) (read : Reading A) (make : A → B) → Takes_bytes n read → Takes_bytes n (bind read (λ x. give (make x)))
+made_of : {A B : Type 0} (n : ℕ) (read : Decoder A) (make : A → B) → Takes_bytes n read → Takes_bytes n (bind read (λ x. give (make x)))
 unfolding bind give
 made_of {A} {B} n read make takes s t y e = behind (read s) refl e
   where
@@ -50,7 +50,7 @@ number_takes true n = signed_takes n (width_of n)
 number_takes false n = made_of n (unit_at n) pos (unit_takes n)
 
 -- n of them move past n times as many bytes.
-behind_first : {A : Type 0} (w n : ℕ) (read : Reading A) → Takes_bytes w read → Takes_bytes (n * w) (many read n) → Takes_bytes (suc n * w) (many read (suc n))
+behind_first : {A : Type 0} (w n : ℕ) (read : Decoder A) → Takes_bytes w read → Takes_bytes (n * w) (many read n) → Takes_bytes (suc n * w) (many read (suc n))
 unfolding many bind give
 behind_first {A} w n read takes rest s t xs e = first (read s) refl e
   where
@@ -62,7 +62,7 @@ behind_first {A} w n read takes rest s t xs e = first (read s) refl e
     first None r q = absurd (none-some (xs, t) q)
     first (Some x) r q = omega (arith, takes s x.1 x.0 r, others x.0 x.1 (many read n x.1) refl q)
 
-many_take : {A : Type 0} (w : ℕ) (read : Reading A) → Takes_bytes w read → (n : ℕ) → Takes_bytes (n * w) (many read n)
+many_take : {A : Type 0} (w : ℕ) (read : Decoder A) → Takes_bytes w read → (n : ℕ) → Takes_bytes (n * w) (many read n)
 unfolding many give
 many_take {A} w read takes zero s t xs e = let last : s ≡ t = ap (end_of s) e in omega (arith, ap (λ (c : Cursor). length c.rest) last)
 many_take {A} w read takes (suc n) s t xs e = behind_first w n read takes (many_take w read takes n) s t xs e

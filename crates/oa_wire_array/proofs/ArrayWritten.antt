@@ -17,7 +17,7 @@ use Rattle.oa_variant.specs.Scalars.{type_of, FitsType, IsScalar}
 use Rattle.oa_variant.specs.Variants.{IsBound}
 use Rattle.oa_variant.specs.declared.scalar.Scalar.{Scalar}
 use Rattle.oa_variant.specs.declared.scalar.Scalar.TheVariants as scalars
-use Rattle.oa_wire_array.specs.Arrays.{bound, cell_pointee, pointed, elements, IsUnlocked, dimensions, array}
+use Rattle.oa_wire_array.specs.Arrays.{bound, cell_pointee, pointed, elements, IsUnlockedArray, dimensions, array}
 use Rattle.oa_wire_array.specs.ArrayCanon.{put_bound, has_pointee, put_pointee, put_cell_referent, put_pointed, put_elements, features_of}
 use Rattle.oa_wire_array.specs.ArrayCanon.{put_array}
 use Rattle.oa_wire_array.proofs.Written.{signed32_writes, blob_writes, arm_writes, scalar_writes}
@@ -93,7 +93,7 @@ array_writes a is cells bounds =
     let dims : length a.bounds < 256 ^ 2 = omega (arith, is.shape.few) in
     let few : length a.cells < 256 ^ 4 = omega (arith, is.whole, is.shape.small) in
     let sf = sf_is a.elem is.shape.typed in
-    let plain : IsUnlocked (with_locks a 0) = (record { shape = is.shape; whole = is.whole; typed = is.typed }, refl) in
+    let plain : IsUnlockedArray (with_locks a 0) = (record { shape = is.shape; whole = is.whole; typed = is.typed }, refl) in
     then_writes (given_writes plain) (then_writes (referent_writes true)
     (then_writes (unit_writes 4 (length a.bounds) (omega (arith, dims))) (then_writes (unit_writes 2 (length a.bounds) dims)
     (then_writes (ignored_writes 2 (features_of a.elem)) (then_writes (ignored_writes 4 (unwrap_or (element_size_of a.elem) 0)) (then_writes (ignored_writes 4 (vt_of a.elem * 65536))

@@ -5,7 +5,7 @@ use Rattle.std.specs.Prelude.{unsigned_abs, if◌then◌else◌}
 use Rattle.std.specs.Option.{unwrap_or}
 use Rattle.byteorder.specs.Endian.{little_number}
 use Rattle.std.specs.Int.{Width, w8, w16, w32, w64, cast_signed}
-use Rattle.oa_ndr.specs.Forms.{Form, ◌▸◌, nothing, align, ignored, unit, with, given}
+use Rattle.oa_ndr.specs.Forms.{Encoding, ◌▸◌, nothing, align, ignored, unit, with, given}
 use Rattle.oa_model.specs.Types.{vt_of, is_signed_type, element_size_of}
 use Rattle.oa_variant.specs.Decimals.{DecimalValue}
 use Rattle.oa_variant.specs.Keys.{key_number}
@@ -15,11 +15,11 @@ use Rattle.oa_variant.specs.declared.scalar.Scalar.TheVariants as scalars
 use Rattle.oa_wire_text.specs.Texts.{bstr}
 
 -- A signed number of the width w, in n bytes.
-abbrev pub signed_unit : ℕ → Width → ℤ → Form
+abbrev pub signed_unit : ℕ → Width → ℤ → Encoding
 signed_unit n w z = with (unit n) (λ x. given (z ≡ cast_signed w x))
 
 -- VARIANT_BOOL (MS-OAUT section 2.2.27): any number except 0 is true (this project's choice).
-abbrev pub truth : Bool → Form
+abbrev pub truth : Bool → Encoding
 truth b = with (unit 2) (λ x. given (b ≡ not (x == 0)))
 
 -- The byte of a sign, 0x80 for minus.
@@ -27,11 +27,11 @@ abbrev pub sign_of : Bool → ℕ
 sign_of false = 0
 sign_of true = 128
 
-abbrev pub sign : Bool → Form
+abbrev pub sign : Bool → Encoding
 sign negative = with (unit 1) (λ x. given (x ≡ sign_of negative))
 
 -- DECIMAL (MS-OAUT section 2.2.26): a reserved number, scale, sign, Hi32, Lo64.
-abbrev pub decimal : DecimalValue → Form
+abbrev pub decimal : DecimalValue → Encoding
 decimal d =
     align 8 ▸ ignored 2 ▸ unit 1 d.scale ▸ sign d.negative
     ▸ with (unit 4) (λ high. with (unit 8) (λ low. given ((d.scale ≤ 28) × (d.magnitude ≡ high * 2 ^ 64 + low))))
@@ -41,13 +41,13 @@ abbrev pub width_of : ℕ → Width
 width_of n = if n == 1 then w8 else if n == 2 then w16 else if n == 8 then w64 else w32
 
 -- A number in n bytes, signed or not.
-abbrev pub number : Bool → ℕ → ℤ → Form
+abbrev pub number : Bool → ℕ → ℤ → Encoding
 number true n z = signed_unit n (width_of n) z
 number false n z = unit n (unsigned_abs z)
 
 -- The arm of the scalar's type. A number has as many bytes as an element of an array of its type; ERROR, which no
 -- array has, is one of 4 bytes.
-abbrev pub arm : Scalar → Form
+abbrev pub arm : Scalar → Encoding
 arm scalars.Empty = nothing
 arm scalars.Null = nothing
 arm (scalars.Bool b) = truth b
@@ -60,11 +60,11 @@ abbrev pub scalar_vt : Scalar → ℕ
 scalar_vt v = vt_of (type_of v)
 
 -- The union of a scalar: the discriminant, which is the vt, and the arm.
-abbrev pub union : Scalar → Form
+abbrev pub union : Scalar → Encoding
 union v = unit 4 (scalar_vt v) ▸ arm v
 
 -- The union of a scalar whose vt is given.
-abbrev pub union_of : ℕ → Scalar → Form
+abbrev pub union_of : ℕ → Scalar → Encoding
 union_of vt v = given (scalar_vt v ≡ vt) ▸ union v
 
 -- The vt of a wireVARIANT.
@@ -77,5 +77,5 @@ abbrev pub TakesText : List ℕ → Type 0
 TakesText bytes = (36 ≤ length bytes) × (own_vt bytes ≡ 8)
 
 -- A wireVARIANT: clSize, rpcReserved, vt, three reserved numbers, the union.
-abbrev pub scalar : Scalar → Form
+abbrev pub scalar : Scalar → Encoding
 scalar v = align 8 ▸ ignored 4 ▸ ignored 4 ▸ unit 2 (scalar_vt v) ▸ ignored 2 ▸ ignored 2 ▸ ignored 2 ▸ union v

@@ -7,14 +7,14 @@ use Rattle.oa_ndr.specs.Reading.{give, choose}
 use Rattle.oa_ndr.proofs.Laws.{Reads, Always, give_reads, none_reads, fail_reads, choose_reads, unit_reads, bytes_reads, referent_reads}
 use Rattle.oa_ndr.proofs.Laws.{bind_reads, with_reads, any_then, made_reads}
 use Rattle.oa_model.specs.Limits.{max_text_bytes}
-use Rattle.oa_wire_text.specs.Texts.{units, text_len, text_units, body, text_bytes, blob, pointee, bstr}
+use Rattle.oa_wire_text.specs.Texts.{units, text_len, text_units, text_body, text_bytes, blob, pointee, bstr}
 use Rattle.oa_wire_text.specs.Reading.{body_at, text_at, blob_at, bstr_at}
 
 -- The length of an encoded text is within the limit.
-body_limit : (text : List ℕ) (p : ℕ) (bytes : List ℕ) → body text p bytes → length text ≤ max_text_bytes
+body_limit : (text : List ℕ) (p : ℕ) (bytes : List ℕ) → text_body text p bytes → length text ≤ max_text_bytes
 body_limit text p bytes form = form.second.second.fact
 
-body_reads : (len : ℕ) → len ≤ max_text_bytes → Reads (λ text. length text ≡ len) body (body_at len)
+body_reads : (len : ℕ) → len ≤ max_text_bytes → Reads (λ text. length text ≡ len) text_body (body_at len)
 unfolding body_at
 body_reads len small =
     bind_reads exactly (λ text. text) (bytes_reads len) (λ text h. h) (λ text is_len.

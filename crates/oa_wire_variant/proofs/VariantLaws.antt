@@ -22,7 +22,7 @@ use Rattle.oa_wire_array.specs.declared.fault.WireFault.{WireFault}
 use Rattle.oa_wire_array.specs.declared.fault.WireFault.TheVariants.{BadStub, BadVarType, Memory}
 use Rattle.oa_wire_text.specs.declared.fault.StubFault.{StubFault}
 use Rattle.oa_wire_text.specs.declared.fault.StubFault.TheVariants as faults
-use Rattle.oa_wire_text.specs.Reading.{ReadsField, OnMemory, Stretch}
+use Rattle.oa_wire_text.specs.Reading.{ReadsField, OnMemory, ReadSpan}
 use Rattle.oa_wire_text.proofs.Memory.{anyhow}
 use Rattle.oa_wire_array.specs.Arrays.{array, IsArrayFront}
 use Rattle.oa_wire_array.specs.ArrayReading.{array_at}
@@ -127,7 +127,7 @@ AsRead (Err BadStub) new read = read ≡ None
 AsRead (Err BadVarType) new read = read ≡ None
 AsRead (Err Memory) new read = Unit {0}
 
-no_array : (t : VarType) (old : Cursor) → ((a : ArrayValue Scalar) (end : Cursor) → a.elem ≡ t → Stretch (array a) old end → ⊥) → array_at t old ≡ None
+no_array : (t : VarType) (old : Cursor) → ((a : ArrayValue Scalar) (end : Cursor) → a.elem ≡ t → ReadSpan (array a) old end → ⊥) → array_at t old ≡ None
 no_array t old never = nothing_read (array_at t old) refl
   where
     nothing_read : (o : Option (ArrayValue Scalar × Cursor)) → array_at t old ≡ o → o ≡ None
@@ -136,7 +136,7 @@ no_array t old never = nothing_read (array_at t old) refl
         let one = (array_reads t).takes old.position old.rest y.0 y.1 e in
         absurd (never y.0 y.1 one.0 (record { text = one.1.text; parts = one.1.parts; place = one.1.place; form = one.1.form }))
 
-untyped : (t : VarType) (a : ArrayValue Scalar) (old end : Cursor) → sf_type_of t ≡ None → a.elem ≡ t → Stretch (array a) old end → ⊥
+untyped : (t : VarType) (a : ArrayValue Scalar) (old end : Cursor) → sf_type_of t ≡ None → a.elem ≡ t → ReadSpan (array a) old end → ⊥
 untyped t a old end none e stretch =
     let typed : is_some (sf_type_of a.elem) ≡ true = stretch.form.first.fact.0.shape.typed in
     let no : is_some (sf_type_of a.elem) ≡ false = ap (λ (j : VarType). is_some (sf_type_of j)) e ∙ ap is_some none in

@@ -2,7 +2,7 @@
 -- section 2.2.29).
 use Rattle.std.specs.Prelude.{◌≡◌, ℕ, ◌+◌, ◌-◌, ◌≤◌, ◌&&◌, ◌⊎◌, nat_le, nat_lt, is_some, Bool, true, false, not}
 use Rattle.std.specs.Prelude.{if◌then◌else◌, List, length, Option, Some, None, Result, Ok, Err}
-use Rattle.oa_ndr.specs.Forms.{Form, ◌▸◌, align, ignored, unit, with, given, referent}
+use Rattle.oa_ndr.specs.Forms.{Encoding, ◌▸◌, align, ignored, unit, with, given, referent}
 use Rattle.oa_model.specs.Invoke.{vt_array}
 use Rattle.oa_model.specs.Types.{vt_of, vt_of_value, type_at, sf_type_of}
 use Rattle.oa_model.specs.declared.var_type.VarType.{VarType}
@@ -23,16 +23,16 @@ value_vt v = vt_of_value (value_type_of v)
 
 -- The union of an array: the discriminant, which is VT_ARRAY or the vt (this project's choice), a referent, which is
 -- set, and the rest of the array.
-abbrev pub array_union : ArrayValue Scalar → Form
+abbrev pub array_union : ArrayValue Scalar → Encoding
 array_union a = with (unit 4) (λ d. given ((d ≡ vt_array) ⊎ (d ≡ vt_of a.elem + vt_array)) ▸ referent true ▸ array a)
 
 -- The union of a value.
-abbrev pub value_union : Variant → Form
+abbrev pub value_union : Variant → Encoding
 value_union (One s) = union s
 value_union (Array a) = array_union a
 
 -- A wireVARIANT: clSize, rpcReserved, vt, three reserved numbers, the union.
-abbrev pub variant : Variant → Form
+abbrev pub variant : Variant → Encoding
 variant v = align 8 ▸ ignored 4 ▸ ignored 4 ▸ unit 2 (value_vt v) ▸ ignored 2 ▸ ignored 2 ▸ ignored 2 ▸ value_union v
 
 -- All of the bytes together encode the value.

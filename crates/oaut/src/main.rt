@@ -14,10 +14,10 @@ mod session;
 use clap::ArgMatches;
 use clap::error::ErrorKind;
 use oa_commands::{
-    Fault, StandardStreams, format_store, tell, upgrade_store, write_dump, write_text,
+    Fault, StandardStreams, format_store, tell, upgrade_store, write_dump, write_library_text,
 };
 use oa_journal::DEFAULT_BANK_BYTES;
-use oa_stream::{Behind, Outlet};
+use oa_stream::{BufferedSink, StdSink};
 use std::alloc::Global;
 use std::process::ExitCode;
 use std::{env, io};
@@ -156,7 +156,7 @@ fn upgrades(rt: &HostRuntime, arguments: &ArgMatches) -> Result<(), Fault> {
 /// Executes `dump`. Err: its fault.
 fn dumps(rt: &HostRuntime, arguments: &ArgMatches) -> Result<(), Fault> {
     let streams = StandardStreams::fill_closed(rt);
-    let mut writer = Behind::new(rt.alloc(), Outlet::new(io::writer(rt)))?;
+    let mut writer = BufferedSink::new(rt.alloc(), StdSink::new(io::writer(rt)))?;
     write_dump(
         rt,
         &streams,
@@ -168,8 +168,8 @@ fn dumps(rt: &HostRuntime, arguments: &ArgMatches) -> Result<(), Fault> {
 
 /// Executes `check`. Err: its fault.
 fn checks(rt: &HostRuntime, arguments: &ArgMatches) -> Result<(), Fault> {
-    let mut writer = Outlet::new(io::writer(rt));
-    write_text(
+    let mut writer = StdSink::new(io::writer(rt));
+    write_library_text(
         rt,
         arguments.get_str("LIB").unwrap_or(""),
         arguments.get_flag("where"),

@@ -1,10 +1,10 @@
 //! Serving the objects of a store.
 ghost use Rattle.std.specs.Prelude.{IfErr, IfOk};
-ghost use Rattle.oa_stream.specs.Ahead.{ahead};
+ghost use Rattle.oa_stream.specs.BufferedSource.{ahead};
 ghost use Rattle.oaut.specs.Sessions.{HasServed, HasServedShared, IsOfNoStore, OpensStore, group_near};
 
 use crate::session::{StandardInput, StandardOutput, hold, hold_shared};
-use oa_commands::{Fault, STANDARD_INPUT, StandardStreams, open_store_file, read_library};
+use oa_commands::{Fault, STANDARD_INPUT, StandardStreams, open_store_file, read_library_file};
 use oa_disk::{Disk, FileDisk};
 use oa_model::MAX_GROUP;
 use oa_server::Server;
@@ -64,7 +64,7 @@ fn opened(
     ensures refused { IfErr result IsOfNoStore }
 {
     let alloc = rt.alloc();
-    let library = read_library(rt, alloc, library)?;
+    let library = read_library_file(rt, alloc, library)?;
     let disk = open_store_file(rt, streams, alloc, store)?;
     match Server::open(alloc, disk, library) {
         Ok(server) => Ok(server),

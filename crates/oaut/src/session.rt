@@ -1,22 +1,22 @@
 //! Sessions over standard input and output.
 ghost use Rattle.std.specs.Prelude.{◌≤◌};
 ghost use Rattle.oa_model.specs.Limits.{max_group};
-ghost use Rattle.oa_stream.specs.Ahead.{ahead};
-ghost use Rattle.oaut.specs.Sessions.{Holds, ServesClient, ServesClients, framing_of};
+ghost use Rattle.oa_stream.specs.BufferedSource.{ahead};
+ghost use Rattle.oaut.specs.Sessions.{Holds, ServesClient, ServesManyClients, framing_of};
 
 use oa_commands::{Fault, client_ended, clients_ended};
 use oa_disk::Disk;
 use oa_model::MAX_LINE_CHARACTERS;
 use oa_server::Server;
-use oa_stream::{Ahead, Behind, Inlet, Outlet, Sink, Source};
+use oa_stream::{BufferedSink, BufferedSource, Sink, Source, StdSink, StdSource};
 use std::alloc::{AllocError, Global};
 use std::io::{self, Printer, StdinLock};
 
 /// The reader of standard input.
-pub(crate) type StandardInput = Inlet<StdinLock<'static>>;
+pub(crate) type StandardInput = StdSource<StdinLock<'static>>;
 
 /// The writer of standard output.
-pub(crate) type StandardOutput<'a> = Behind<Outlet<Printer<'a, HostRuntime>>>;
+pub(crate) type StandardOutput<'a> = BufferedSink<StdSink<Printer<'a, HostRuntime>>>;
 
 /// Answers the requests of standard input on standard output until the input ends or is invalid:
 /// lines of hexadecimal digits if `hex`, otherwise records. The changes of up to `group` requests
@@ -35,8 +35,8 @@ pub(crate) fn hold<D: Disk + Drop>(
 {
     let alloc = rt.alloc();
     keep_long_blocks(alloc)?;
-    let mut reader = Ahead::new(alloc, Inlet::new(rt.reader()))?;
-    let mut writer = Behind::new(alloc, Outlet::new(io::writer(rt)))?;
+    let mut reader = BufferedSource::new(alloc, StdSource::new(rt.reader()))?;
+    let mut writer = BufferedSink::new(alloc, StdSink::new(io::writer(rt)))?;
     if hex {
         return client_ended(server.serve_hex(&mut reader, &mut writer, group)?.why);
     }
@@ -54,12 +54,12 @@ pub(crate) fn hold_shared<D: Disk + Drop>(
     requires positive { 1 ≤ group }
     requires small { group ≤ max_group }
     ensures session { Holds (ahead ⟦<StandardInput as Source>⟧.input) ⟦<StandardOutput<'static> as Sink>⟧.out
-        (ServesClients group result) result server.old.engine server.new.engine }
+        (ServesManyClients group result) result server.old.engine server.new.engine }
 {
     let alloc = rt.alloc();
     keep_long_blocks(alloc)?;
-    let mut reader = Ahead::new(alloc, Inlet::new(rt.reader()))?;
-    let mut writer = Behind::new(alloc, Outlet::new(io::writer(rt)))?;
+    let mut reader = BufferedSource::new(alloc, StdSource::new(rt.reader()))?;
+    let mut writer = BufferedSink::new(alloc, StdSink::new(io::writer(rt)))?;
     clients_ended(server.serve_shared(&mut reader, &mut writer, group)?)
 }
 

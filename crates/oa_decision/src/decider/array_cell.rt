@@ -1,7 +1,7 @@
 //! The array in a cell.
 ghost use Rattle.std.specs.Prelude.{◌≡◌, None, Err, ℤ, List};
 ghost use Rattle.std.specs.Result.{result_map_both};
-ghost use Rattle.oa_decision.specs.ArrayCells.{array_locks, array_of, element_at, element_of, element_type_at};
+ghost use Rattle.oa_decision.specs.ArrayCells.{array_element_at, array_in_value, array_locks, element_of, element_type_at};
 ghost use Rattle.oa_decision.specs.ArrayCells.{element_type_of, locks_found};
 ghost use Rattle.oa_variant.specs.Variants.{zero_value};
 
@@ -28,7 +28,7 @@ impl Decider<'_> {
 
 /// Returns the array in a value. Err: DISP_E_TYPEMISMATCH if the value is none.
 fn array_of(value: &Variant) -> Result<&SafeArray<Scalar>, Refusal>
-    ensures { result_map_both (λ a. a.now) (λ e. e) result ≡ array_of value.now }
+    ensures { result_map_both (λ a. a.now) (λ e. e) result ≡ array_in_value value.now }
 {
     match value {
         Variant::One(_) => Err(Refusal::of(TableFault::NotArray.code())),
@@ -54,7 +54,7 @@ pub(super) fn element_type_of(index: &[i32], value: &Variant) -> Result<VarType,
 
 /// Returns the element of an array at an index list. Err: there is none.
 fn element_at<'a>(index: &[i32], array: &'a SafeArray<Scalar>) -> Result<&'a Scalar, Refusal>
-    ensures { result_map_both (λ s. s.now) (λ e. e) result ≡ element_at index.now array.now }
+    ensures { result_map_both (λ s. s.now) (λ e. e) result ≡ array_element_at index.now array.now }
 {
     Ok(array.element(index)?)
 }

@@ -10,7 +10,7 @@ ghost use Rattle.oa_typelib.specs.Members.{member_in};
 ghost use Rattle.oa_variant.specs.Variants.{HasZero};
 
 use super::Decider;
-use crate::decision::Undecided;
+use crate::decision::DecideError;
 use crate::refusal::Refusal;
 use oa_bind::bind;
 use oa_model::ValueType;
@@ -38,7 +38,7 @@ impl Decider<'_> {
     /// Errors: `OutOfMemory`; and `Refused`, in this order: for the object, its interface and riid;
     /// for the member, if it does not have the form that `access` requires; for the arguments.
     #[tactic(auto, unfolding(crate::specs::Cells::cell_called))]
-    pub(super) fn find_cell(&self, call: Call, access: Access) -> Result<BoundCell, Undecided>
+    pub(super) fn find_cell(&self, call: Call, access: Access) -> Result<BoundCell, DecideError>
         ensures cell { FindsDue (cell_called self.now call access) (FindingTakesMemory self.now call access) result }
         ensures zero { IfOk result (λ cell. HasZero cell.declared) }
     {
@@ -54,7 +54,7 @@ impl Decider<'_> {
         object: &LiveObject,
         call: Call,
         access: Access,
-    ) -> Result<BoundCell, Undecided>
+    ) -> Result<BoundCell, DecideError>
         requires { object_at call.head.object self.now.table ≡ Some object.now }
         ensures cell { FindsDue (cell_called self.now call access) (FindingTakesMemory self.now call access) result }
         ensures object { IfOk result (λ cell. cell.name.object ≡ call.head.object) }
@@ -72,7 +72,7 @@ impl Decider<'_> {
         interface: &Dispinterface<'_>,
         call: Call,
         access: Access,
-    ) -> Result<BoundCell, Undecided>
+    ) -> Result<BoundCell, DecideError>
         requires { interface_found self.now call.head.object call.head.interface call.head.riid ≡ Ok interface.now }
         ensures cell { FindsDue (cell_called self.now call access) (FindingTakesMemory self.now call access) result }
         ensures object { IfOk result (λ cell. cell.name.object ≡ call.head.object) }
@@ -103,7 +103,7 @@ impl Decider<'_> {
         kind: Kind,
         arguments: Arguments,
         named: &Dispids,
-    ) -> Result<oa_bind::BoundCall, Undecided>
+    ) -> Result<oa_bind::BoundCall, DecideError>
         requires { IsBindable member.now }
         ensures call { FindsDue (call_found (bound_to member.now kind (record { named = named.now; arguments = arguments })))
             (BindingTakesMemory member.now.parameters member.now.value_type kind (record { named = named.now; arguments = arguments })) result }

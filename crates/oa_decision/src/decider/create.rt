@@ -5,9 +5,9 @@ ghost use Rattle.oa_decision.specs.Decisions.{ChangesNoLocks, Decides};
 ghost use Rattle.oa_decision.specs.Limits.{allowed};
 
 use super::Decider;
-use crate::decision::{Decision, Undecided};
+use crate::decision::{DecideError, Decision};
 use crate::fields::Fields;
-use crate::limits::disallowed;
+use crate::limits::limit_violation;
 use crate::refusal::Refusal;
 use oa_image::SizedEvent;
 use oa_model::{GREATEST_OBJECT_NUMBER, HResult, MAX_LIVE_OBJECTS};
@@ -18,7 +18,7 @@ use uuid::Uuid;
 impl Decider<'_> {
     /// Decides a CREATE: a new object of coclass `class` with the next number. It allocates only if
     /// the object can be made. Errors: `Refused` as of `find_class` and `find_room`; `OutOfMemory`.
-    pub(super) fn creation(&self, class: Uuid) -> Result<Decision, Undecided>
+    pub(super) fn creation(&self, class: Uuid) -> Result<Decision, DecideError>
         ensures decided { Decides (creation self.now class) (IsOk (creation self.now class)) result }
         ensures unlocked { IfOk result ChangesNoLocks }
     {
@@ -34,7 +34,7 @@ impl Decider<'_> {
     fn find_room(&self, creation: &SizedEvent) -> Result<(), Refusal>
         ensures { result ≡ fitting (allowed self.now.bank creation.now self.now.table) }
     {
-        match disallowed(self.bank, self.table, creation) {
+        match limit_violation(self.bank, self.table, creation) {
             Some(code) => Err(Refusal::of(code)),
             None => Ok(()),
         }

@@ -10,7 +10,7 @@ ghost use Rattle.oa_typelib.specs.declared.access.Access.TheVariants.{Get};
 use super::Decider;
 use super::array_cell::{element_of, no_element};
 use super::cell::BoundCell;
-use crate::decision::{Decision, Undecided};
+use crate::decision::{DecideError, Decision};
 use crate::fields::Fields;
 use crate::refusal::Refusal;
 use oa_array::Indices;
@@ -22,7 +22,7 @@ use oa_variant::Scalar;
 impl Decider<'_> {
     /// Decides a GETELEM: the reply is written directly from the element. Errors: `Refused` for the
     /// cell (as of `find_cell`) or the element; `OutOfMemory`.
-    pub(super) fn element_got(&self, call: Call, indices: Indices) -> Result<Decision, Undecided>
+    pub(super) fn element_got(&self, call: Call, indices: Indices) -> Result<Decision, DecideError>
         ensures decided { Decides (element_got self.now call indices) (FindingTakesMemory self.now call Get ⊎ IsOk (element_got self.now call indices)) result }
         ensures unlocked { IfOk result ChangesNoLocks }
     {
@@ -32,7 +32,7 @@ impl Decider<'_> {
 
     /// Returns the reply with the element of a cell at an index list. Errors: `Refused`,
     /// `OutOfMemory`.
-    fn element_told(&self, cell: &BoundCell, index: &[i32]) -> Result<Decision, Undecided>
+    fn element_told(&self, cell: &BoundCell, index: &[i32]) -> Result<Decision, DecideError>
         ensures decided { Decides (reading self.now index.now cell.now) (IsOk (reading self.now index.now cell.now)) result }
         ensures unlocked { IfOk result ChangesNoLocks }
     {

@@ -6,8 +6,8 @@ ghost use Rattle.oa_table.specs.Tables.{object_at};
 
 use super::Decider;
 use crate::refusal::Refusal;
-use oa_checks::is_zero_guid;
 use oa_model::HResult;
+use oa_sema::is_zero_guid;
 use oa_table::LiveObject;
 use oa_typelib::Dispinterface;
 use uuid::Uuid;

@@ -9,7 +9,7 @@ ghost use Rattle.oa_variant.specs.Variants.{HasZero};
 
 use super::Decider;
 use super::cell::BoundCell;
-use crate::decision::{Decision, Undecided};
+use crate::decision::{DecideError, Decision};
 use crate::fields::Fields;
 use oa_image::SizedEvent;
 use oa_model::{HResult, ValueType};
@@ -22,7 +22,7 @@ use std::alloc::AllocError;
 impl Decider<'_> {
     /// Decides an INVOKE: a get replies with the value of its cell, a put sets it. Errors are those
     /// of `find_cell`; `OutOfMemory`.
-    pub(super) fn invocation(&self, call: Call) -> Result<Decision, Undecided>
+    pub(super) fn invocation(&self, call: Call) -> Result<Decision, DecideError>
         ensures decided { Decides (invocation self.now call) (FindingTakesMemory self.now call (Flags call.head.flags) ⊎ IsOk (invocation self.now call)) result }
         ensures unlocked { IfOk result ChangesNoLocks }
     {
@@ -35,7 +35,7 @@ impl Decider<'_> {
     /// Decides about a cell that was found: it is read, or set to the new value. Err: an allocation
     /// failed.
     #[tactic(auto, using(crate::proofs::Zeros::no_locks))]
-    fn cell_decided(&self, object: &LiveObject, cell: BoundCell) -> Result<Decision, Undecided>
+    fn cell_decided(&self, object: &LiveObject, cell: BoundCell) -> Result<Decision, DecideError>
         requires object { object_at cell.name.object self.now.table ≡ Some object.now }
         requires zero { HasZero cell.declared }
         ensures decided { Decides (Ok (cell_decided self.now cell)) ⊤ result }

@@ -9,7 +9,7 @@ ghost use Rattle.oa_typelib.specs.declared.access.Access.TheVariants.{Put};
 use super::Decider;
 use super::array_cell::{element_type_of, no_element};
 use super::cell::BoundCell;
-use crate::decision::{Decision, Undecided};
+use crate::decision::{DecideError, Decision};
 use crate::fields::Fields;
 use crate::refusal::Refusal;
 use oa_array::Indices;
@@ -29,7 +29,7 @@ impl Decider<'_> {
         call: Call,
         indices: Indices,
         value: Variant,
-    ) -> Result<Decision, Undecided>
+    ) -> Result<Decision, DecideError>
         ensures decided { Decides (element_put self.now call indices value) (FindingTakesMemory self.now call Put) result }
         ensures unlocked { IfOk result ChangesNoLocks }
     {

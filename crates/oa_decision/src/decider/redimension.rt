@@ -8,7 +8,7 @@ ghost use Rattle.oa_typelib.specs.declared.access.Access.TheVariants.{Put};
 ghost use Rattle.oa_variant.specs.Variants.{HasZero};
 
 use super::Decider;
-use crate::decision::{Decision, Undecided};
+use crate::decision::{DecideError, Decision};
 use crate::fields::Fields;
 use crate::refusal::Refusal;
 use oa_array::ArrayFault;
@@ -23,7 +23,7 @@ impl Decider<'_> {
     /// Decides a REDIM: the array in a cell gets another first bound. A cell that was never put is
     /// put. Errors: `Refused` for the cell (as of `find_cell`), or if one that was never put cannot
     /// have the bound; `OutOfMemory`.
-    pub(super) fn redimension(&self, call: Call, bound: Bound) -> Result<Decision, Undecided>
+    pub(super) fn redimension(&self, call: Call, bound: Bound) -> Result<Decision, DecideError>
         ensures decided { Decides (redimension self.now call bound) (FindingTakesMemory self.now call Put ⊎ IsOfNeverPut self.now call) result }
         ensures unlocked { IfOk result ChangesNoLocks }
     {
@@ -45,21 +45,21 @@ impl Decider<'_> {
 
     /// Returns the zero of a declared type with another first bound. Errors: `Refused` if the type
     /// is no array, or the array cannot have the bound; `OutOfMemory`.
-    fn zero_with(&self, bound: Bound, declared: ValueType) -> Result<Variant, Undecided>
+    fn zero_with(&self, bound: Bound, declared: ValueType) -> Result<Variant, DecideError>
         requires { HasZero declared }
         ensures value { FindsDue (zero_with bound declared) ⊤ result }
         ensures unlocked { IfOk result (λ value. locks_of value ≡ 0) }
     {
         let mut array = match Variant::zero(self.alloc, declared)? {
-            Variant::One(_) => return Err(Undecided::Refused(Refusal::of(
+            Variant::One(_) => return Err(DecideError::Refused(Refusal::of(
                 TableFault::NotArray.code(),
             ))),
             Variant::Array(array) => array,
         };
         match array.redim(self.alloc, bound) {
             Ok(()) => Ok(Variant::Array(array)),
-            Err(ArrayFault::Memory) => Err(Undecided::OutOfMemory),
-            Err(fault) => Err(Undecided::Refused(Refusal::of(fault.code()))),
+            Err(ArrayFault::Memory) => Err(DecideError::OutOfMemory),
+            Err(fault) => Err(DecideError::Refused(Refusal::of(fault.code()))),
         }
     }
 }

@@ -6,7 +6,7 @@ ghost use Rattle.oa_decision.specs.Unlock.{unlocking};
 ghost use Rattle.oa_typelib.specs.declared.access.Access.TheVariants.{Get};
 
 use super::Decider;
-use crate::decision::{Decision, LockChange, Undecided};
+use crate::decision::{DecideError, Decision, LockChange};
 use crate::fields::Fields;
 use oa_record::{Call, number_field};
 use oa_typelib::Access;
@@ -15,7 +15,7 @@ impl Decider<'_> {
     /// Decides an UNLOCK, which removes a lock from the array in a cell. The reply contains the new
     /// number of locks. Errors: `Refused` for the cell (as of `find_cell`) or if it has no array;
     /// `OutOfMemory`.
-    pub(super) fn unlocking(&self, call: Call) -> Result<Decision, Undecided>
+    pub(super) fn unlocking(&self, call: Call) -> Result<Decision, DecideError>
         ensures decided { Decides (unlocking self.now call) (FindingTakesMemory self.now call Get ⊎ IsOk (unlocking self.now call)) result }
         ensures unlocked { IfOk result ChangesNoLocks }
     {

@@ -1,7 +1,7 @@
 //! The fast path of an INVOKE without arguments except a put's new value, on a property without
 //! parameters.
 ghost use Rattle.std.specs.Prelude.{◌≡◌, IfSome, Some};
-ghost use Rattle.oa_checks.specs.Declarations.{kind_of_property};
+ghost use Rattle.oa_sema.specs.Declarations.{kind_of_property};
 ghost use Rattle.oa_coerce.specs.Answers.{coerced};
 ghost use Rattle.oa_record.specs.ValueCalls.{bringing};
 ghost use Rattle.oa_record.specs.declared.opcode.ByCall.TheVariants.{Invoke};

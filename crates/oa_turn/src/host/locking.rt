@@ -6,15 +6,15 @@ ghost use Rattle.oa_turn.specs.Locking.{FindsLock, FindsLockBy, asks_lock, chang
 ghost use Rattle.oa_turn.specs.Plans.{HoldsSame};
 ghost use Rattle.oa_turn.specs.Steps.{after_locks};
 
-use super::Host;
+use super::Machine;
 use crate::changes::take_lock_back;
-use oa_decision::{Decision, LockChange, Undecided};
+use oa_decision::{DecideError, Decision, LockChange};
 use oa_record::laws::{one_request, opcode_stands, refused_asks_nothing};
 use oa_record::{ByCall, Opcode, RecordFault, Request, opcode_of, read_request};
 use oa_table::CellName;
 use std::alloc::AllocError;
 
-impl Host {
+impl Machine {
     /// Returns the change that a LOCK or an UNLOCK of an existing array asks for; None for any
     /// other body. It only reads. Err: an allocation failed.
     pub fn lock_asked(&self, body: &[u8]) -> Result<Option<LockChange>, AllocError>
@@ -55,8 +55,8 @@ impl Host {
             Ok(Decision::Relock { change, .. }) => Ok(Some(change)),
             Ok(Decision::Answer { .. }) => Ok(None),
             Ok(Decision::Change { .. }) => Ok(None),
-            Err(Undecided::Refused(_)) => Ok(None),
-            Err(Undecided::OutOfMemory) => Err(AllocError),
+            Err(DecideError::Refused(_)) => Ok(None),
+            Err(DecideError::OutOfMemory) => Err(AllocError),
         }
     }
 

@@ -4,8 +4,8 @@ ghost use Rattle.oa_record.specs.Replacement.{is_replacement};
 ghost use Rattle.oa_turn.specs.ReplacementPlans.{IsLibraryOf, RefusesLoss, PlansReplacement, text_code};
 ghost use Rattle.oa_turn.specs.Turns.{Turn};
 
-use super::Host;
-use oa_keeps::{Lost, TextError, keeps, read_library};
+use super::Machine;
+use oa_compat::{Incompatibility, TextError, keeps, read_library};
 use oa_model::HResult;
 use oa_record::{Reply, lost_field, replacement_text, tag_of};
 use oa_typelib::Library;
@@ -43,7 +43,7 @@ fn text_code(fault: TextError) -> HResult
 
 /// Returns the reply E_INVALIDARG with the first incompatibility; E_OUTOFMEMORY if an allocation
 /// fails.
-fn refuse_loss(alloc: Global, tag: u32, lost: Lost) -> Reply
+fn refuse_loss(alloc: Global, tag: u32, lost: Incompatibility) -> Reply
     ensures { RefusesLoss tag lost result }
 {
     match lost_field(alloc, &lost.guid(), lost.dispid()) {
@@ -52,7 +52,7 @@ fn refuse_loss(alloc: Global, tag: u32, lost: Lost) -> Reply
     }
 }
 
-impl Host {
+impl Machine {
     /// Plans a request to replace the library: its text has to be a library that is compatible with
     /// the present one. It only reads. If an allocation fails, the reply is E_OUTOFMEMORY.
     pub fn plan_replacement(&self, body: &[u8]) -> ReplacementPlan

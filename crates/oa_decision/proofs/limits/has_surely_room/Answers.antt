@@ -13,4 +13,4 @@ returns-in-Put-clause-room c = λ is.
     let counted : c.len.result ≡ event_size (Put c.in-Put.name c.in-Put.value) = rw put at c.len.ensures.counted in
     let below = leb-true c.image_size.result c.saturating_sub.result is in
     let adds = put_adds c.in-Put.name c.in-Put.value c.args.table.now in
-    rw put (omega (arith, adds, counted, below, c.image_size.ensures, c.saturating_sub.ensures, c.most_of-most.ensures))
+    rw put (omega (arith, adds, counted, below, c.image_size.ensures, c.saturating_sub.ensures, c.max_table_image-most.ensures))

@@ -1,5 +1,5 @@
 use Rattle.std.proofs.Common.{◌≡◌, ◌+◌, drop}
-use Rattle.oa_disk.specs.Ledger.{laid}
+use Rattle.oa_disk.specs.CallLog.{laid}
 use Rattle.oa_disk.specs.Replay.{count_all}
 use Rattle.oa_disk.specs.Tear.{torn_all}
 use Rattle.oa_disk.proofs.crash.tear_all.Given as goal

@@ -1,5 +1,5 @@
 use Rattle.std.proofs.Common.{take, refl, inl}
-use Rattle.oa_stream.specs.Ahead.{read_ahead}
+use Rattle.oa_stream.specs.BufferedSource.{read_ahead}
 use Rattle.oa_frame.proofs.Sessions.{writes_none}
 use Rattle.oa_frame.proofs.Judged.{judged, judged_sound, judged_hands, line_ahead, paced_ahead}
 use Rattle.oa_frame.proofs.hex_lines.read_hex.Goals as goal

@@ -1,5 +1,5 @@
 use Rattle.std.proofs.Common.{length, ap, arith}
-use Rattle.oa_stream.specs.Ahead.{read_ahead}
+use Rattle.oa_stream.specs.BufferedSource.{read_ahead}
 use Rattle.oa_frame.proofs.Seeks.{piece_whole, piece_long, piece_part}
 use Rattle.oa_frame.proofs.lines.take_piece.Goals as goal
 

@@ -1,5 +1,5 @@
 use Rattle.std.proofs.Common.{refl, inl}
-use Rattle.oa_stream.specs.Ahead.{passed, read_ahead}
+use Rattle.oa_stream.specs.BufferedSource.{passed, read_ahead}
 use Rattle.oa_frame.proofs.Judged.{paced_ahead}
 use Rattle.oa_frame.proofs.Sessions.{writes_none}
 use Rattle.oa_frame.proofs.Raws.{record_ahead, record_fits}

@@ -14,15 +14,15 @@ turns-init g c = record {
   unbroken = c.requires.unbroken.reader;
   unbroken_writer = c.requires.unbroken.writer;
   steady = λ s. s;
-  going = going_start (frames c.args.framing) g.S.Responder.alone _ _ _ _ c.requires.unbroken.writer;
+  going = going_start (frames c.args.framing) g.S.Responder.barrier _ _ _ _ c.requires.unbroken.writer;
 }
 
 pub returns-in-Err-Answered : goal.returns-in-Err-Answered
 returns-in-Err-Answered g c =
-    let a = stepped (frames c.args.framing) g.S.Responder.alone g.S.Responder.turn g.S.Responder.ends _ _ _ _ _ _ (rw c.in-Err-Answered.field-0-is at c.in-Err-Answered.ensures.answers).1 in
+    let a = stepped (frames c.args.framing) g.S.Responder.barrier g.S.Responder.turn g.S.Responder.ends _ _ _ _ _ _ (rw c.in-Err-Answered.field-0-is at c.in-Err-Answered.ensures.answers).1 in
     let read = c.in-Body.ensures in
     let input = rw (← c.deref.ensures.value, ← c.body_in-bytes.ensures) at read.input in
-    going_fails (frames c.args.framing) _ _ _ c.args.last.now _ _ _ _ _ _ _ c.turns.requests c.turns.invariant.going _ _ _ _ _ a.answers.replies _ input read.paced a.answers.turned read.output.keeps (g.met.W.Sink.keeps _) a.answers.put a.own c.abandon.ensures.ended
+    going_fails (frames c.args.framing) _ _ _ c.args.last.now _ _ _ _ _ _ _ c.turns.requests c.turns.invariant.going _ _ _ _ _ a.answers.replies _ input read.paced a.answers.turned read.output.keeps (g.met.W.Sink.keeps _) a.answers.put a.own c.drop_held.ensures.ended
 
 pub returns-in-Err-Undone : goal.returns-in-Err-Undone
 returns-in-Err-Undone g c =
@@ -44,7 +44,7 @@ returns-in-Unwritten g c =
 
 pub turns-preserved : goal.turns-preserved
 turns-preserved g c =
-    let a = stepped (frames c.args.framing) g.S.Responder.alone g.S.Responder.turn g.S.Responder.ends _ _ _ _ _ _ c.in-Ok.ensures.answers in
+    let a = stepped (frames c.args.framing) g.S.Responder.barrier g.S.Responder.turn g.S.Responder.ends _ _ _ _ _ _ c.in-Ok.ensures.answers in
     let read = c.in-Body.ensures in
     let input = rw (← c.deref.ensures.value, ← c.body_in-bytes.ensures) at read.input in
     record {
@@ -55,7 +55,7 @@ turns-preserved g c =
       unbroken = read.paced.cause;
       unbroken_writer = a.answers.put.sound;
       steady = λ s. (read.paced.on (c.turns.invariant.steady s)).1;
-      going = going_on (frames c.args.framing) g.S.Responder.alone _ g.S.Responder.ends c.args.last.now _ _ _ _ _ _ _ c.turns.requests c.turns.invariant.going _ _ _ _ a.answers.replies input read.paced a.answers.turned read.output.keeps a.answers.put a.own;
+      going = going_on (frames c.args.framing) g.S.Responder.barrier _ g.S.Responder.ends c.args.last.now _ _ _ _ _ _ _ c.turns.requests c.turns.invariant.going _ _ _ _ a.answers.replies input read.paced a.answers.turned read.output.keeps a.answers.put a.own;
     }
 
 pub returns : goal.returns

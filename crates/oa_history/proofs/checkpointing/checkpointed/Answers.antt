@@ -1,11 +1,11 @@
 use Rattle.std.proofs.Common.{ℕ, ◌+◌, ◌*◌, ◌≤◌, ◌-◌, List, length, min, Err, sym, subst, arith, refl}
 use Rattle.std.proofs.lemmas.Result.{err_from_is_err_and}
-use Rattle.oa_disk.specs.Memory.{IsTornAt, contents_of, history_of, image_of, image_since_of, moments_of}
+use Rattle.oa_disk.specs.Memory.{IsTornAt, memory_contents, memory_history, memory_image, memory_image_since, moments_of}
 use Rattle.oa_disk.specs.Replaying.{since_falls}
 use Rattle.oa_disk.specs.declared.memory.MemoryDisk.{MemoryDisk}
-use Rattle.oa_canonical.specs.Canonical.{canonical}
+use Rattle.oa_printer.specs.Canonical.{canonical}
 use Rattle.oa_journal.specs.Banks.{first_gate}
-use Rattle.oa_journal.specs.declared.shape.Shape.TheVariants.{Two}
+use Rattle.oa_journal.specs.declared.shape.BankFormat.TheVariants.{Two}
 use Rattle.oa_turn.specs.Events.{held_of}
 use Rattle.oa_store.specs.Calls.{checkpoint_calls}
 use Rattle.oa_store.specs.Stores.{IsStoreAt}
@@ -23,18 +23,18 @@ returns-clause-checkpointed c state kept =
     let opened = c.in_ok-store.ensures.opened in
     let new = c.checkpoint.new.self in
     let end = c.into_disk-disk.result in
-    let image = contents_of c.in_ok-left.left in
+    let image = memory_contents c.in_ok-left.left in
     let from : moments_of disk ≤ c.min.result = omega (arith, c.requires.start) in
-    let since = subst (λ (d : MemoryDisk). image_since_of d (moments_of disk) image) c.into_disk-disk.ensures (since_falls (history_of end) (moments_of disk) c.min.result image from c.in_ok-left.ensures.left) in
-    let holds = still_holds _ disk state kept.holds store text table opened.contents opened.found opened.unlocked new next c.requires.alone opened.reads (c.in_default.ensures.leaves.any_moment refl) image since in
+    let since = subst (λ (d : MemoryDisk). memory_image_since d (moments_of disk) image) c.into_disk-disk.ensures (since_falls (memory_history end) (moments_of disk) c.min.result image from c.in_ok-left.ensures.left) in
+    let holds = still_holds _ disk state kept.holds store text table opened.contents opened.found opened.unlocked new next c.requires.barrier opened.reads (c.in_default.ensures.leaves.any_moment refl) image since in
     let torn = subst (λ (n : ℕ). IsTornAt end c.args.stop.tear (min c.args.stop.moment n) image) c.moments.ensures
     (subst (λ (n : ℕ). IsTornAt end c.args.stop.tear n image) c.min.ensures c.in_ok-left.ensures.torn) in (
       record {
         chosen = store.chosen;
         gate = store.bank.gate;
-        was = state_at _ disk state kept.holds store text table opened.contents store.chosen store.bank.gate (contents_of disk) opened.contents;
+        was = state_at _ disk state kept.holds store text table opened.contents store.chosen store.bank.gate (memory_contents disk) opened.contents;
         is = λ l here. subst (λ (n : ℕ). IsStoreAt (Two state.bank) (1 - store.chosen) n (canonical state.library) (held_of state) l) (next_is _ disk state kept.holds store text table opened.contents)
-            (moved _ disk state kept.holds store text table opened.contents opened.found opened.unlocked new next (c.in_default.ensures.leaves.done refl) l (subst (λ (d : MemoryDisk). image_of d l) c.into_disk-disk.ensures here));
+            (moved _ disk state kept.holds store text table opened.contents opened.found opened.unlocked new next (c.in_default.ensures.leaves.done refl) l (subst (λ (d : MemoryDisk). memory_image d l) c.into_disk-disk.ensures here));
         torn = torn;
         calls = subst (λ (l : List ℕ). moments_of end + length l ≤ 20 + store.bank.gate + 2 * checkpoint_calls (canonical state.library) (held_of state)) (text_is _ disk state kept.holds store text table opened.contents)
             (subst (λ (d : MemoryDisk). moments_of d + length text ≤ 20 + store.bank.gate + 2 * checkpoint_calls (canonical state.library) (held_of state)) (sym c.into_disk-disk.ensures)

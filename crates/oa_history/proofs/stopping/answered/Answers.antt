@@ -2,9 +2,9 @@ use Rattle.std.proofs.Common.{◌≡◌, List, length, refl, sym, ◌∙◌, ap,
 use Rattle.std.proofs.lemmas.List.{take_all}
 use Rattle.oa_disk.specs.Memory.{moments_of}
 use Rattle.oa_history.proofs.Replying.{made_more}
-use Rattle.oa_history.specs.Lived.{calls_of}
+use Rattle.oa_history.specs.CrashHistories.{made_calls}
 use Rattle.oa_server.specs.Storages.{Serves}
-use Rattle.oa_history.specs.Stops.{Made}
+use Rattle.oa_history.specs.KeepsDurablePrefix.{CallSequence}
 use Rattle.oa_history.specs.declared.session.Answer.{Answer}
 use Rattle.oa_history.specs.declared.session.ServerCall.{ServerCall}
 use Rattle.oa_history.proofs.stopping.answered.Goals as goal
@@ -29,4 +29,4 @@ pub returns-clause-made : goal.returns-clause-made
 returns-clause-made c =
     let old = c.args.server.now.engine in
     let new = c.calls.server.engine in
-    subst (λ (l : List ServerCall). Made Serves old.storage old.host (calls_of l c.calls.answers.items) new.storage new.host) (take_all c.calls.call-index c.args.calls.now c.calls-test.false) c.calls.invariant.made
+    subst (λ (l : List ServerCall). CallSequence Serves old.storage old.host (made_calls l c.calls.answers.items) new.storage new.host) (take_all c.calls.call-index c.args.calls.now c.calls-test.false) c.calls.invariant.made

@@ -1,5 +1,5 @@
 use Rattle.std.proofs.Common.{arith}
-use Rattle.oa_layout.proofs.Exact.{all_bytes, none_begins}
+use Rattle.oa_formats.proofs.Exact.{all_bytes, none_begins}
 use Rattle.oa_image.proofs.Taken.{front}
 use Rattle.oa_image.proofs.reader.read_front.Goals as goal
 

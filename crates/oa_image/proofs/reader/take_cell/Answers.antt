@@ -1,5 +1,5 @@
 use Rattle.std.proofs.Common.{◌≡◌, true, take, ◌∙◌}
-use Rattle.oa_image.specs.Tables.{before, cell}
+use Rattle.oa_image.specs.Tables.{cell, place_before}
 use Rattle.oa_image.specs.Reader.{is_behind, table_taken, with_at_hand}
 use Rattle.oa_image.proofs.Behind.{cell_comes}
 use Rattle.oa_image.proofs.InMemory.{cell_bytes}
@@ -12,7 +12,7 @@ returns-in_default-clause-takes c =
     let o = c.args.object in
     let bytes = c.args.bytes.now in
     let none = rw (c.deref.ensures.value, c.in_default.is) at c.in_ok-cell.ensures in
-    stays (with_at_hand o t) bytes (nothing_comes cell (λ next. is_behind before o.cells.items next ≡ true) (table_taken (with_at_hand o t)) bytes none
+    stays (with_at_hand o t) bytes (nothing_comes cell (λ next. is_behind place_before o.cells.items next ≡ true) (table_taken (with_at_hand o t)) bytes none
     (λ whole is e. cell_comes t o bytes whole c.requires.between.0 c.requires.between.1 is e))
 
 pub keep-requires-clause-valid : goal.keep-requires-clause-valid

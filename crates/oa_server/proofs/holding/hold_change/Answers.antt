@@ -6,25 +6,25 @@ use Rattle.oa_turn.proofs.Allowed.{is_allowed}
 use Rattle.oa_server.proofs.TurnsOverStore.{carried}
 use Rattle.oa_server.proofs.holding.hold_change.Goals as goal
 
-pub returns-in_err-make_room-clause-way : goal.returns-in_err-make_room-clause-way
-returns-in_err-make_room-clause-way g c = record {
-  carries = carried c.args.batch.now c.args.store.now c.make_room.new.store (ap unlocked_table c.table.ensures.table) c.make_room.ensures.carries;
+pub returns-in_err-checkpoint_if_due-clause-way : goal.returns-in_err-checkpoint_if_due-clause-way
+returns-in_err-checkpoint_if_due-clause-way g c = record {
+  carries = carried c.args.batch.now c.args.store.now c.checkpoint_if_due.new.store (ap unlocked_table c.table.ensures.table) c.checkpoint_if_due.ensures.carries;
   stops = search rules;
-  goes = c.make_room.ensures.goes;
+  goes = c.checkpoint_if_due.ensures.goes;
 }
 
 pub returns-in_err-add_change-clause-way : goal.returns-in_err-add_change-clause-way
 returns-in_err-add_change-clause-way g c = record {
-  carries = carried c.args.batch.now c.args.store.now c.make_room.new.store (ap unlocked_table c.table.ensures.table) c.make_room.ensures.carries;
+  carries = carried c.args.batch.now c.args.store.now c.checkpoint_if_due.new.store (ap unlocked_table c.table.ensures.table) c.checkpoint_if_due.ensures.carries;
   stops = search rules;
-  goes = c.make_room.ensures.goes;
+  goes = c.checkpoint_if_due.ensures.goes;
 }
 
 pub returns-clause-way : goal.returns-clause-way
 returns-clause-way g c = record {
-  carries = carried c.args.batch.now c.args.store.now c.make_room.new.store (ap unlocked_table c.table.ensures.table) c.make_room.ensures.carries;
+  carries = carried c.args.batch.now c.args.store.now c.checkpoint_if_due.new.store (ap unlocked_table c.table.ensures.table) c.checkpoint_if_due.ensures.carries;
   stops = search rules;
-  goes = c.make_room.ensures.goes;
+  goes = c.checkpoint_if_due.ensures.goes;
 }
 
 pub returns-clause-added : goal.returns-clause-added

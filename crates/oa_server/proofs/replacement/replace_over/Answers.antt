@@ -5,7 +5,7 @@ use Rattle.oa_record.specs.Asks.{tag_at}
 use Rattle.oa_table.specs.Tables.{unlocked_table}
 use Rattle.oa_decision.specs.States.{state_of}
 use Rattle.oa_decision.specs.Decided.{refusal}
-use Rattle.oa_canonical.specs.Canonical.{canonical}
+use Rattle.oa_printer.specs.Canonical.{canonical}
 use Rattle.oa_journal.specs.Shapes.{body_bytes}
 use Rattle.oa_store.proofs.Counted.{within}
 use Rattle.oa_server.proofs.Replacing.{as_many_calls, at_last, meanwhile, still}

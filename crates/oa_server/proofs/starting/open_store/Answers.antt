@@ -1,8 +1,8 @@
 use Rattle.std.proofs.Common.{rules, arith, ◌+◌, ◌≤◌, List, length, ℕ, inl, inr, refl, subst, sym, true≢false}
 use Rattle.std.proofs.lemmas.Result.{err_from_is_err_and}
-use Rattle.oa_canonical.specs.Canonical.{canonical}
+use Rattle.oa_printer.specs.Canonical.{canonical}
 use Rattle.oa_journal.specs.Shapes.{body_bytes}
-use Rattle.oa_journal.specs.declared.shape.Shape.{Shape}
+use Rattle.oa_journal.specs.declared.shape.BankFormat.{BankFormat}
 use Rattle.oa_store.specs.Stores.{IsStoreAt, IsStoreIn}
 use Rattle.oa_turn.specs.Beginnings.{CanServe}
 use Rattle.oa_server.proofs.FoundIsKept.{same_library}
@@ -38,7 +38,7 @@ returns-then-can_serve-clause-opened g c =
             each = λ image is. subst (λ (text : List ℕ). IsStoreAt shape store.chosen store.bank.gate text table image) (sym c.in_ok-store.ensures.starts.has) (c.in_ok-store.ensures.found.found h image is);
             contents = there;
             one = finds_one (g.D.Disk.image disk) contents (g.met.D.Disk.contents_is_image disk honest) (body_bytes shape) library table
-                (subst (λ (s : Shape). IsStoreIn s contents (canonical library) table) two there);
+                (subst (λ (s : BankFormat). IsStoreIn s contents (canonical library) table) two there);
             formatted = search rules;
           };
     }
@@ -62,7 +62,7 @@ returns-else-can_serve-clause-refused g c =
           omega (arith, long, within, some);
       told = λ h.
           let honest = c.in_ok-store.ensures.after.honest h in
-          let there = subst (λ (s : Shape). IsStoreIn s contents (canonical library) table) (is_two shape store.is_new)
+          let there = subst (λ (s : BankFormat). IsStoreIn s contents (canonical library) table) (is_two shape store.is_new)
           (of_text library c.text_of.result.now contents c.text_of.ensures.text shape table (store.chosen, store.bank.gate, c.in_ok-store.ensures.found.contents h)) in
           let cannot = λ (serves : CanServe bank library table). true≢false (sym (c.if-can_serve.ensures.1 (subst (λ (n : ℕ). CanServe n library table) (sym c.bank_size.ensures) serves))) in
           record {

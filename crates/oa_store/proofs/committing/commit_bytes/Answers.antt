@@ -2,7 +2,7 @@ use Rattle.std.proofs.Common.{rules, ◌∙◌, ℕ, ◌+◌, List, length, inl,
 use Rattle.oa_disk.specs.Moments.{weakened}
 use Rattle.oa_journal.specs.Append.{group_of}
 use Rattle.oa_journal.specs.Replays.{Replays}
-use Rattle.oa_journal.specs.declared.shape.Shape.{Shape}
+use Rattle.oa_journal.specs.declared.shape.BankFormat.{BankFormat}
 use Rattle.oa_store.specs.Stores.{IsStoreAt}
 use Rattle.oa_table.specs.Tables.{TableValue}
 use Rattle.oa_store.specs.Kept.{AllHold}
@@ -36,7 +36,7 @@ returns-clause-commits g c =
             subst (λ (l : List ℕ). IsStoreAt new.bank.shape new.chosen new.bank.gate l now f) (sym c.commit.ensures.adds.library)
             (subst (λ (k : ℕ). IsStoreAt new.bank.shape new.chosen k store.library.items now f) (sym c.in-Ok.ensures.adds.gate)
             (subst (λ (k : ℕ). IsStoreAt new.bank.shape k (store.bank.gate + (5 + length group)) store.library.items now f) (sym c.commit.ensures.adds.chosen)
-            (subst (λ (s : Shape). IsStoreAt s store.chosen (store.bank.gate + (5 + length group)) store.library.items now f) (sym c.commit.ensures.goes.shape) here))),
+            (subst (λ (s : BankFormat). IsStoreAt s store.chosen (store.bank.gate + (5 + length group)) store.library.items now f) (sym c.commit.ensures.goes.shape) here))),
       );
       library = search rules;
     }

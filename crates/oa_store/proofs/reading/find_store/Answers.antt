@@ -2,13 +2,13 @@ use Rattle.std.proofs.Common.{rules, ◌≡◌, ◌∙◌, ◌+◌, ◌-◌, ℕ
 use Rattle.std.proofs.lemmas.Result.{err_from_is_err_and}
 use Rattle.oa_journal.specs.declared.bank.Bank.{Bank}
 use Rattle.oa_journal.specs.declared.bank.BankFault.{BankFault}
-use Rattle.oa_journal.specs.declared.shape.Shape.{Shape}
-use Rattle.oa_journal.specs.declared.shape.Shape.TheVariants.{Two}
+use Rattle.oa_journal.specs.declared.shape.BankFormat.{BankFormat}
+use Rattle.oa_journal.specs.declared.shape.BankFormat.TheVariants.{Two}
 use Rattle.oa_journal.specs.Append.{IsAt}
 use Rattle.oa_journal.specs.Bank.{from_place, IsBank, HasHead, HasLibrary}
 use Rattle.oa_journal.specs.Damages.{HasNoHeader, IsDamagedBank}
 use Rattle.oa_journal.specs.Shapes.{body_bytes}
-use Rattle.oa_store.specs.Faults.{of_bank, HasWanted, IsCaused}
+use Rattle.oa_store.specs.Faults.{of_bank, HasWanted, IsCausedOpenFault}
 use Rattle.oa_store.specs.Stores.{body_place, head_place, IsStoreAt}
 use Rattle.oa_store.proofs.Opened.{bank_caused, carried, other_long, says_first, says_late, spoilt, tells_late, until_body, until_late, wanted_in, within_disk}
 use Rattle.oa_store.proofs.reading.find_store.Goals as goal
@@ -34,7 +34,7 @@ returns-then-found-library-clause-refused g c = record {
       let head = c.in_ok-found.found.head in
       let two : (size : ℕ) × (head.shape ≡ Two size) = search rules in
       other_long contents c.args.library.now chosen head.library head.snapshot two.0 c.in_ok-found.ensures.found.two found.0
-      (subst (λ (s : Shape). HasHead s (head_place chosen) contents head.library head.snapshot) two.1 found.1)
+      (subst (λ (s : BankFormat). HasHead s (head_place chosen) contents head.library head.snapshot) two.1 found.1)
       (λ same. omega (arith, same, c.if-found-library.true));
   early = search rules;
   cause = search rules;
@@ -49,7 +49,7 @@ returns-in_err-text-clause-refused g c =
     rw (p.1, p.2) (record {
       early = search rules;
       calls = λ h. until_late (24 + g.D.Disk.size_of c.args.disk.now) _ _ fault (omega (arith, c.find_room.ensures.calls (c.read_library.ensures.after.honest h), c.read_library.ensures.calls h));
-      cause = subst (λ (n : ℕ). IsCaused n (g.D.Disk.failures_of c.read_library.new.disk) (of_bank fault)) c.in_ok-found.ensures.after.unfailed (bank_caused _ _ fault c.in_err-text.ensures.refused.cause);
+      cause = subst (λ (n : ℕ). IsCausedOpenFault n (g.D.Disk.failures_of c.read_library.new.disk) (of_bank fault)) c.in_ok-found.ensures.after.unfailed (bank_caused _ _ fault c.in_err-text.ensures.refused.cause);
       tells = λ h.
           let h1 = c.read_library.ensures.after.honest h in
           tells_late (g.D.Disk.contents c.args.disk.now) (g.D.Disk.image c.args.disk.now) (g.D.Disk.image c.read_library.new.disk) fault
@@ -78,7 +78,7 @@ returns-in_err-table-clause-refused g c =
           let shape = ap body_bytes (ap (λ (b : Bank). b.shape) c.in_ok-text.ensures.bank ∙ c.bank_of-bank.ensures.shape_is) in
           let long = within_disk c.in_ok-found.found.head.shape in
           until_late (24 + g.D.Disk.size_of c.args.disk.now) _ _ fault (omega (arith, sizes, shape, long, c.in_ok-found.ensures.found.room, c.find_room.ensures.calls (c.read_library.ensures.after.honest h2), c.read_library.ensures.calls h2, c.read_table.ensures.most h));
-      cause = subst (λ (n : ℕ). IsCaused n (g.D.Disk.failures_of c.read_table.new.disk) (of_bank fault)) (c.in_ok-text.ensures.after.unfailed ∙ c.in_ok-found.ensures.after.unfailed) (bank_caused _ _ fault c.in_err-table.ensures.refused.cause);
+      cause = subst (λ (n : ℕ). IsCausedOpenFault n (g.D.Disk.failures_of c.read_table.new.disk) (of_bank fault)) (c.in_ok-text.ensures.after.unfailed ∙ c.in_ok-found.ensures.after.unfailed) (bank_caused _ _ fault c.in_err-table.ensures.refused.cause);
       tells = λ h.
           let h2 = c.read_table.ensures.after.honest h in
           let h1 = c.read_library.ensures.after.honest h2 in
@@ -104,7 +104,7 @@ returns-in_err-table-clause-refused g c =
           let wanted = wanted_in shape two.0 two.1 (from_place head contents) (from_place body contents) c.args.library.now (subst (λ (l : List ℕ). HasLibrary shape (from_place head contents) (from_place body contents) l) text has) in
           says_late (Some c.args.library.now) _ contents fault (λ at e.
           let is = (c.in_err-table.ensures.refused.damaged at (ap (λ (x : BankFault). Err x) e)).1 h in
-          let sized = subst (λ (s : Shape). IsDamagedBank s c.read_library.new.self.head c.read_library.new.self.body (g.D.Disk.contents c.read_library.new.disk) at) at1.shape_is is in
+          let sized = subst (λ (s : BankFormat). IsDamagedBank s c.read_library.new.self.head c.read_library.new.self.body (g.D.Disk.contents c.read_library.new.disk) at) at1.shape_is is in
           let headed = subst (λ (k : ℕ). IsDamagedBank shape k c.read_library.new.self.body (g.D.Disk.contents c.read_library.new.disk) at) at1.head_is sized in
           let placed = subst (λ (k : ℕ). IsDamagedBank shape head k (g.D.Disk.contents c.read_library.new.disk) at) at1.body_is headed in
           spoilt (HasWanted (Some c.args.library.now)) contents chosen shape c.in_ok-found.found.head.library c.in_ok-found.found.head.snapshot at found.0 found.1 wanted
@@ -136,7 +136,7 @@ returns-clause-found g c =
           let its = carried (λ s x y. IsBank s x y items c.in_ok-table.table c.read_table.new.self.gate) c.read_library.new.self shape head body (body_bytes shape - 1) false mid contents at1 stay (c.in_ok-table.ensures.found.found h items (has h)) in
           let store : IsStoreAt shape chosen c.read_table.new.self.gate items c.in_ok-table.table contents = record { head = found.0; room = found.1.room; bank = its } in
           let same = subst (λ (l : List ℕ). IsStoreAt shape chosen c.read_table.new.self.gate l c.in_ok-table.table contents) text store in
-          subst (λ (s : Shape). IsStoreAt s chosen c.read_table.new.self.gate c.args.library.now c.in_ok-table.table contents) (sym (c.in_ok-table.ensures.found.bank.shape_is ∙ at1.shape_is)) same;
+          subst (λ (s : BankFormat). IsStoreAt s chosen c.read_table.new.self.gate c.args.library.now c.in_ok-table.table contents) (sym (c.in_ok-table.ensures.found.bank.shape_is ∙ at1.shape_is)) same;
       buffer = search rules;
       numbered = search rules;
       unlocked = search rules;

@@ -3,7 +3,7 @@ use Rattle.std.proofs.lemmas.Result.{err_from_is_err_and}
 use Rattle.oa_journal.specs.Bank.{from_place, IsBank}
 use Rattle.oa_journal.specs.Damages.{IsDamagedBank}
 use Rattle.oa_journal.specs.declared.bank.BankFault.{BankFault}
-use Rattle.oa_store.specs.Faults.{of_bank, HasWanted, IsCaused}
+use Rattle.oa_store.specs.Faults.{of_bank, HasWanted, IsCausedOpenFault}
 use Rattle.oa_store.specs.Stores.{body_place, head_place}
 use Rattle.oa_store.proofs.Opened.{bank_caused, says_first, says_late, spoilt, tells_late, until_body, until_late}
 use Rattle.oa_store.proofs.reading.inspect.Goals as goal
@@ -30,7 +30,7 @@ returns-in_err-library-clause-refused g c =
       any_library = search rules;
       any_format = search rules;
       calls = λ h. until_late (20 + g.D.Disk.size_of c.args.disk.now) _ _ fault (omega (arith, c.find_head.ensures.calls (c.look.ensures.after.calls.honest h), c.find_head.ensures.after.size, c.look.ensures.after.most h));
-      cause = subst (λ (n : ℕ). IsCaused n (g.D.Disk.failures_of c.look.new.disk) (of_bank fault)) c.in_ok-chosen.ensures.after.unfailed (bank_caused _ _ fault c.in_err-library.ensures.after.cause);
+      cause = subst (λ (n : ℕ). IsCausedOpenFault n (g.D.Disk.failures_of c.look.new.disk) (of_bank fault)) c.in_ok-chosen.ensures.after.unfailed (bank_caused _ _ fault c.in_err-library.ensures.after.cause);
       tells = λ h.
           let h1 = c.look.ensures.after.calls.honest h in
           tells_late (g.D.Disk.contents c.args.disk.now) (g.D.Disk.image c.args.disk.now) (g.D.Disk.image c.look.new.disk) fault

@@ -2,8 +2,8 @@ use Rattle.std.proofs.Common.{◌≡◌, ℕ, List, Err, ap, subst, arith}
 use Rattle.std.proofs.lemmas.Result.{err_from_is_err_and}
 use Rattle.oa_journal.specs.Bank.{HasHead}
 use Rattle.oa_journal.specs.declared.bank.BankFault.{BankFault}
-use Rattle.oa_journal.specs.declared.shape.Shape.{Shape}
-use Rattle.oa_journal.specs.declared.shape.Shape.TheVariants.{One}
+use Rattle.oa_journal.specs.declared.shape.BankFormat.{BankFormat}
+use Rattle.oa_journal.specs.declared.shape.BankFormat.TheVariants.{One}
 use Rattle.oa_journal.specs.Damages.{IsDamagedBank}
 use Rattle.oa_store.specs.declared.fault.FindFault.{FindFault}
 use Rattle.oa_store.specs.Faults.{HasOldShape, IsCausedUpgrade, upgrade_of_bank}
@@ -40,7 +40,7 @@ returns-in_err-library-clause-refused g c =
           let chosen = c.in_ok-chosen.chosen in
           let head = c.in_ok-chosen.head in
           let one : head.shape ≡ One = cc in
-          says_spoilt bank (g.D.Disk.size_of c.args.disk.now) contents fault (record { chosen = chosen; head = found.0; library = head.library; snapshot = head.snapshot; has = subst (λ (s : Shape). HasHead s (head_place chosen) contents head.library head.snapshot) one found.1 })
+          says_spoilt bank (g.D.Disk.size_of c.args.disk.now) contents fault (record { chosen = chosen; head = found.0; library = head.library; snapshot = head.snapshot; has = subst (λ (s : BankFormat). HasHead s (head_place chosen) contents head.library head.snapshot) one found.1 })
           (λ at is. spoilt HasOldShape contents chosen head.shape head.library head.snapshot at found.0 found.1 one
           (subst (λ (d : List ℕ). IsDamagedBank head.shape (head_place chosen) (body_place head.shape chosen) d at) stay (c.in_err-library.ensures.damaged at (ap (λ (x : BankFault). Err x) is) h)));
       any_size = any_size_late fault;

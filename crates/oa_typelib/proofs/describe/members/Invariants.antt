@@ -1,6 +1,6 @@
 use Rattle.std.proofs.Common.{◌≡◌, ℕ, map, take, slice_get, Vec, Global}
 use Rattle.std.specs.List.{filter_map, flat_map}
-use Rattle.oa_checks.specs.Declarations.{declarations}
+use Rattle.oa_sema.specs.Declarations.{declarations}
 use Rattle.oa_typelib.specs.Descriptions.{member_description, put_last}
 use Rattle.oa_typelib.proofs.describe.members.Given as goal
 

@@ -3,7 +3,7 @@ use Rattle.oa_model.specs.Folding.{folded_name}
 use Rattle.oa_idl.specs.Values.{InterfaceValue}
 use Rattle.oa_typelib.specs.Descriptions.{interfaces_of}
 use Rattle.oa_typelib.specs.Groups.{keys_with_places}
-use Rattle.oa_checks.specs.Libraries.{same}
+use Rattle.oa_sema.specs.Libraries.{same}
 use Rattle.oa_typelib.proofs.Looks.{names_folded}
 use Rattle.oa_typelib.proofs.index.by_interface.Goals as goal
 

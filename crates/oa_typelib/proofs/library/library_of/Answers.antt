@@ -1,17 +1,17 @@
 use Rattle.std.proofs.Common.{◌≡◌, ℕ, List, map, sym, ap, subst, ◌∙◌}
 use Rattle.oa_idl.specs.Trees.{TreeValue}
 use Rattle.oa_idl.specs.declared.items.Item.{Item}
-use Rattle.oa_canonical.specs.Canonical.{canonical}
+use Rattle.oa_printer.specs.Canonical.{canonical}
 use Rattle.oa_idl.specs.IsTree.{MayBeText, IsTree}
 use Rattle.oa_model.specs.Folding.{folded_name}
-use Rattle.oa_checks.specs.Libraries.{item_name, item_guid, marked, marked_item}
+use Rattle.oa_sema.specs.Libraries.{item_name, item_guid, marked, marked_item}
 use Rattle.oa_typelib.specs.Indexes.{default_in}
-use Rattle.oa_checks.specs.Libraries.{folded_names}
-use Rattle.oa_checks.specs.Breaches.{tree_breach, text_breach}
+use Rattle.oa_sema.specs.Libraries.{folded_names}
+use Rattle.oa_sema.specs.Breaches.{tree_breach, text_breach}
 use Rattle.oa_typelib.specs.Typed.{IsTyped}
-use Rattle.oa_checks.proofs.Passes.{refused, for_memory}
+use Rattle.oa_sema.proofs.Passes.{refused, for_memory}
 use Rattle.oa_typelib.proofs.Finds.{fits_text, kept, name_kept, guid_kept, length_of_marked}
-use Rattle.oa_checks.proofs.Passes.{no_breach_before}
+use Rattle.oa_sema.proofs.Passes.{no_breach_before}
 use Rattle.oa_typelib.proofs.TypedTrees.{marked_typed}
 use Rattle.oa_typelib.proofs.library.library_of.Goals as goal
 

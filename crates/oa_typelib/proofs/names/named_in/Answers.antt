@@ -1,9 +1,9 @@
 use Rattle.std.proofs.Common.{◌≡◌, ℤ, List, Option, Some, None, IfOk, map, subst, ap, ◌∙◌}
 use Rattle.std.specs.List.{filter}
 use Rattle.oa_model.specs.Folding.{folded_name}
-use Rattle.oa_checks.specs.DeclarationValues.{DeclarationValue}
-use Rattle.oa_checks.specs.Declarations.{declarations}
-use Rattle.oa_checks.specs.Libraries.{same}
+use Rattle.oa_sema.specs.DeclarationValues.{DeclarationValue}
+use Rattle.oa_sema.specs.Declarations.{declarations}
+use Rattle.oa_sema.specs.Libraries.{same}
 use Rattle.oa_typelib.specs.Members.{main_form}
 use Rattle.oa_typelib.specs.Names.{ids_in}
 use Rattle.oa_typelib.proofs.Named.{by_member}

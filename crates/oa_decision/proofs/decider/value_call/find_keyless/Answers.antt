@@ -2,7 +2,7 @@ use Rattle.std.proofs.Common.{◌≡◌, ℤ, List, get_or, length, slice_get, r
 use Rattle.std.proofs.Math.Facts.{to_z-of_z}
 use Rattle.std.proofs.lemmas.Option.{slice_get_read}
 use Rattle.std.specs.List.{filter_map}
-use Rattle.oa_checks.specs.Declarations.{declarations}
+use Rattle.oa_sema.specs.Declarations.{declarations}
 use Rattle.oa_idl.specs.Values.{InterfaceValue}
 use Rattle.oa_idl.specs.declared.parts.Property.{Property}
 use Rattle.oa_typelib.specs.Members.{forms_with}

@@ -3,7 +3,7 @@ use Rattle.std.specs.Option.{option_map}
 use Rattle.std.specs.Map.{lookup, set_value}
 use Rattle.std.specs.BTreeMap.{is_at}
 use Rattle.std.specs.Vec.{with_item}
-use Rattle.oa_ordered.specs.Rows.{IsOrdered, IsRowFor, joined, with_value}
+use Rattle.oa_ordered.specs.Rows.{IsOrdered, IsRowFor, concat_rows, with_value_at}
 use Rattle.oa_ordered.specs.Roots.{IsMap, entries_of}
 use Rattle.oa_ordered.specs.declared.root.Root.TheVariants.{Many, One}
 use Rattle.oa_ordered.proofs.Around.{filled_in, lookup_in, same_in, set_in}
@@ -19,7 +19,7 @@ invariant_of-self-lent g c =
     let row = c.in-One.row in
     let seen : c.as_slice.result.now ≡ row = c.as_slice.ensures ∙ c.in-One.row-is in
     let map : IsMap g.K.Ord.cmp (One row) c.self.inside.len = subst (λ f. IsMap g.K.Ord.cmp f c.self.inside.len) c.in-One.is c.self.invariant in
-    rw c.in-One.is (λ w. map_set g.K.Ord.cmp g.met.K.Ord.total c.args.key.now (One row) (One (with_value row c.in-Ok.at w)) c.self.inside.len map tt w
+    rw c.in-One.is (λ w. map_set g.K.Ord.cmp g.met.K.Ord.total c.args.key.now (One row) (One (with_value_at row c.in-Ok.at w)) c.self.inside.len map tt w
     (row_set g.K.Ord.cmp c.args.key.now row seen c.in-Ok.at c.in-Ok.ensures.found w))
 
 pub returns-in-Ok : goal.returns-in-Ok
@@ -83,7 +83,7 @@ returns-else-branch-len g c =
     let lt : branch < length branches = omega (arith, of.place, c.len.ensures, ap (λ v. v.len) c.in-Many.branches-is, c.if-branch-len.false) in
     let read = c.index_mut.result.now in
     let same = row_is branches branch read read lt (c.index_mut.ensures.value ∙ ap (λ v. slice_index_or v.items branch read) c.in-Many.branches-is) in
-    let all : c.args.self.now ≡ joined branches = sym c.self.view_is ∙ ap entries_of c.in-Many.is in
+    let all : c.args.self.now ≡ concat_rows branches = sym c.self.view_is ∙ ap entries_of c.in-Many.is in
     let follows = c.get_mut_near.follows in
     rw all (
       (

@@ -1,7 +1,7 @@
 use Rattle.std.proofs.Common.{◌≡◌, ◌∙◌, ◌<◌, length, slice_index_or, sym, ap, subst, arith}
 use Rattle.std.specs.Map.{lookup}
 use Rattle.std.specs.BTreeMap.{is_at}
-use Rattle.oa_ordered.specs.Rows.{IsOrdered, IsRowFor, joined}
+use Rattle.oa_ordered.specs.Rows.{IsOrdered, IsRowFor, concat_rows}
 use Rattle.oa_ordered.specs.Roots.{IsMap, entries_of}
 use Rattle.oa_ordered.specs.declared.root.Root.TheVariants.{Many}
 use Rattle.oa_ordered.proofs.Around.{lookup_in}
@@ -43,5 +43,5 @@ returns-else-branch-len g c =
     let lt : branch < length branches = omega (arith, of.place, c.len.ensures, c.if-branch-len.false) in
     let read = c.index.result.now in
     let same = row_is branches branch read read lt c.index.ensures in
-    let all : c.args.self.now ≡ joined branches = sym c.self.view_is ∙ ap entries_of c.in-Many.is in
+    let all : c.args.self.now ≡ concat_rows branches = sym c.self.view_is ∙ ap entries_of c.in-Many.is in
     rw all (c.get_near.ensures ∙ (ap (lookup (is_at (g.K.Ord.cmp c.args.key.now))) same ∙ sym (lookup_in g.K.Ord.cmp c.args.key.now branches branch lt of)))

@@ -4,7 +4,7 @@ use Rattle.oa_idl.specs.Values.{InterfaceValue}
 use Rattle.oa_idl.specs.declared.items.Item.{Item}
 use Rattle.oa_typelib.specs.Descriptions.{interfaces_of}
 use Rattle.oa_typelib.specs.Indexes.{members_in, entered_in}
-use Rattle.oa_checks.specs.Libraries.{folded_names}
+use Rattle.oa_sema.specs.Libraries.{folded_names}
 use Rattle.oa_typelib.proofs.Looks.{indexed_by}
 use Rattle.oa_typelib.proofs.index.Index.of.Goals as goal
 

@@ -2,7 +2,7 @@ use Rattle.std.proofs.Common.{ℕ, List, map, slice_get, Option, ap, ◌∙◌}
 use Rattle.std.proofs.lemmas.Option.{slice_get-map}
 use Rattle.oa_idl.specs.Trees.{TreeValue}
 use Rattle.oa_typelib.specs.Indexes.{default_in}
-use Rattle.oa_checks.specs.Libraries.{folded_names}
+use Rattle.oa_sema.specs.Libraries.{folded_names}
 use Rattle.oa_typelib.proofs.Finds.{flat}
 use Rattle.oa_typelib.proofs.library.Library.default_at.Goals as goal
 

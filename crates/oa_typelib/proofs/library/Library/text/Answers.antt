@@ -1,5 +1,5 @@
 use Rattle.std.proofs.Common.{ℕ, List, sym, ap, subst, ◌∙◌}
-use Rattle.oa_canonical.specs.Canonical.{canonical}
+use Rattle.oa_printer.specs.Canonical.{canonical}
 use Rattle.oa_idl.specs.IsTree.{IsTree}
 use Rattle.oa_typelib.proofs.library.Library.text.Goals as goal
 

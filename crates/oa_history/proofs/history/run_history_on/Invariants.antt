@@ -1,0 +1,12 @@
+use Rattle.std.proofs.Common.{take}
+use Rattle.oa_disk.specs.Memory.{memory_contents}
+use Rattle.oa_decision.specs.States.{State}
+use Rattle.oa_history.specs.Kept.{IsRecoverable, IsFreshDisk}
+use Rattle.oa_history.specs.CrashHistories.{HistorySteps}
+use Rattle.oa_history.proofs.history.run_history_on.Given as goal
+
+abbrev pub invariant-steps : goal.invariant-steps
+invariant-steps l = record {
+  settled : IsFreshDisk l.disk;
+  lives : (first : State) → IsRecoverable l.fn.disk first → (state : State) × HistorySteps (memory_contents l.fn.disk) first (take l.step-index l.steps) l.heard.items (memory_contents l.disk) state × IsRecoverable l.disk state;
+}

@@ -15,7 +15,7 @@ use Rattle.oa_wire_array.specs.Scalars.{width_of}
 use Rattle.oa_wire_array.proofs.Widths.{number_bytes}
 use Rattle.oa_variant.specs.declared.scalar.Scalar.{Scalar}
 use Rattle.oa_variant.specs.declared.scalar.Scalar.TheVariants as scalars
-use Rattle.oa_wire_array.specs.Reading.{signed_at, truth_at, number_at, arm_at}
+use Rattle.oa_wire_array.specs.Reading.{signed_at, truth_at, integer_at, arm_at}
 use Rattle.oa_wire_array.specs.ArrayCanon.{plain_width}
 use Rattle.oa_wire_text.proofs.Memory.{unit_there}
 
@@ -44,8 +44,8 @@ signed_takes : (n : ℕ) (w : Width) → Takes_bytes n (signed_at n w)
 unfolding signed_at
 signed_takes n w = made_of n (unit_at n) (cast_signed w) (unit_takes n)
 
-number_takes : (signed : Bool) (n : ℕ) → Takes_bytes n (number_at signed n)
-unfolding number_at
+number_takes : (signed : Bool) (n : ℕ) → Takes_bytes n (integer_at signed n)
+unfolding integer_at
 number_takes true n = signed_takes n (width_of n)
 number_takes false n = made_of n (unit_at n) pos (unit_takes n)
 
@@ -77,7 +77,7 @@ arm_takes types.Error some = absurd (omega (arith, some))
 arm_takes types.Decimal some = absurd (omega (arith, some))
 arm_takes types.Bstr some = absurd (omega (arith, some))
 arm_takes types.Variant some = absurd (omega (arith, some))
-arm_takes t some = made_of (number_bytes t) (number_at (is_signed_type t) (number_bytes t)) (λ z. scalar_of t z None zero_decimal) (number_takes (is_signed_type t) (number_bytes t))
+arm_takes t some = made_of (number_bytes t) (integer_at (is_signed_type t) (number_bytes t)) (λ z. scalar_of t z None zero_decimal) (number_takes (is_signed_type t) (number_bytes t))
 
 -- If there are fewer bytes than the elements need, the elements are not read.
 pub no_cells : (t : VarType) (n : ℕ) (s : Cursor) → leb (n * plain_width t) (length s.rest) ≡ false → many (arm_at t) n s ≡ None

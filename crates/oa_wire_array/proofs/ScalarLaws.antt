@@ -16,8 +16,8 @@ use Rattle.oa_variant.specs.Keys.{key_number, scalar_of}
 use Rattle.oa_variant.specs.Scalars.{type_of}
 use Rattle.oa_variant.specs.declared.scalar.Scalar.{Scalar}
 use Rattle.oa_variant.specs.declared.scalar.Scalar.TheVariants as scalars
-use Rattle.oa_wire_array.specs.Scalars.{signed_unit, truth, sign_of, sign, decimal, width_of, number, arm, scalar_vt, union, scalar}
-use Rattle.oa_wire_array.specs.Reading.{signed_at, truth_at, sign_at, the_decimal, decimal_at, number_at, arm_at, arm_of, union_at, scalar_at}
+use Rattle.oa_wire_array.specs.Scalars.{signed_unit, truth, sign_of, sign, decimal, width_of, integer, arm, scalar_vt, union, scalar}
+use Rattle.oa_wire_array.specs.Reading.{signed_at, truth_at, sign_at, the_decimal, decimal_at, integer_at, arm_at, arm_of, union_at, scalar_at}
 use Rattle.oa_wire_text.proofs.TextLaws.{bstr_reads}
 use Rattle.oa_wire_array.proofs.Widths.{number_bytes}
 
@@ -71,8 +71,8 @@ abbrev IsNumber : Bool → ℤ → Type 0
 IsNumber true z = z ≡ z
 IsNumber false z = z ≡ pos (unsigned_abs z)
 
-number_reads : (signed : Bool) (n : ℕ) → Reads (IsNumber signed) (number signed n) (number_at signed n)
-unfolding number_at
+number_reads : (signed : Bool) (n : ℕ) → Reads (IsNumber signed) (integer signed n) (integer_at signed n)
+unfolding integer_at
 number_reads true n = same_values (signed_reads n (width_of n)) (λ z _. refl) (λ z _. tt)
 number_reads false n = made_reads pos (unit_reads n) (λ x _. refl) (λ z p text h _. (unsigned_abs z, tt, sym h))
 

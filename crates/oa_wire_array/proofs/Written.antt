@@ -18,7 +18,7 @@ use Rattle.oa_variant.specs.Scalars.{type_of, IsScalar}
 use Rattle.oa_variant.specs.declared.scalar.Scalar.{Scalar}
 use Rattle.oa_variant.specs.declared.scalar.Scalar.TheVariants as scalars
 use Rattle.oa_wire_text.specs.Texts.{units, blob, bstr}
-use Rattle.oa_wire_array.specs.Scalars.{signed_unit, truth, sign_of, sign, decimal, width_of, number, arm, scalar_vt, scalar}
+use Rattle.oa_wire_array.specs.Scalars.{signed_unit, truth, sign_of, sign, decimal, width_of, integer, arm, scalar_vt, scalar}
 use Rattle.oa_wire_text.specs.Canon.{put_blob, put_bstr}
 use Rattle.oa_wire_array.specs.Canon.{put_truth, put_decimal, put_number, put_arm, put_sized, cl_size, put_scalar}
 use Rattle.oa_wire_array.proofs.Widths.{IsWidth, of_width, four, width_by, number_bytes}
@@ -46,7 +46,7 @@ abbrev IsInBytes : Bool → ℕ → ℤ → Type 0
 IsInBytes true n z = FitsSigned (width_of n) z
 IsInBytes false n z = unsigned_abs z < 256 ^ n
 
-number_writes : (signed : Bool) (n : ℕ) → IsWidth n → (z : ℤ) → IsInBytes signed n z → Writes (number signed n z) (put_number signed n z)
+number_writes : (signed : Bool) (n : ℕ) → IsWidth n → (z : ℤ) → IsInBytes signed n z → Writes (integer signed n z) (put_number signed n z)
 number_writes true n is z fits = signed_writes n is z fits
 number_writes false n is z fits = unit_writes n (unsigned_abs z) fits
 

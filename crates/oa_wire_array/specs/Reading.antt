@@ -46,9 +46,9 @@ decimal_at = do
   choose (nat_le scale 28) (give (the_decimal negative scale high low)) fail
 
 -- Reads a number in n bytes, signed or not.
-unfoldable pub number_at : Bool → ℕ → Decoder ℤ
-number_at true n = signed_at n (width_of n)
-number_at false n = do
+unfoldable pub integer_at : Bool → ℕ → Decoder ℤ
+integer_at true n = signed_at n (width_of n)
+integer_at false n = do
   x ← unit_at n
   give (pos x)
 
@@ -67,7 +67,7 @@ arm_at types.Decimal = do
   give (scalars.Decimal d)
 arm_at types.Variant = fail
 arm_at t = do
-  z ← number_at (is_signed_type t) (unwrap_or (element_size_of t) 4)
+  z ← integer_at (is_signed_type t) (unwrap_or (element_size_of t) 4)
   give (scalar_of t z None zero_decimal)
 
 -- Reads the arm of a type; fails if there is none.

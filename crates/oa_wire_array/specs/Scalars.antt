@@ -41,9 +41,9 @@ abbrev pub width_of : ℕ → Width
 width_of n = if n == 1 then w8 else if n == 2 then w16 else if n == 8 then w64 else w32
 
 -- A number in n bytes, signed or not.
-abbrev pub number : Bool → ℕ → ℤ → Encoding
-number true n z = signed_unit n (width_of n) z
-number false n z = unit n (unsigned_abs z)
+abbrev pub integer : Bool → ℕ → ℤ → Encoding
+integer true n z = signed_unit n (width_of n) z
+integer false n z = unit n (unsigned_abs z)
 
 -- The arm of the scalar's type. A number has as many bytes as an element of an array of its type; ERROR, which no
 -- array has, is one of 4 bytes.
@@ -53,7 +53,7 @@ arm scalars.Null = nothing
 arm (scalars.Bool b) = truth b
 arm (scalars.Bstr t) = bstr t
 arm (scalars.Decimal d) = decimal d
-arm v = number (is_signed_type (type_of v)) (unwrap_or (element_size_of (type_of v)) 4) (key_number v)
+arm v = integer (is_signed_type (type_of v)) (unwrap_or (element_size_of (type_of v)) 4) (key_number v)
 
 -- The number of a scalar's type.
 abbrev pub scalar_vt : Scalar → ℕ

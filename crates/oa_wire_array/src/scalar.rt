@@ -48,7 +48,7 @@ fn decimal(r: &mut Ndr<'_>) -> Result<Decimal, StubFault>
 
 /// Reads the arm of a type, with its pointee. Errors: `BadStub`, `Memory`; the reader may have
 /// moved.
-#[tactic(auto, unfolding(oa_ndr::specs::Reading::steps, crate::specs::Reading::arm_at, crate::specs::Reading::number_at, crate::specs::Reading::signed_at, crate::specs::Reading::truth_at))]
+#[tactic(auto, unfolding(oa_ndr::specs::Reading::steps, crate::specs::Reading::arm_at, crate::specs::Reading::integer_at, crate::specs::Reading::signed_at, crate::specs::Reading::truth_at))]
 pub(crate) fn arm(alloc: Global, var_type: VarType, r: &mut Ndr<'_>) -> Result<Scalar, StubFault>
     ensures value { ReadsField result r.new (arm_at var_type r.old) }
     ensures memory { OnMemory result ((var_type ≡ types.Bstr) × (16 ≤ length r.old.rest)) }

@@ -28,30 +28,30 @@ README = f"{ROOT}/README.md"
 
 # the definitions of each promise of README, each with its module; those of a disk count as one
 DISK = tuple(
-    f"oa_disk.specs.Disk.{it}" for it in ("WritesUnsynced", "Syncs", "TakesTime", "FailsAs")
+    f"oa_disk.specs.promise.Disk.{it}" for it in ("WritesUnsynced", "Syncs", "TakesTime", "FailsAs")
 )
 SENTENCES = {
-    1: ["oa_turn.specs.Turns.Turn", "oa_frame.specs.Sessions.Session"],
+    1: ["oa_turn.specs.promise.Turns.Turn", "oa_frame.specs.promise.Sessions.Session"],
     2: [
-        "oa_history.specs.CrashHistories.IsCrashHistory",
-        "oa_history.specs.FaultHistories.IsFaultHistory",
-        "oa_store.specs.Stores.IsStore",
+        "oa_history.specs.promise.CrashHistories.IsCrashHistory",
+        "oa_history.specs.promise.FaultHistories.IsFaultHistory",
+        "oa_store.specs.promise.Stores.IsStore",
         DISK,
     ],
     3: [
-        "oa_linearizable.specs.Crashes.ServersAreDurable",
-        "oa_linearizable.specs.Tables.SeenHistoriesAreLinearizable",
+        "oa_linearizable.specs.promise.Crashes.ServersAreDurable",
+        "oa_linearizable.specs.promise.Tables.SeenHistoriesAreLinearizable",
     ],
     4: [
-        "oa_wire_variant.specs.Variants.Spells",
-        "oa_idl.specs.IsTree.IsTree",
-        "oa_sema.specs.IsLibrary.IsLibrary",
+        "oa_wire_variant.specs.promise.Variants.Spells",
+        "oa_idl.specs.promise.IsTree.IsTree",
+        "oa_sema.specs.promise.IsLibrary.IsLibrary",
     ],
     5: [
-        "oa_compat.specs.Keeps.KeepsLibrary",
-        "oa_server.specs.Answers.ReplacesInStore",
-        "oa_store.specs.Changes.IsUpgrade",
-        "oa_store.specs.Faults.IsMigrated",
+        "oa_compat.specs.promise.Keeps.KeepsLibrary",
+        "oa_server.specs.promise.ServerMachine.ReplacesInStore",
+        "oa_store.specs.promise.Changes.IsUpgrade",
+        "oa_store.specs.promise.Faults.IsMigrated",
     ],
 }
 # more than this nobody should have to read
@@ -60,7 +60,7 @@ LIMITS = {"Turn": 810, "IsCrashHistory": 1_335}
 # The path of durability: a crash history of one client, by the crates that define what is on the
 # disk, in a group and in a session. What these crates say of a single request is promise 1's, and
 # what many clients add is promise 3's: neither is followed from here.
-DURABLE = "oa_history.specs.CrashHistories.IsCrashHistory"
+DURABLE = "oa_history.specs.promise.CrashHistories.IsCrashHistory"
 DURABLE_CRATES = (
     "oa_disk",
     "oa_journal",
@@ -71,10 +71,10 @@ DURABLE_CRATES = (
     "oa_history",
 )
 MANY_CLIENTS = [
-    "oa_history.specs.Framed.ServesShared",
-    "oa_history.specs.Framed.HasWrittenFrames",
-    "oa_server.specs.SharedMachine.shared_machine",
-    "oa_server.specs.Sharing.shared",
+    "oa_history.specs.promise.Framed.ServesShared",
+    "oa_history.specs.promise.Framed.HasWrittenFrames",
+    "oa_server.specs.promise.SharedMachine.shared_machine",
+    "oa_server.specs.promise.SharedMachine.shared",
 ]
 DURABLE_FILES, DURABLE_LINES = 12, 900
 

@@ -142,7 +142,7 @@ class Sources(Cases):
         page = "docs/internals/reading-the-proofs.md"
         for begins, path in (
             ("pub fn serve_hex", "crates/oa_server/src/serving.rt"),
-            ("pub record IsLibrary", "crates/oa_sema/specs/IsLibrary.antt"),
+            ("pub record IsLibrary", "crates/oa_sema/specs/promise/IsLibrary.antt"),
         ):
             shown, source = [
                 " ".join(it.split()) for it in block(page, begins).splitlines()

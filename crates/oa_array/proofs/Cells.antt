@@ -3,8 +3,10 @@ use Rattle.std.proofs.Common.{◌≡◌, ℕ, ◌<◌, ◌≤◌, ℤ, List, len
 use Rattle.std.proofs.lemmas.Option.{slice_get-get_or, slice_get_past, unwrap_or-slice_get}
 use Rattle.std.proofs.Common.{get_or-set_same, get_or-set_other}
 use Rattle.oa_model.specs.declared.bound.Bound.{Bound}
-use Rattle.oa_array.specs.Boxes.{InBounds, box_size, position_of}
-use Rattle.oa_array.specs.Arrays.{ArrayValue, array_element, with_cell, with_first, kept_by_position, redimensioned}
+use Rattle.oa_array.specs.Boxes.{InBounds}
+use Rattle.oa_array.specs.promise.Boxes.{box_size, position_of}
+use Rattle.oa_array.specs.promise.Arrays.{ArrayValue, array_element, with_cell, with_first, kept_by_position}
+use Rattle.oa_array.specs.promise.Arrays.{redimensioned}
 use Rattle.oa_array.proofs.Places.{position-below, same_list}
 use Rattle.oa_array.proofs.Redim.{length-kept, get-kept}
 

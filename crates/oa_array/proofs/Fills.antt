@@ -6,7 +6,7 @@ use Rattle.std.proofs.lemmas.Bool.{cases_lt}
 use Rattle.std.proofs.lemmas.Option.{none-some, slice_get-get_or, unwrap_or-slice_get}
 use Rattle.std.proofs.lemmas.List.{get_or_append_left, get_or-append_right, get_or-take, get_or_past}
 use Rattle.std.proofs.lemmas.List.FromFn.{fill_by_all}
-use Rattle.oa_array.specs.Arrays.{kept_by_position}
+use Rattle.oa_array.specs.promise.Arrays.{kept_by_position}
 use Rattle.std.specs.List.{FoldsTo, enumerate_from}
 use Rattle.oa_cells.specs.Fills.{IsFilledBy, IsStoppedBy}
 use Rattle.oa_array.proofs.Counting.{same_inside}

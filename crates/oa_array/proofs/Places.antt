@@ -12,7 +12,8 @@ use Rattle.std.specs.List.{range_with_len}
 use Rattle.std.specs.Cmp.{int_cmp_is}
 use Rattle.std.specs.Cmp.Lexicographic.{slice_cmp}
 use Rattle.oa_model.specs.declared.bound.Bound.{Bound}
-use Rattle.oa_array.specs.Boxes.{IsWithin, InBounds, index_lists, box_size, comes_before, position_of}
+use Rattle.oa_array.specs.Boxes.{IsWithin, InBounds}
+use Rattle.oa_array.specs.promise.Boxes.{index_lists, box_size, comes_before, position_of}
 use Rattle.oa_array.proofs.Counting.{count-append, count-map, count_all, count_none, get_left, get_right, option_map-Some, same_inside}
 
 -- index lists that begin with one index, and those that begin with the n indices from low + a on

@@ -4,9 +4,10 @@ use Rattle.std.proofs.Common.{le-ltb, ne_eqb, List, [], ◌∷◌, ℤ, pos, ◌
 use Rattle.std.proofs.Common.{le-mul_of_pos_right, mul-zero, eq-zero-or-pos}
 use Rattle.std.proofs.lemmas.Bool.{cases_lt}
 use Rattle.std.specs.Bool.{then_some}
-use Rattle.oa_model.specs.Limits.{max_cells}
+use Rattle.oa_model.specs.promise.Limits.{max_cells}
 use Rattle.oa_model.specs.declared.bound.Bound.{Bound}
-use Rattle.oa_array.specs.Boxes.{InBounds, IsWithin, box_size, position_of}
+use Rattle.oa_array.specs.Boxes.{InBounds, IsWithin}
+use Rattle.oa_array.specs.promise.Boxes.{box_size, position_of}
 use Rattle.oa_array.proofs.Places.{box_size-nil, box_size-cons, position_of-nil, position_of-cons, IsWithin-at}
 
 -- ---- the size, up to 65,537

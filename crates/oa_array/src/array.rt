@@ -1,14 +1,16 @@
 //! Safe arrays.
 ghost use Rattle.std.specs.Prelude.{◌≡◌, ◌+◌, ◌-◌, ◌<◌, ◌≤◌, Some, length, All, MatchOption, MatchResult, IfOk};
 ghost use Rattle.std.specs.Prelude.{replicate};
-ghost use Rattle.oa_array.specs.Boxes.{InBounds, box_size};
-ghost use Rattle.oa_array.specs.Arrays.{ArrayValue, IsArrayShape, IsArray, array_element, with_cell, with_locks, with_first, all_cells};
-ghost use Rattle.oa_array.specs.Arrays.{kept_by_position, redimensioned};
+ghost use Rattle.oa_array.specs.Boxes.{InBounds};
+ghost use Rattle.oa_array.specs.promise.Boxes.{box_size};
+ghost use Rattle.oa_array.specs.promise.Arrays.{ArrayValue, IsArrayShape, IsArray, array_element, with_cell};
+ghost use Rattle.oa_array.specs.promise.Arrays.{with_locks, with_first, kept_by_position, redimensioned};
+ghost use Rattle.oa_array.specs.Arrays.{all_cells};
 ghost use Rattle.oa_array.specs.Faults.{RefusesCreate, RefusesPut, RefusesRedim};
 ghost use Rattle.std.specs.Ordering.{eq_of_both, on};
 ghost use Rattle.std.specs.Cmp.{and_per, on_per, and_equiv, on_equiv};
 ghost use Rattle.std.specs.Cmp.Lexicographic.{pointwise, lists_per, lists_equiv};
-ghost use Rattle.oa_model.specs.Limits.{max_cells, max_cell_locks};
+ghost use Rattle.oa_model.specs.promise.Limits.{max_cells, max_cell_locks};
 ghost use Rattle.oa_model.specs.contracts.var_type.VarTypePartialEq.TheImpl.Laws.{laws-law as type_per};
 ghost use Rattle.oa_model.specs.contracts.var_type.VarTypeEq.TheImpl.Laws.{laws-law as type_equiv};
 ghost use Rattle.oa_model.specs.contracts.bound.BoundPartialEq.TheImpl.Laws.{laws-law as bound_per};
@@ -48,7 +50,7 @@ pub struct SafeArray<T: Cell> {
 }
 
 impl<T: Cell> Model for SafeArray<T> {
-    ghost use Rattle.oa_array.specs.Arrays.{ArrayValue, IsArray};
+    ghost use Rattle.oa_array.specs.promise.Arrays.{ArrayValue, IsArray};
     ghost use Rattle.oa_array.specs.Heads.{bounds_in};
 
     ghost Value = { ArrayValue T };

@@ -1,7 +1,7 @@
 //! The elements of arrays.
 ghost use Rattle.std.specs.Prelude.{◌≡◌, ◌↔◌, IsTrue, IsSome, IfOk};
 ghost use Rattle.oa_model.specs.declared.var_type.VarType.{VarType};
-ghost use Rattle.oa_model.specs.Types.{sf_type_of};
+ghost use Rattle.oa_model.specs.promise.Types.{sf_type_of};
 
 use oa_model::VarType;
 use std::alloc::{AllocError, Global};

@@ -1,7 +1,7 @@
 //! Why an operation on an array is refused.
 ghost use Rattle.std.specs.Prelude.{◌≡◌};
 ghost use Rattle.oa_array.specs.declared.fault.ArrayFault.TheVariants.{Memory};
-ghost use Rattle.oa_array.specs.Faults.{array_code};
+ghost use Rattle.oa_array.specs.promise.Faults.{array_code};
 
 use oa_model::HResult;
 use std::alloc::AllocError;

@@ -1,8 +1,9 @@
 //! Theorems about the definitions, each the contract of a function with an empty body.
 ghost use Rattle.std.specs.Prelude.{◌≡◌, ℕ, ◌+◌, ◌*◌, ◌<◌, ◌≤◌, ◌↔◌, ℤ, pos, ◌+ℤ◌, List, [], ◌∷◌, length, slice_get, Some};
 ghost use Rattle.oa_model.specs.declared.bound.Bound.{Bound};
-ghost use Rattle.oa_array.specs.Boxes.{InBounds, index_lists, box_size, position_of};
-ghost use Rattle.oa_array.specs.Arrays.{ArrayValue, array_element, with_cell, with_first, redimensioned};
+ghost use Rattle.oa_array.specs.Boxes.{InBounds};
+ghost use Rattle.oa_array.specs.promise.Boxes.{index_lists, box_size, position_of};
+ghost use Rattle.oa_array.specs.promise.Arrays.{ArrayValue, array_element, with_cell, with_first, redimensioned};
 
 /// The list of all index lists within the bounds contains at each place the one that has this place
 /// as its position. It contains each of them once, in increasing order.

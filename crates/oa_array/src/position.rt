@@ -1,7 +1,8 @@
 //! The position of an index list among the elements, computed as a sum of products.
 ghost use Rattle.std.specs.Prelude.{◌≡◌, ◌<◌, ◌≤◌, ◌∷◌, MatchOption, pos, ◌+ℤ◌};
-ghost use Rattle.oa_model.specs.Limits.{max_cells};
-ghost use Rattle.oa_array.specs.Boxes.{IsWithin, InBounds, box_size, position_of};
+ghost use Rattle.oa_model.specs.promise.Limits.{max_cells};
+ghost use Rattle.oa_array.specs.Boxes.{IsWithin, InBounds};
+ghost use Rattle.oa_array.specs.promise.Boxes.{box_size, position_of};
 
 use oa_model::{Bound, MAX_CELLS};
 

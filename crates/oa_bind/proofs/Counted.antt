@@ -9,14 +9,15 @@ use Rattle.std.proofs.lemmas.Option.{none-some}
 use Rattle.std.proofs.lemmas.List.{get_or_past}
 use Rattle.std.proofs.lemmas.Bool.{false_from_ne_true, lt-ltb, ltb-false}
 use Rattle.std.proofs.lemmas.Bool.Decides.{Decides-int_eq, nat_tests}
-use Rattle.oa_model.specs.Codes.{e_invalidarg, disp_e_badparamcount, disp_e_paramnotfound}
+use Rattle.oa_model.specs.promise.Codes.{e_invalidarg, disp_e_badparamcount, disp_e_paramnotfound}
 use Rattle.oa_model.specs.declared.hresult.HResult.{HResult}
 use Rattle.oa_idl.specs.declared.parts.Parameter.{Parameter}
 use Rattle.oa_typelib.specs.declared.access.Kind.{Kind}
 use Rattle.oa_bind.specs.declared.fault.BindFault.{BindFault}
-use Rattle.oa_bind.specs.Given.{Given, IsGiven, by_position, dispid_of_argument, argument_index, is_parameter}
-use Rattle.oa_bind.specs.Names.{is_consistent, most, names_none, names_well, repeats, well_named}
-use Rattle.oa_bind.specs.Refusals.{◌>>=◌, bind_fault_if, unless_at}
+use Rattle.oa_bind.specs.promise.Given.{Given, by_position, argument_index, is_parameter}
+use Rattle.oa_bind.specs.Given.{IsGiven, dispid_of_argument}
+use Rattle.oa_bind.specs.promise.Names.{is_consistent, most, names_none, names_well, repeats, well_named}
+use Rattle.oa_bind.specs.promise.Refusals.{◌>>=◌, bind_fault_if, unless_at}
 
 -- The rest after a check that has not refused.
 no_answer : {A : Type 0} (e : BindFault) (x : A) → Err e ≡ Ok x → ⊥

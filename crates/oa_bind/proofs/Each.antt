@@ -3,7 +3,7 @@
 use Rattle.std.proofs.Common.{◌≡◌, ◌+◌, ℕ, List, [], ◌∷◌, ◌++◌, drop, Result, Ok, Err, refl, sym, ap, ◌∙◌, append_assoc}
 use Rattle.std.proofs.lemmas.List.{append-nil}
 use Rattle.oa_bind.specs.declared.fault.BindFault.{BindFault}
-use Rattle.oa_bind.specs.Refusals.{◌>>=◌, each_at}
+use Rattle.oa_bind.specs.promise.Refusals.{◌>>=◌, each_at}
 
 abbrev pub with_front : {Y : Type 0} → List Y → Result (List Y) BindFault → Result (List Y) BindFault
 with_front front rest = rest >>= λ ys. Ok (front ++ ys)

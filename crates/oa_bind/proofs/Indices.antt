@@ -7,7 +7,8 @@ use Rattle.std.proofs.lemmas.Option.{none-some, same_Some}
 use Rattle.std.proofs.lemmas.List.{get_or_past}
 use Rattle.std.proofs.lemmas.Bool.Decides.{Decides-int_eq, nat_tests}
 use Rattle.oa_variant.specs.declared.variant.Variant.{Variant}
-use Rattle.oa_bind.specs.Given.{Given, IsGiven, argument_at, argument_for, by_position, dispid_of_argument, argument_index, is_parameter}
+use Rattle.oa_bind.specs.promise.Given.{Given, argument_at, argument_for, by_position, argument_index, is_parameter}
+use Rattle.oa_bind.specs.Given.{IsGiven, dispid_of_argument}
 
 -- A DISPID that is found among names is at the place that is found.
 stands_there : (named : List ℤ) (first i : ℕ) (id blank : ℤ) → position_from (λ n. int_eq n id) first named ≡ Some i

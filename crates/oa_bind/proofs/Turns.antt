@@ -9,10 +9,13 @@ use Rattle.oa_variant.specs.declared.variant.Variant.{Variant}
 use Rattle.oa_typelib.specs.declared.access.Kind.{Kind}
 use Rattle.oa_typelib.specs.declared.access.Kind.TheVariants.{Get, Put}
 use Rattle.oa_bind.specs.declared.fault.BindFault.{BindFault}
-use Rattle.oa_bind.specs.Bindings.{bound_call, given_new_value, new_value_of, parameter_value, value_of_parameter}
-use Rattle.oa_bind.specs.Given.{Given, Stay, given_argument, given_call, argument_index, new_value_id}
-use Rattle.oa_bind.specs.Names.{complete, well_named}
-use Rattle.oa_bind.specs.Refusals.{each_at, lacks_memory}
+use Rattle.oa_bind.specs.promise.Bindings.{bound_call, given_new_value, new_value_of, parameter_value}
+use Rattle.oa_bind.specs.promise.Bindings.{value_of_parameter}
+use Rattle.oa_bind.specs.promise.Given.{Given, given_argument, argument_index, new_value_id}
+use Rattle.oa_bind.specs.Given.{Stay, given_call}
+use Rattle.oa_bind.specs.promise.Names.{complete, well_named}
+use Rattle.oa_bind.specs.promise.Refusals.{each_at}
+use Rattle.oa_bind.specs.Refusals.{lacks_memory}
 use Rattle.oa_bind.proofs.Each.{with_front, each_breaks, each_goes_on}
 use Rattle.oa_bind.proofs.Indices.{index_once, same_argument}
 

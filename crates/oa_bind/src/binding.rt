@@ -1,10 +1,10 @@
 //! Binds the arguments of a call.
 ghost use Rattle.std.specs.Prelude.{◌≡◌, ◌≤◌, length, map, IfErr};
-ghost use Rattle.oa_model.specs.Limits.{max_arguments, max_parameters};
+ghost use Rattle.oa_model.specs.promise.Limits.{max_arguments, max_parameters};
 ghost use Rattle.oa_typelib.specs.Bindable.{IsBindable};
-ghost use Rattle.oa_sema.specs.Defaults.{default_value};
+ghost use Rattle.oa_sema.specs.promise.Defaults.{default_value};
 ghost use Rattle.oa_variant.specs.Variants.{HasZero};
-ghost use Rattle.oa_bind.specs.Bindings.{BindingTakesMemory, bound_call, bound_to};
+ghost use Rattle.oa_bind.specs.promise.Bindings.{BindingTakesMemory, bound_call, bound_to};
 ghost use Rattle.oa_bind.specs.Given.{given_call};
 ghost use Rattle.oa_bind.specs.Refusals.{BindsAs, lacks_memory};
 
@@ -64,7 +64,7 @@ pub fn bind(
 
 /// Binds the arguments as `bind` does, for a property with these parameters, values of their
 /// defaults, and type. Errors are those of `bind`.
-#[tactic(auto, unfolding(crate::specs::Bindings::bound_call))]
+#[tactic(auto, unfolding(crate::specs::promise::Bindings::bound_call))]
 fn bind_parts(
     alloc: Global,
     parameters: &[Parameter],

@@ -2,7 +2,7 @@
 ghost use Rattle.std.specs.Prelude.{◌≡◌, ◌≢◌, ◌<◌, ◌≤◌, ℕ, length, slice_get, Some, IfSome};
 ghost use Rattle.std.specs.List.{position_from};
 ghost use Rattle.std.specs.Ordering.{int_eq};
-ghost use Rattle.oa_bind.specs.Given.{argument_index, is_parameter, says_missing};
+ghost use Rattle.oa_bind.specs.promise.Given.{argument_index, is_parameter, says_missing};
 
 use oa_model::HResult;
 use oa_variant::{Scalar, Variant};
@@ -19,7 +19,7 @@ pub(crate) fn is_parameter(n: usize, id: i32) -> bool
 
 /// Returns the index in rgvarg of the argument for a DISPID, among `count` arguments; None if there
 /// is none.
-#[tactic(auto, unfolding(crate::specs::Given::argument_index))]
+#[tactic(auto, unfolding(crate::specs::promise::Given::argument_index))]
 pub(crate) fn index_of(named: &[i32], count: usize, id: i32) -> Option<usize>
     requires { length named.now ≤ count }
     ensures value { result ≡ argument_index named.now count id }

@@ -2,8 +2,9 @@
 ghost use Rattle.std.specs.Prelude.{◌≡◌, ◌≤◌, ℕ, ℤ, List, length, Ok, Some};
 ghost use Rattle.oa_idl.specs.declared.parts.Parameter.{Parameter as AParameter};
 ghost use Rattle.oa_typelib.specs.declared.access.Kind.{Kind as AKind};
-ghost use Rattle.oa_bind.specs.Given.{Given, IsGiven, argument_index};
-ghost use Rattle.oa_bind.specs.Names.{well_named};
+ghost use Rattle.oa_bind.specs.promise.Given.{Given, argument_index};
+ghost use Rattle.oa_bind.specs.Given.{IsGiven};
+ghost use Rattle.oa_bind.specs.promise.Names.{well_named};
 
 /// The argument that the search for a DISPID finds is given for this DISPID, and no argument is
 /// given for two DISPIDs.

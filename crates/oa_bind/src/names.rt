@@ -1,10 +1,11 @@
 //! The checks before any argument is coerced. They allocate nothing.
 ghost use Rattle.std.specs.Prelude.{◌≡◌, ◌≢◌, ◌≤◌, ◌<◌, ◌+◌, length, true, IfErr, IfSome, OnOk};
 ghost use Rattle.std.specs.List.{position_from};
-ghost use Rattle.oa_model.specs.Limits.{max_arguments, max_parameters};
+ghost use Rattle.oa_model.specs.promise.Limits.{max_arguments, max_parameters};
 ghost use Rattle.oa_bind.specs.Given.{given_call};
-ghost use Rattle.oa_bind.specs.Names.{complete, is_consistent, lacks, most, names_none, repeats, well_named};
-ghost use Rattle.oa_bind.specs.Refusals.{any_at, lacks_memory};
+ghost use Rattle.oa_bind.specs.promise.Names.{complete, is_consistent, lacks, most, names_none, repeats, well_named};
+ghost use Rattle.oa_bind.specs.promise.Refusals.{any_at};
+ghost use Rattle.oa_bind.specs.Refusals.{lacks_memory};
 
 use crate::BindFault;
 use crate::given::{index_of, is_parameter, says_missing};
@@ -92,7 +93,7 @@ fn lacks(named: &[i32], arguments: &[Variant], place: usize, parameter: &Paramet
 }
 
 /// Returns whether some parameter is required and missing.
-#[tactic(auto, unfolding(crate::specs::Refusals::any_at))]
+#[tactic(auto, unfolding(crate::specs::promise::Refusals::any_at))]
 fn any_lacks(parameters: &[Parameter], named: &[i32], arguments: &[Variant]) -> bool
     requires few { length parameters.now ≤ max_parameters }
     requires named { length named.now ≤ length arguments.now }
@@ -109,7 +110,7 @@ fn any_lacks(parameters: &[Parameter], named: &[i32], arguments: &[Variant]) -> 
 /// Checks the names and the number of the arguments, of which there are `count`. Errors, in this
 /// order: E_INVALIDARG, DISP_E_BADPARAMCOUNT, and DISP_E_PARAMNOTFOUND with the lowest index of an
 /// unknown name.
-#[tactic(auto, unfolding(crate::specs::Names::well_named))]
+#[tactic(auto, unfolding(crate::specs::promise::Names::well_named))]
 pub(crate) fn check_names(
     parameters: &[Parameter],
     kind: Kind,
@@ -136,7 +137,7 @@ pub(crate) fn check_names(
 }
 
 /// Checks that each required parameter has an argument. Err: DISP_E_PARAMNOTOPTIONAL.
-#[tactic(auto, unfolding(crate::specs::Names::complete))]
+#[tactic(auto, unfolding(crate::specs::promise::Names::complete))]
 pub(crate) fn check_complete(
     parameters: &[Parameter],
     named: &[i32],

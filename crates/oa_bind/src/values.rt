@@ -1,14 +1,17 @@
 //! Makes the values of the parameters, and the new value of a put.
 ghost use Rattle.std.specs.Prelude.{◌≡◌, ◌≢◌, ◌≤◌, ◌<◌, ◌+◌, ℕ, true, false, length, map, pos, slice_get, Some, IfErr, IfOk, OnErr, OnOk};
-ghost use Rattle.oa_model.specs.Limits.{max_arguments, max_parameters};
-ghost use Rattle.oa_coerce.specs.Answers.{coerced, is_memory};
-ghost use Rattle.oa_coerce.specs.Refusals.{IsArrayType, coercion_code};
-ghost use Rattle.oa_sema.specs.Defaults.{default_value};
+ghost use Rattle.oa_model.specs.promise.Limits.{max_arguments, max_parameters};
+ghost use Rattle.oa_coerce.specs.promise.Answers.{coerced};
+ghost use Rattle.oa_coerce.specs.Answers.{is_memory};
+ghost use Rattle.oa_coerce.specs.promise.Refusals.{IsArrayType, coercion_code};
+ghost use Rattle.oa_sema.specs.promise.Defaults.{default_value};
 ghost use Rattle.oa_variant.specs.Variants.{HasZero};
-ghost use Rattle.oa_bind.specs.Bindings.{PutsArray, missing_value, given_new_value, parameter_value};
-ghost use Rattle.oa_bind.specs.Bindings.{scalar_type, told_of_argument, value_by_argument, without_default};
-ghost use Rattle.oa_bind.specs.Given.{Stay, given_call, argument_index};
-ghost use Rattle.oa_bind.specs.Refusals.{BindsAs, each_at, lacks_memory};
+ghost use Rattle.oa_bind.specs.promise.Bindings.{PutsArray, missing_value, given_new_value, parameter_value};
+ghost use Rattle.oa_bind.specs.promise.Bindings.{scalar_type, told_of_argument, value_by_argument, without_default};
+ghost use Rattle.oa_bind.specs.Given.{Stay, given_call};
+ghost use Rattle.oa_bind.specs.promise.Given.{argument_index};
+ghost use Rattle.oa_bind.specs.Refusals.{BindsAs, lacks_memory};
+ghost use Rattle.oa_bind.specs.promise.Refusals.{each_at};
 
 use crate::BindFault;
 use crate::given::{MISSING, index_of, says_missing, take};

@@ -7,7 +7,7 @@ use Rattle.std.proofs.lemmas.Nat.{from_le_bytes-to_le_bytes_4}
 use Rattle.oa_cells.specs.Windows.{values}
 use Rattle.oa_cells.proofs.Full.{values_of_full}
 use Rattle.oa_bstr.specs.Block.{block_of, block_text, IsBlock}
-use Rattle.oa_model.specs.Limits.{max_text_bytes}
+use Rattle.oa_model.specs.promise.Limits.{max_text_bytes}
 
 abbrev pub zeros : List ℕ
 zeros = 0 ∷ 0 ∷ []

@@ -1,7 +1,7 @@
 //! The block of a text: making, reading and freeing it.
 ghost use Rattle.std.specs.Prelude.{◌≡◌, ◌+◌, ◌≤◌, length, take, IfOk};
 ghost use Rattle.oa_bstr.specs.Block.{block_of, block_text, IsBlock};
-ghost use Rattle.oa_model.specs.Limits.{max_text_bytes};
+ghost use Rattle.oa_model.specs.promise.Limits.{max_text_bytes};
 
 use oa_cells::{Partial, Row};
 use std::alloc::{AllocError, Global};

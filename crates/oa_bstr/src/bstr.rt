@@ -8,8 +8,9 @@ ghost use Rattle.std.specs.Cmp.Rules.{comparing};
 ghost use Rattle.std.specs.Ordering.{as_partial_cmp, eq_by_cmp};
 ghost use Rattle.std.proofs.lemmas.Cmp.{eq_by_cmp_equiv};
 ghost use Rattle.oa_bstr.specs.Block.{block_text, IsBlock};
-ghost use Rattle.oa_model.specs.Limits.{max_text_bytes};
-ghost use Rattle.oa_bstr.specs.Text.{bytes_of, unit_of, text_cmp, texts_total};
+ghost use Rattle.oa_model.specs.promise.Limits.{max_text_bytes};
+ghost use Rattle.oa_bstr.specs.promise.Text.{bytes_of, text_cmp};
+ghost use Rattle.oa_bstr.specs.Text.{unit_of, texts_total};
 ghost use Rattle.oa_bstr.specs.declared.error.BstrError.TheVariants.{TooLong};
 
 use crate::block;

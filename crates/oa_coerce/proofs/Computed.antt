@@ -4,23 +4,27 @@ use Rattle.std.proofs.Common.{refl, sym, ap, subst, ◌∙◌}
 use mir.Val.{hbits}
 use Rattle.std.specs.Int.{Width}
 use Rattle.std.proofs.lemmas.Bool.{cond_both, cond-true, and_parts, lt-ltb, ltb-true, false≢true, true≢false}
-use Rattle.oa_model.specs.Integers.{in_range, bits_of}
-use Rattle.oa_model.specs.Types.{is_signed_type}
+use Rattle.oa_model.specs.promise.Integers.{in_range, bits_of}
+use Rattle.oa_model.specs.promise.Types.{is_signed_type}
 use Rattle.oa_model.specs.declared.var_type.VarType.{VarType}
 use Rattle.oa_model.specs.declared.var_type.VarType.TheVariants as types
 use Rattle.oa_model.specs.declared.var_type.ValueType.{ValueType}
 use Rattle.oa_model.specs.declared.var_type.ValueType.TheVariants as kinds
-use Rattle.oa_variant.specs.Keys.{key_number}
-use Rattle.oa_variant.specs.Scalars.{type_of, same_type, IsScalar}
+use Rattle.oa_variant.specs.promise.Keys.{key_number}
+use Rattle.oa_variant.specs.promise.Scalars.{type_of, same_type}
+use Rattle.oa_variant.specs.Scalars.{IsScalar}
 use Rattle.oa_variant.specs.declared.scalar.Scalar.{Scalar}
 use Rattle.oa_variant.specs.declared.scalar.Scalar.TheVariants as scalars
 use Rattle.oa_variant.specs.declared.variant.Variant.{Variant}
 use Rattle.oa_variant.specs.declared.variant.Variant.TheVariants.{One, Array}
-use Rattle.oa_coerce.specs.Numbers.{counts_units, decimal_places, number_in, IsNearest}
-use Rattle.oa_coerce.specs.Coercions.{rule_for, Makes, MakesValue, CoercesScalar, Coerces}
+use Rattle.oa_coerce.specs.promise.Numbers.{counts_units, decimal_places, number_in}
+use Rattle.oa_coerce.specs.Numbers.{IsNearest}
+use Rattle.oa_coerce.specs.promise.Coercions.{rule_for}
+use Rattle.oa_coerce.specs.Coercions.{Makes, MakesValue, CoercesScalar, Coerces}
 use Rattle.oa_coerce.specs.Refusals.{RefusesScalar, RefusesCoercion}
-use Rattle.oa_coerce.specs.Answers.{nearest_count, of_count, answer_by, coerced_scalar, one_result, value_by, coerced, is_memory, IsScalarAnswer}
-use Rattle.oa_coerce.specs.Answers.{IsCoercion}
+use Rattle.oa_coerce.specs.promise.Answers.{nearest_count, of_count, answer_by, coerced_scalar, one_result, value_by}
+use Rattle.oa_coerce.specs.promise.Answers.{coerced}
+use Rattle.oa_coerce.specs.Answers.{is_memory, IsScalarAnswer, IsCoercion}
 use Rattle.oa_coerce.specs.declared.fault.CoerceFault.{CoerceFault}
 use Rattle.oa_coerce.specs.declared.fault.CoerceFault.TheVariants.{Overflow, TypeMismatch, Memory}
 use Rattle.oa_coerce.specs.declared.rule.Rule.{Rule}

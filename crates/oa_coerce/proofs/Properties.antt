@@ -2,20 +2,22 @@
 use Rattle.std.specs.Prelude.{◌≡◌, true, false}
 use Rattle.std.proofs.Common.{refl, sym, ap, subst, ◌∙◌}
 use Rattle.std.proofs.lemmas.Bool.{cond_both, or_right, false≢true}
-use Rattle.oa_model.specs.Integers.{is_integer_type}
+use Rattle.oa_model.specs.promise.Integers.{is_integer_type}
 use Rattle.oa_model.specs.declared.var_type.VarType.{VarType}
 use Rattle.oa_model.specs.declared.var_type.VarType.TheVariants as types
 use Rattle.oa_model.specs.declared.var_type.ValueType.{ValueType}
 use Rattle.oa_model.specs.declared.var_type.ValueType.TheVariants as kinds
-use Rattle.oa_variant.specs.Keys.{key_number}
-use Rattle.oa_variant.specs.Scalars.{type_of, same_type, fits_type, zero_of}
-use Rattle.oa_variant.specs.Variants.{fits_declared}
+use Rattle.oa_variant.specs.promise.Keys.{key_number}
+use Rattle.oa_variant.specs.promise.Scalars.{type_of, same_type, fits_type, zero_of}
+use Rattle.oa_variant.specs.promise.Variants.{fits_declared}
 use Rattle.oa_variant.specs.declared.scalar.Scalar.{Scalar}
 use Rattle.oa_variant.specs.declared.scalar.Scalar.TheVariants as scalars
 use Rattle.oa_variant.specs.declared.variant.Variant.{Variant}
 use Rattle.oa_variant.specs.declared.variant.Variant.TheVariants.{One, Array}
-use Rattle.oa_coerce.specs.Numbers.{decimal_places, number_in, IsNearest}
-use Rattle.oa_coerce.specs.Coercions.{rule_for, Makes, MakesValue, CoercesScalar, Coerces}
+use Rattle.oa_coerce.specs.promise.Numbers.{decimal_places, number_in}
+use Rattle.oa_coerce.specs.Numbers.{IsNearest}
+use Rattle.oa_coerce.specs.promise.Coercions.{rule_for}
+use Rattle.oa_coerce.specs.Coercions.{Makes, MakesValue, CoercesScalar, Coerces}
 use Rattle.oa_coerce.specs.declared.rule.Rule.TheVariants.{Unchanged, Zero, NoRule}
 use Rattle.oa_coerce.proofs.Nearest.{one_nearest, nearest_itself}
 use Rattle.oa_coerce.proofs.Rules.{are_same, tests_same, by_rule, same_scalar}

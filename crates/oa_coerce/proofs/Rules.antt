@@ -3,18 +3,18 @@ use Rattle.std.specs.Prelude.{◌≡◌, ◌&&◌, ◌||◌, true}
 use Rattle.std.proofs.Common.{refl, sym, ap, ◌∙◌}
 use Rattle.std.proofs.lemmas.Bool.{cond_both, and_parts, or_left, false≢true}
 use denote.Enum.Bare.{same_true, true_same}
-use Rattle.oa_model.specs.Integers.{is_integer_type, is_signed_integer}
-use Rattle.oa_model.specs.Types.{is_signed_type}
+use Rattle.oa_model.specs.promise.Integers.{is_integer_type, is_signed_integer}
+use Rattle.oa_model.specs.promise.Types.{is_signed_type}
 use Rattle.oa_model.specs.contracts.var_type.VarType.{the_type as var_type}
 use Rattle.oa_model.specs.declared.var_type.VarType.{VarType}
 use Rattle.oa_model.specs.declared.var_type.VarType.TheVariants as types
-use Rattle.oa_variant.specs.Keys.{key_number}
-use Rattle.oa_variant.specs.Scalars.{type_of, same_type}
+use Rattle.oa_variant.specs.promise.Keys.{key_number}
+use Rattle.oa_variant.specs.promise.Scalars.{type_of, same_type}
 use Rattle.oa_variant.specs.declared.scalar.Scalar.{Scalar}
 use Rattle.oa_variant.specs.declared.scalar.Scalar.TheVariants as scalars
-use Rattle.oa_coerce.specs.Numbers.{counts_units, is_number_type}
-use Rattle.oa_coerce.specs.Coercions.{rule_for}
-use Rattle.oa_coerce.specs.Answers.{of_count}
+use Rattle.oa_coerce.specs.promise.Numbers.{counts_units, is_number_type}
+use Rattle.oa_coerce.specs.promise.Coercions.{rule_for}
+use Rattle.oa_coerce.specs.promise.Answers.{of_count}
 use Rattle.oa_coerce.specs.declared.rule.Rule.{Rule}
 use Rattle.oa_coerce.specs.declared.rule.Rule.TheVariants.{Unchanged, Zero, Nearest, Exact, ToTruth, NoRule}
 

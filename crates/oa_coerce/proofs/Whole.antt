@@ -6,7 +6,7 @@ use Rattle.std.proofs.lemmas.Bool.{cases_order, cases_eq, cond_both, or_cases, o
 use Rattle.std.proofs.lemmas.Bool.{eqb-true, eqb-false}
 use Rattle.std.proofs.lemmas.Nat.{div-add-mod', mod_below}
 use Rattle.oa_coerce.specs.Numbers.{IsNearestWhole}
-use Rattle.oa_coerce.specs.Answers.{half_even}
+use Rattle.oa_coerce.specs.promise.Answers.{half_even}
 
 -- of two nearest ones neither is the smaller: the next number but one is too far, and next to one another both would be half a unit off
 none_above : (w u a more : ℕ) → 0 < u → IsNearestWhole w u a → IsNearestWhole w u (a + 1 + more) → ⊥

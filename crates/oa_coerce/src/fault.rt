@@ -1,6 +1,6 @@
 //! Why a value is not coerced.
 ghost use Rattle.std.specs.Prelude.{◌≡◌};
-ghost use Rattle.oa_coerce.specs.Refusals.{coercion_code};
+ghost use Rattle.oa_coerce.specs.promise.Refusals.{coercion_code};
 
 use oa_model::HResult;
 use thiserror::Error;

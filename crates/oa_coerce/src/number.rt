@@ -1,9 +1,11 @@
 //! Numbers, and their rounding to units.
 ghost use Rattle.std.specs.Prelude.{◌≡◌, ◌≤◌, ◌<◌, ◌^◌, unsigned_abs, IfSome, IsNone, IsTrue};
-ghost use Rattle.oa_variant.specs.Keys.{key_number};
-ghost use Rattle.oa_variant.specs.Scalars.{type_of, IsScalar};
+ghost use Rattle.oa_variant.specs.promise.Keys.{key_number};
+ghost use Rattle.oa_variant.specs.promise.Scalars.{type_of};
+ghost use Rattle.oa_variant.specs.Scalars.{IsScalar};
 ghost use Rattle.oa_variant.specs.declared.scalar.Scalar.{Scalar as AScalar};
-ghost use Rattle.oa_coerce.specs.Numbers.{number_in, counts_units, IsNearest, IsNearestWhole};
+ghost use Rattle.oa_coerce.specs.promise.Numbers.{number_in, counts_units};
+ghost use Rattle.oa_coerce.specs.Numbers.{IsNearest, IsNearestWhole};
 
 use oa_model::VarType;
 use oa_variant::Scalar;

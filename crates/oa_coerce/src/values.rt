@@ -1,9 +1,11 @@
 //! Coercion of scalars and of values.
 ghost use Rattle.std.specs.Prelude.{◌≡◌, true, IfOk, IfErr, IsTrue};
-ghost use Rattle.oa_variant.specs.Variants.{HasZero, fits_declared};
+ghost use Rattle.oa_variant.specs.Variants.{HasZero};
+ghost use Rattle.oa_variant.specs.promise.Variants.{fits_declared};
 ghost use Rattle.oa_coerce.specs.Coercions.{CoercesScalar, Coerces};
 ghost use Rattle.oa_coerce.specs.Refusals.{RefusesScalar, RefusesCoercion};
-ghost use Rattle.oa_coerce.specs.Answers.{coerced_scalar, coerced, IsScalarAnswer, IsCoercion};
+ghost use Rattle.oa_coerce.specs.promise.Answers.{coerced_scalar, coerced};
+ghost use Rattle.oa_coerce.specs.Answers.{IsScalarAnswer, IsCoercion};
 
 use crate::CoerceFault;
 use crate::number::{nearest, number_in, with_count};

@@ -2,10 +2,10 @@
 use Rattle.std.proofs.Common.{◌≡◌, ◌⊎◌, inr, ℕ, Bool, false, List, [], ◌∷◌, ◌++◌, Result, Ok, Err, OnOk, IfErr, append_assoc, refl, sym, ap, ◌∙◌}
 use Rattle.std.proofs.lemmas.List.{append-nil}
 use Rattle.std.specs.List.{flat_map}
-use Rattle.oa_stream.specs.Sink.{Output, Writes}
+use Rattle.oa_stream.specs.promise.Sink.{Output, Writes}
 use Rattle.oa_stream.proofs.Stretches.{breaks_after, breaks_before, writes_nothing, writes_then}
 use Rattle.oa_disk.specs.declared.disk.Disk.{Ghosts}
-use Rattle.oa_table.specs.Tables.{TableValue}
+use Rattle.oa_table.specs.promise.Tables.{TableValue}
 use Rattle.oa_commands.specs.Dumps.{BreaksOff, PutsFront, dump}
 use Rattle.oa_commands.specs.Stores.{WasRead}
 use Rattle.oa_commands.specs.declared.fault.Fault.{Fault}

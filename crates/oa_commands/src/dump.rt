@@ -6,8 +6,8 @@ ghost use Rattle.oa_commands.specs.Dumps.{BreaksOff, cell_line, cell_place, cell
 ghost use Rattle.oa_commands.specs.Dumps.{value_digits};
 ghost use Rattle.oa_commands.specs.Statuses.{IsOfDump, IsOfWriting};
 ghost use Rattle.oa_commands.specs.Stores.{WasRead};
-ghost use Rattle.oa_stream.specs.Sink.{IsHandedOn, Writes};
-ghost use Rattle.oa_table.specs.Tables.{TableValue};
+ghost use Rattle.oa_stream.specs.promise.Sink.{IsHandedOn, Writes};
+ghost use Rattle.oa_table.specs.promise.Tables.{TableValue};
 
 use crate::fault::Fault;
 use crate::store::open_to_read;

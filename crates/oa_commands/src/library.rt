@@ -1,7 +1,7 @@
 //! Texts of libraries, and their libraries.
 ghost use Rattle.std.specs.Prelude.{◌≡◌, ◌≤◌, length, string_bytes, IfSome};
 ghost use Rattle.std.specs.Prelude.{ℕ, List, IfErr, IfOk};
-ghost use Rattle.oa_sema.specs.IsLibrary.{IsLibrary};
+ghost use Rattle.oa_sema.specs.promise.IsLibrary.{IsLibrary};
 ghost use Rattle.std.specs.IoError.{error_kind};
 ghost use Rattle.std.specs.declared.io.ErrorKind.TheVariants as kinds;
 ghost use Rattle.oa_commands.specs.declared.fault.Fault.TheVariants as faults;

@@ -7,7 +7,7 @@ ghost use Rattle.oa_commands.specs.Files.{TellsUnread, TellsUse, TellsUnwritten}
 ghost use Rattle.oa_commands.specs.Statuses.{IsOfFormat, IsOfMaking, IsOfOpening, IsOfTaking, IsOfUse};
 ghost use Rattle.oa_commands.specs.Stores.{IsNewlyFormatted, bank_near};
 ghost use Rattle.oa_disk.specs.After.{BeginsHonest};
-ghost use Rattle.oa_journal.specs.Shapes.{least_bank_bytes, most_bank_bytes};
+ghost use Rattle.oa_journal.specs.promise.Bank.{least_bank_bytes, most_bank_bytes};
 
 use crate::fault::Fault;
 use crate::library::{read_library_file, unread};

@@ -1,10 +1,10 @@
 //! The canonical text of a library.
 ghost use Rattle.std.specs.Prelude.{◌≡◌, ◌⊎◌, ℕ, List, false, IfErr, IfOk, OnOk};
-ghost use Rattle.oa_sema.specs.IsLibrary.{IsLibrary};
+ghost use Rattle.oa_sema.specs.promise.IsLibrary.{IsLibrary};
 ghost use Rattle.oa_commands.specs.Statuses.{IsOfCheck, IsOfPlace, IsOfPlacedLibrary, IsOfTree};
 ghost use Rattle.oa_commands.specs.Texts.{IsPrinted};
 ghost use Rattle.oa_commands.specs.declared.fault.Fault.TheVariants as faults;
-ghost use Rattle.oa_stream.specs.Sink.{Breaks, IsHandedOn, Writes};
+ghost use Rattle.oa_stream.specs.promise.Sink.{Breaks, IsHandedOn, Writes};
 
 use crate::fault::Fault;
 use crate::library::{library_of, read_text};

@@ -3,7 +3,7 @@ ghost use Rattle.std.specs.Prelude.{◌≤◌, IfErr, IfOk};
 ghost use Rattle.oa_commands.specs.Statuses.{IsOfTaking, IsOfUpgrade};
 ghost use Rattle.oa_commands.specs.Stores.{IsUpgraded, bank_near};
 ghost use Rattle.oa_disk.specs.File.{file_size, GoesOnFrom};
-ghost use Rattle.oa_journal.specs.Shapes.{least_bank_bytes, most_bank_bytes};
+ghost use Rattle.oa_journal.specs.promise.Bank.{least_bank_bytes, most_bank_bytes};
 
 use crate::fault::Fault;
 use crate::store::{allow_writes, open_store_file, unwritten};

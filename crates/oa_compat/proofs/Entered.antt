@@ -6,25 +6,26 @@ use Rattle.std.specs.Prelude.{if◌then◌else◌}
 use Rattle.std.proofs.lemmas.Option.{none-some}
 use Rattle.std.specs.Option.{option_and_then, option_map}
 use Rattle.uuid.specs.Parts.{is_nil_bytes}
-use Rattle.oa_idl.specs.Trees.{TreeValue}
-use Rattle.oa_idl.specs.Values.{CoclassValue, InterfaceValue}
+use Rattle.oa_idl.specs.promise.Trees.{TreeValue}
+use Rattle.oa_idl.specs.promise.Values.{CoclassValue, InterfaceValue}
 use Rattle.oa_idl.specs.declared.items.Item.{Item}
 use Rattle.oa_idl.specs.declared.parts.Entry.{Entry}
-use Rattle.oa_typelib.specs.Checked.{IsChecked}
-use Rattle.oa_sema.specs.DeclarationValues.{DeclarationValue}
-use Rattle.oa_sema.specs.Declarations.{type_of_value}
-use Rattle.oa_sema.specs.Libraries.{as_interface, class_of, default_interface, has_interface, if_entered, interface_named}
-use Rattle.oa_sema.specs.Libraries.{interface_of, item_name, same_name, selected, selected_in}
-use Rattle.oa_typelib.specs.MemberValues.{MemberValue}
-use Rattle.oa_typelib.specs.Members.{answer, forms_with, has_form, if_formed, is_method, kind_asked, main_form, member_in, method_fault}
-use Rattle.oa_typelib.specs.Members.{property_answer, property_in, property_of, property_with}
+use Rattle.oa_typelib.specs.promise.Checked.{IsChecked}
+use Rattle.oa_sema.specs.promise.DeclarationValues.{DeclarationValue}
+use Rattle.oa_sema.specs.promise.Declarations.{type_of_value}
+use Rattle.oa_sema.specs.promise.Libraries.{as_interface, class_of, default_interface, has_interface, if_entered}
+use Rattle.oa_sema.specs.promise.Libraries.{interface_named, interface_of, item_name, same_name, selected, selected_in}
+use Rattle.oa_typelib.specs.promise.MemberValues.{MemberValue}
+use Rattle.oa_typelib.specs.promise.Members.{answer, forms_with, has_form, if_formed, is_method, kind_asked, main_form}
+use Rattle.oa_typelib.specs.promise.Members.{member_in, method_fault, property_answer, property_in, property_of}
+use Rattle.oa_typelib.specs.promise.Members.{property_with}
 use Rattle.oa_typelib.specs.declared.access.Access.{Access}
 use Rattle.oa_typelib.specs.declared.access.Kind.{Kind}
 use Rattle.oa_typelib.specs.declared.access.MemberFault.{MemberFault}
 use Rattle.oa_typelib.specs.declared.access.MemberFault.TheVariants.{MemberNotFound}
 use Rattle.oa_compat.proofs.Losses.{interface_found, interface_there, was_interface}
 use Rattle.oa_typelib.proofs.Same.{at_any, found_at, inside, mapped_in}
-use Rattle.oa_compat.specs.Fits.{entered}
+use Rattle.oa_compat.specs.promise.Fits.{entered}
 
 -- ---- the interface that is selected
 

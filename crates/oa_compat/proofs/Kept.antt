@@ -11,12 +11,12 @@ use Rattle.std.specs.Ordering.{match_ordering, nat_cmp}
 use Rattle.std.specs.Prelude.{if◌then◌else◌}
 use Rattle.std.specs.declared.cmp.Ordering.{Ordering}
 use Rattle.std.specs.declared.cmp.Ordering.TheVariants.{Less, Equal, Greater}
-use Rattle.oa_model.specs.Limits.{max_cell_locks, max_cells}
-use Rattle.oa_array.specs.Arrays.{ArrayValue, redimensioned, with_cell, with_first, with_locks}
-use Rattle.oa_array.specs.Boxes.{box_size}
-use Rattle.oa_array.specs.Within.{in_bounds}
+use Rattle.oa_model.specs.promise.Limits.{max_cell_locks, max_cells}
+use Rattle.oa_array.specs.promise.Arrays.{ArrayValue, redimensioned, with_cell, with_first, with_locks}
+use Rattle.oa_array.specs.promise.Boxes.{box_size}
+use Rattle.oa_array.specs.promise.Within.{in_bounds}
 use Rattle.oa_array.specs.declared.fault.ArrayFault.TheVariants as arrays
-use Rattle.oa_idl.specs.Trees.{TreeValue}
+use Rattle.oa_idl.specs.promise.Trees.{TreeValue}
 use Rattle.oa_model.specs.declared.bound.Bound.{Bound}
 use Rattle.oa_model.specs.declared.var_type.ValueType.{ValueType}
 use Rattle.oa_model.specs.declared.var_type.ValueType.TheVariants as kinds
@@ -25,25 +25,26 @@ use Rattle.oa_table.specs.declared.event.Event.TheVariants.{Create, Release, Put
 use Rattle.oa_table.specs.declared.fault.TableFault.{TableFault}
 use Rattle.oa_table.specs.declared.fault.TableFault.TheVariants.{Array, WrongNumber}
 use Rattle.oa_table.specs.declared.name.CellName.{CellName}
-use Rattle.oa_table.specs.Elements.{with_element_put, locked_value, redimensioned_value, released_value}
-use Rattle.oa_table.specs.Events.{applied, changed_if_live, on_object, released_if_live, with_object}
-use Rattle.oa_table.specs.Locks.{with_lock, without_lock}
-use Rattle.oa_table.specs.Objects.{any_locked, changed_if_put, locks_of_cell, with_change, with_put, with_value}
-use Rattle.oa_table.specs.Outcomes.{mapped}
-use Rattle.oa_table.specs.Places.{PlaceValue, place_cmp}
-use Rattle.oa_table.specs.Tables.{ObjectValue, TableValue, cell_at, object_at, unlocked_cell, unlocked_entry, unlocked_table}
-use Rattle.oa_sema.specs.Libraries.{class_of}
-use Rattle.oa_typelib.specs.MemberValues.{MemberValue}
-use Rattle.oa_typelib.specs.Members.{property_in}
-use Rattle.oa_idl.specs.Values.{InterfaceValue}
-use Rattle.oa_variant.specs.Keys.{scalar_cmp}
-use Rattle.oa_variant.specs.Scalars.{fits_type, same_type, zero_of}
-use Rattle.oa_variant.specs.Variants.{fits_declared, unlocked}
+use Rattle.oa_table.specs.promise.Elements.{with_element_put, locked_value, redimensioned_value, released_value}
+use Rattle.oa_table.specs.promise.Events.{applied, changed_if_live, on_object, released_if_live, with_object}
+use Rattle.oa_table.specs.promise.Locks.{with_lock, without_lock}
+use Rattle.oa_table.specs.promise.Objects.{any_locked, changed_if_put, locks_of_cell, with_change, with_put, with_value}
+use Rattle.oa_table.specs.promise.Outcomes.{mapped}
+use Rattle.oa_table.specs.promise.Places.{PlaceValue, place_cmp}
+use Rattle.oa_table.specs.promise.Tables.{ObjectValue, TableValue, cell_at, object_at, unlocked_cell, unlocked_entry}
+use Rattle.oa_table.specs.promise.Tables.{unlocked_table}
+use Rattle.oa_sema.specs.promise.Libraries.{class_of}
+use Rattle.oa_typelib.specs.promise.MemberValues.{MemberValue}
+use Rattle.oa_typelib.specs.promise.Members.{property_in}
+use Rattle.oa_idl.specs.promise.Values.{InterfaceValue}
+use Rattle.oa_variant.specs.promise.Keys.{scalar_cmp}
+use Rattle.oa_variant.specs.promise.Scalars.{fits_type, same_type, zero_of}
+use Rattle.oa_variant.specs.promise.Variants.{fits_declared, unlocked}
 use Rattle.oa_variant.specs.declared.scalar.Scalar.{Scalar}
 use Rattle.oa_variant.specs.declared.variant.Variant.{Variant}
 use Rattle.oa_variant.specs.declared.variant.Variant.TheVariants.{One, Array as AnArray}
 use Rattle.oa_compat.specs.Brings.{brings_fitting, put_fits}
-use Rattle.oa_compat.specs.Fits.{cell_fits, entered, fits, interface_fits, key_fits, object_fits, property_fits}
+use Rattle.oa_compat.specs.promise.Fits.{cell_fits, entered, fits, interface_fits, key_fits, object_fits, property_fits}
 use Rattle.oa_compat.proofs.Places.{exact_places}
 
 -- ---- what holds of all entries, where one is set, added or taken out

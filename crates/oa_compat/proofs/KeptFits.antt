@@ -2,22 +2,22 @@
 use Rattle.std.proofs.Common.{◌≡◌, ℕ, ◌&&◌, List, [], ◌∷◌, Bool, true, is_some, Option, Some, None, refl, sym, ap, ◌∙◌, true≢false}
 use Rattle.std.proofs.lemmas.Bool.{and_from, and_parts}
 use Rattle.std.specs.List.{list_all}
-use Rattle.oa_idl.specs.Trees.{TreeValue}
-use Rattle.oa_idl.specs.Values.{InterfaceValue}
+use Rattle.oa_idl.specs.promise.Trees.{TreeValue}
+use Rattle.oa_idl.specs.promise.Values.{InterfaceValue}
 use Rattle.oa_idl.specs.declared.parts.Parameter.{Parameter}
-use Rattle.oa_table.specs.Places.{PlaceValue}
-use Rattle.oa_table.specs.Tables.{ObjectValue, TableValue}
-use Rattle.oa_typelib.specs.Checked.{IsChecked}
-use Rattle.oa_compat.specs.Keeps.{KeepsLibrary}
-use Rattle.oa_sema.specs.Libraries.{class_of}
-use Rattle.oa_typelib.specs.MemberValues.{MemberValue}
-use Rattle.oa_typelib.specs.Members.{property_in}
+use Rattle.oa_table.specs.promise.Places.{PlaceValue}
+use Rattle.oa_table.specs.promise.Tables.{ObjectValue, TableValue}
+use Rattle.oa_typelib.specs.promise.Checked.{IsChecked}
+use Rattle.oa_compat.specs.promise.Keeps.{KeepsLibrary}
+use Rattle.oa_sema.specs.promise.Libraries.{class_of}
+use Rattle.oa_typelib.specs.promise.MemberValues.{MemberValue}
+use Rattle.oa_typelib.specs.promise.Members.{property_in}
 use Rattle.oa_compat.proofs.KeptMembers.{HasProperty, kept_class, kept_entered, types_of}
 use Rattle.oa_variant.specs.declared.scalar.Scalar.{Scalar}
 use Rattle.oa_variant.specs.declared.variant.Variant.{Variant}
 use Rattle.oa_variant.specs.declared.variant.Variant.TheVariants.{One}
-use Rattle.oa_variant.specs.Variants.{fits_declared}
-use Rattle.oa_compat.specs.Fits.{cell_fits, entered, fits, interface_fits, key_fits, object_fits, property_fits}
+use Rattle.oa_variant.specs.promise.Variants.{fits_declared}
+use Rattle.oa_compat.specs.promise.Fits.{cell_fits, entered, fits, interface_fits, key_fits, object_fits, property_fits}
 
 -- whether a key fits is seen from the types alone
 key_types : (ps qs : List Parameter) (key : List Scalar) → types_of qs ≡ types_of ps → key_fits ps key ≡ key_fits qs key

@@ -10,25 +10,27 @@ use Rattle.std.specs.Cmp.Lexicographic.{pointwise}
 use Rattle.std.specs.List.{list_any}
 use Rattle.std.specs.Option.{option_and_then, option_map, option_or}
 use Rattle.std.specs.Ordering.{int_eq}
-use Rattle.oa_model.specs.Folding.{folded_name}
+use Rattle.oa_model.specs.promise.Folding.{folded_name}
 use Rattle.oa_model.specs.declared.var_type.ValueType.{ValueType}
-use Rattle.oa_idl.specs.Trees.{TreeValue}
-use Rattle.oa_idl.specs.Values.{CoclassValue, InterfaceValue}
+use Rattle.oa_idl.specs.promise.Trees.{TreeValue}
+use Rattle.oa_idl.specs.promise.Values.{CoclassValue, InterfaceValue}
 use Rattle.oa_idl.specs.declared.items.Item.{Item}
 use Rattle.oa_idl.specs.declared.items.Item.TheVariants.{Interface}
 use Rattle.oa_idl.specs.declared.parts.Parameter.{Parameter}
-use Rattle.oa_sema.specs.Agreement.{agree, is_optional, same_default, same_parameter, same_result, same_value_type}
-use Rattle.oa_sema.specs.Breaches.{clashes, declared_breach, broken_by, first_broken, form_breaches, guid_breach, id_breach, in_interface}
-use Rattle.oa_sema.specs.Breaches.{interface_breach, key_breaches, name_breach, repeated_name, shares_id, text_breach, tree_breach}
-use Rattle.oa_typelib.specs.Checked.{IsChecked}
-use Rattle.oa_sema.specs.DeclarationValues.{DeclarationValue}
-use Rattle.oa_sema.specs.Declarations.{are_one_member, declarations, is_put, own_parameters, type_of_value}
-use Rattle.oa_typelib.specs.Descriptions.{interfaces_of}
-use Rattle.oa_compat.specs.Keeps.{DeclaresAll, IsKeptBy, KeepsLibrary}
-use Rattle.oa_sema.specs.Repeats.{Has}
-use Rattle.oa_sema.specs.Libraries.{as_interface, class_of, has_interface, if_entered, interface_of, same_name}
-use Rattle.oa_typelib.specs.MemberValues.{MemberValue}
-use Rattle.oa_typelib.specs.Members.{forms_with, is_method, main_form, property_in, property_of, property_with}
+use Rattle.oa_sema.specs.promise.Agreement.{agree, is_optional, same_default, same_parameter, same_result}
+use Rattle.oa_sema.specs.promise.Agreement.{same_value_type}
+use Rattle.oa_sema.specs.promise.Breaches.{clashes, declared_breach, broken_by, first_broken, form_breaches}
+use Rattle.oa_sema.specs.promise.Breaches.{guid_breach, id_breach, in_interface, interface_breach, key_breaches}
+use Rattle.oa_sema.specs.promise.Breaches.{name_breach, repeated_name, shares_id, text_breach, tree_breach}
+use Rattle.oa_typelib.specs.promise.Checked.{IsChecked}
+use Rattle.oa_sema.specs.promise.DeclarationValues.{DeclarationValue}
+use Rattle.oa_sema.specs.promise.Declarations.{are_one_member, declarations, is_put, own_parameters, type_of_value}
+use Rattle.oa_typelib.specs.promise.Descriptions.{interfaces_of}
+use Rattle.oa_compat.specs.promise.Keeps.{DeclaresAll, IsKeptBy, KeepsLibrary}
+use Rattle.oa_sema.specs.promise.Repeats.{Has}
+use Rattle.oa_sema.specs.promise.Libraries.{as_interface, class_of, has_interface, if_entered, interface_of, same_name}
+use Rattle.oa_typelib.specs.promise.MemberValues.{MemberValue}
+use Rattle.oa_typelib.specs.promise.Members.{forms_with, is_method, main_form, property_in, property_of, property_with}
 use Rattle.oa_sema.specs.declared.declaration.DeclarationKind.{DeclarationKind}
 use Rattle.oa_sema.specs.declared.declaration.DeclarationKind.TheVariants as kinds
 use Rattle.oa_sema.specs.declared.fault.CheckError.TheVariants.{DuplicateName, DuplicateId, DuplicateGuid, UnknownInterface}
@@ -37,7 +39,7 @@ use Rattle.oa_typelib.proofs.Naming.{any_two, filtered, in_filter, main_in, name
 use Rattle.oa_typelib.proofs.Naming.{some_main, unless, unmarked, unnot}
 use Rattle.oa_typelib.proofs.Same.{inside, none_at, in_mapped, results_are, same_itself, types_are}
 use Rattle.oa_typelib.proofs.Sound.{neither, unmapped}
-use Rattle.oa_compat.specs.Fits.{entered}
+use Rattle.oa_compat.specs.promise.Fits.{entered}
 
 -- ---- what is found still
 

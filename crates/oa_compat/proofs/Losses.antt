@@ -10,24 +10,28 @@ use Rattle.std.specs.Cmp.Lexicographic.{pointwise}
 use Rattle.std.specs.List.{list_any, filter, flat_map}
 use Rattle.std.specs.Option.{option_and_then, option_eq, option_map, option_map_or, option_or}
 use Rattle.std.specs.Ordering.{int_eq}
-use Rattle.oa_model.specs.Folding.{folded_name}
-use Rattle.oa_idl.specs.Trees.{TreeValue}
-use Rattle.oa_idl.specs.Values.{InterfaceValue, CoclassValue}
+use Rattle.oa_model.specs.promise.Folding.{folded_name}
+use Rattle.oa_idl.specs.promise.Trees.{TreeValue}
+use Rattle.oa_idl.specs.promise.Values.{InterfaceValue, CoclassValue}
 use Rattle.oa_idl.specs.declared.items.Item.{Item}
 use Rattle.oa_idl.specs.declared.items.Item.TheVariants.{Interface, Coclass}
-use Rattle.oa_sema.specs.Agreement.{same_parameter, same_result}
-use Rattle.oa_sema.specs.Breaches.{first_breach, form_breaches, guid_breach, id_breach, interface_breach, key_breaches, name_breach}
-use Rattle.oa_sema.specs.Breaches.{text_breach, tree_breach}
-use Rattle.oa_typelib.specs.Checked.{IsChecked}
-use Rattle.oa_sema.specs.DeclarationValues.{DeclarationValue}
-use Rattle.oa_sema.specs.Declarations.{declarations, is_put}
-use Rattle.oa_typelib.specs.Descriptions.{classes_of, first_names, interfaces_of, member_names, members_described, put_last}
-use Rattle.oa_sema.specs.Repeats.{Has, first_answer, first_repeat}
-use Rattle.oa_compat.specs.Keeps.{IsKeptBy, KeepsDeclaration, KeepsInterface, IsOf, HasGuid, KeepsClass, KeepsLibrary, default_guid}
-use Rattle.oa_compat.specs.Keeps.{same_declaration_kind, is_kept_by, lost_declaration, lost_member, lost_of_interface, lost_interface, interface_in}
-use Rattle.oa_compat.specs.Keeps.{keeps_entry, keeps_entries, keeps_default, keeps_class, lost_class, first_lost}
-use Rattle.oa_sema.specs.Libraries.{as_class, as_interface, class_of, item_guid, has_interface, if_entered, interface_of, item_with, same, same_name}
-use Rattle.oa_typelib.specs.Members.{forms_named}
+use Rattle.oa_sema.specs.promise.Agreement.{same_parameter, same_result}
+use Rattle.oa_sema.specs.promise.Breaches.{first_breach, form_breaches, guid_breach, id_breach, interface_breach}
+use Rattle.oa_sema.specs.promise.Breaches.{key_breaches, name_breach, text_breach, tree_breach}
+use Rattle.oa_typelib.specs.promise.Checked.{IsChecked}
+use Rattle.oa_sema.specs.promise.DeclarationValues.{DeclarationValue}
+use Rattle.oa_sema.specs.promise.Declarations.{declarations, is_put}
+use Rattle.oa_typelib.specs.promise.Descriptions.{classes_of, first_names, interfaces_of, member_names}
+use Rattle.oa_typelib.specs.promise.Descriptions.{members_described, put_last}
+use Rattle.oa_sema.specs.promise.Repeats.{Has, first_answer, first_repeat}
+use Rattle.oa_compat.specs.promise.Keeps.{IsKeptBy, KeepsDeclaration, KeepsInterface, IsOf, HasGuid, KeepsClass}
+use Rattle.oa_compat.specs.promise.Keeps.{KeepsLibrary, default_guid, same_declaration_kind, is_kept_by}
+use Rattle.oa_compat.specs.promise.Keeps.{lost_declaration, lost_member, lost_of_interface, lost_interface}
+use Rattle.oa_compat.specs.promise.Keeps.{interface_in, keeps_entry, keeps_entries, keeps_default, keeps_class}
+use Rattle.oa_compat.specs.promise.Keeps.{lost_class, first_lost}
+use Rattle.oa_sema.specs.promise.Libraries.{as_class, as_interface, class_of, item_guid, has_interface, if_entered}
+use Rattle.oa_sema.specs.promise.Libraries.{interface_of, item_with, same, same_name}
+use Rattle.oa_typelib.specs.promise.Members.{forms_named}
 use Rattle.oa_sema.specs.declared.fault.CheckError.TheVariants.{DuplicateName, DuplicateId, DuplicateGuid, UnknownInterface}
 use Rattle.oa_compat.specs.declared.lost.Incompatibility.TheVariants as losses
 use Rattle.oa_typelib.proofs.Finds.{guid_kept, kept}

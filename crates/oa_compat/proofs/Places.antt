@@ -6,8 +6,8 @@ use Rattle.std.specs.Cmp.Lexicographic.{slice_cmp}
 use Rattle.std.specs.Ordering.{nat_cmp, int_cmp, ordering_then, is_lt, is_gt}
 use Rattle.std.specs.declared.cmp.Ordering.{Ordering}
 use Rattle.std.specs.declared.cmp.Ordering.TheVariants.{Less, Equal, Greater}
-use Rattle.oa_table.specs.Places.{key_cmp, place_cmp}
-use Rattle.oa_variant.specs.Keys.{scalar_cmp}
+use Rattle.oa_table.specs.promise.Places.{key_cmp, place_cmp}
+use Rattle.oa_variant.specs.promise.Keys.{scalar_cmp}
 
 both_equal : (a b : Ordering) → ordering_then a b ≡ Equal → (a ≡ Equal) × (b ≡ Equal)
 both_equal Less b e = absurd (true≢false (ap is_lt e))

@@ -2,7 +2,7 @@
 use Rattle.std.proofs.Common.{◌≡◌, true, refl, sym, true≢false}
 use Rattle.oa_sema.specs.declared.declaration.DeclarationKind.{DeclarationKind}
 use Rattle.oa_sema.specs.declared.declaration.DeclarationKind.TheVariants as kinds
-use Rattle.oa_compat.specs.Keeps.{same_declaration_kind}
+use Rattle.oa_compat.specs.promise.Keeps.{same_declaration_kind}
 
 pub kind_itself : (k : DeclarationKind) → same_declaration_kind k k ≡ true
 kind_itself kinds.Property = refl

@@ -6,15 +6,17 @@ use Rattle.std.proofs.Math.ListN.{drop_of_length-le}
 use Rattle.std.specs.List.{list_any, list_all, filter, filter_map}
 use Rattle.std.specs.Option.{option_and_then, option_map, option_map_or, option_or}
 use Rattle.std.specs.Ordering.{int_eq}
-use Rattle.oa_idl.specs.Values.{InterfaceValue, CoclassValue}
+use Rattle.oa_idl.specs.promise.Values.{InterfaceValue, CoclassValue}
 use Rattle.oa_idl.specs.declared.items.Item.{Item}
-use Rattle.oa_sema.specs.DeclarationValues.{DeclarationValue}
-use Rattle.oa_sema.specs.Declarations.{declarations}
-use Rattle.oa_typelib.specs.Descriptions.{put_last}
-use Rattle.oa_compat.specs.Keeps.{default_guid, is_kept_by, lost_declaration, lost_form, lost_member}
-use Rattle.oa_sema.specs.Libraries.{as_class, as_interface, default_interface, folded_names}
-use Rattle.oa_typelib.specs.Members.{forms_with}
-use Rattle.oa_sema.specs.Repeats.{first_answer}
+use Rattle.oa_sema.specs.promise.DeclarationValues.{DeclarationValue}
+use Rattle.oa_sema.specs.promise.Declarations.{declarations}
+use Rattle.oa_typelib.specs.promise.Descriptions.{put_last}
+use Rattle.oa_compat.specs.promise.Keeps.{default_guid, is_kept_by, lost_declaration, lost_member}
+use Rattle.oa_compat.specs.Keeps.{lost_form}
+use Rattle.oa_sema.specs.promise.Libraries.{as_class, as_interface, default_interface}
+use Rattle.oa_sema.specs.Libraries.{folded_names}
+use Rattle.oa_typelib.specs.promise.Members.{forms_with}
+use Rattle.oa_sema.specs.promise.Repeats.{first_answer}
 use Rattle.oa_typelib.specs.Indexes.{default_in, grouped, is_put_or_not}
 use Rattle.oa_typelib.proofs.Finds.{default_of_item}
 use Rattle.oa_typelib.proofs.Kept.{filter_of_map}

@@ -1,11 +1,12 @@
 -- What reading the text of a library answers, from what parsing and checking answer.
 use Rattle.std.proofs.Common.{◌≡◌, ℕ, List, None, Result, Ok, Err, subst}
 use Rattle.std.specs.Str.{IsUtf8}
-use Rattle.oa_idl.specs.IsTree.{AnswersText, AnswersTree, IsTree}
-use Rattle.oa_idl.specs.Trees.{TreeValue}
+use Rattle.oa_idl.specs.IsTree.{AnswersText, AnswersTree}
+use Rattle.oa_idl.specs.promise.IsTree.{IsTree}
+use Rattle.oa_idl.specs.promise.Trees.{TreeValue}
 use Rattle.oa_idl.specs.declared.stop.ParseError.{ParseError}
 use Rattle.oa_idl.specs.declared.stop.ParseError.TheVariants as parses
-use Rattle.oa_sema.specs.Breaches.{first_breach}
+use Rattle.oa_sema.specs.promise.Breaches.{first_breach}
 use Rattle.oa_compat.specs.LibraryTexts.{IsMade, IsTextOf, parse_fault}
 use Rattle.oa_compat.specs.declared.library_text.TextError.{TextError}
 use Rattle.oa_compat.specs.declared.library_text.TextError.TheVariants.{NoLibrary, Memory}

@@ -1,13 +1,13 @@
 -- The events that preserve that a table fits its library.
 use Rattle.std.specs.Prelude.{Bool, true, is_some, Option, Some, None}
-use Rattle.oa_idl.specs.Trees.{TreeValue}
+use Rattle.oa_idl.specs.promise.Trees.{TreeValue}
 use Rattle.oa_table.specs.declared.event.Event.{Event}
 use Rattle.oa_table.specs.declared.event.Event.TheVariants.{Create, Release, Put, PutElement, Redim}
-use Rattle.oa_table.specs.Places.{PlaceValue}
-use Rattle.oa_table.specs.Tables.{ObjectValue, TableValue, object_at}
-use Rattle.oa_sema.specs.Libraries.{class_of}
+use Rattle.oa_table.specs.promise.Places.{PlaceValue}
+use Rattle.oa_table.specs.promise.Tables.{ObjectValue, TableValue, object_at}
+use Rattle.oa_sema.specs.promise.Libraries.{class_of}
 use Rattle.oa_variant.specs.declared.variant.Variant.{Variant}
-use Rattle.oa_compat.specs.Fits.{cell_fits}
+use Rattle.oa_compat.specs.promise.Fits.{cell_fits}
 
 -- if there is no such object, the event does not apply
 abbrev pub put_fits : TreeValue → PlaceValue → Variant → Option ObjectValue → Bool

@@ -1,4 +1,4 @@
 pub mod Keeps
 pub mod LibraryTexts
-pub mod Fits
 pub mod Brings
+pub mod promise

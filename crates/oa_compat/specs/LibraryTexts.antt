@@ -1,25 +1,15 @@
--- The result of reading the text of a library.
+-- Definitions for contracts and proofs, beside promise/LibraryTexts.
 use Rattle.std.specs.Prelude.{◌≡◌, ℕ, List, None, Result, Ok, Err}
-use Rattle.std.specs.Str.{IsUtf8}
-use Rattle.oa_idl.specs.IsTree.{MayBeText}
-use Rattle.oa_idl.specs.Trees.{TreeValue}
+use Rattle.oa_idl.specs.promise.Trees.{TreeValue}
 use Rattle.oa_idl.specs.declared.stop.ParseError.{ParseError}
 use Rattle.oa_idl.specs.declared.stop.ParseError.TheVariants as parses
-use Rattle.oa_sema.specs.Breaches.{first_breach}
-use Rattle.oa_sema.specs.IsLibrary.{IsLibrary}
-use Rattle.oa_sema.specs.Libraries.{marked}
+use Rattle.oa_sema.specs.promise.Breaches.{first_breach}
+use Rattle.oa_sema.specs.promise.Libraries.{marked}
 use Rattle.oa_sema.specs.declared.fault.CheckError.{CheckError}
 use Rattle.oa_sema.specs.declared.fault.CheckError.TheVariants as checks
 use Rattle.oa_compat.specs.declared.library_text.TextError.{TextError}
 use Rattle.oa_compat.specs.declared.library_text.TextError.TheVariants.{NoLibrary, Memory}
-
--- bytes are the text of the library
-abbrev pub StandsFor : List ℕ → TreeValue → Type 0
-StandsFor bytes library = IsUtf8 bytes × IsLibrary bytes library
-
--- bytes are a text that is not too long for a library: only such are read, which allocates
-abbrev pub MayBeLibrary : List ℕ → Type 0
-MayBeLibrary bytes = IsUtf8 bytes × MayBeText bytes
+use Rattle.oa_compat.specs.promise.LibraryTexts.{StandsFor, MayBeLibrary}
 
 -- out of memory implies only that there is a text to be read
 abbrev pub IsTextOf : List ℕ → Result TreeValue TextError → Type 0

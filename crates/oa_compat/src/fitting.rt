@@ -1,8 +1,8 @@
 //! Whether a table fits a library.
 ghost use Rattle.std.specs.Prelude.{◌≡◌};
-ghost use Rattle.oa_compat.specs.Fits.{cell_fits, fits, key_fits, object_fits};
+ghost use Rattle.oa_compat.specs.promise.Fits.{cell_fits, fits, key_fits, object_fits};
 ghost use Rattle.oa_variant.specs.declared.variant.Variant.TheVariants.{One};
-ghost use Rattle.oa_variant.specs.Variants.{fits_declared};
+ghost use Rattle.oa_variant.specs.promise.Variants.{fits_declared};
 
 use oa_array::Cell;
 use oa_idl::Parameter;

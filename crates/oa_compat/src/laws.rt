@@ -1,19 +1,20 @@
 //! Theorems about the definitions, each the contract of a function with an empty body.
 ghost use Rattle.std.specs.Prelude.{◌≡◌, ℕ, ℤ, true, List, Some, IfOk, IfSome};
-ghost use Rattle.oa_sema.specs.IsLibrary.{IsLibrary};
-ghost use Rattle.oa_sema.specs.Libraries.{selected_in};
-ghost use Rattle.oa_idl.specs.Trees.{TreeValue};
-ghost use Rattle.oa_idl.specs.Values.{InterfaceValue};
+ghost use Rattle.oa_sema.specs.promise.IsLibrary.{IsLibrary};
+ghost use Rattle.oa_sema.specs.promise.Libraries.{selected_in};
+ghost use Rattle.oa_idl.specs.promise.Trees.{TreeValue};
+ghost use Rattle.oa_idl.specs.promise.Values.{InterfaceValue};
 ghost use Rattle.oa_compat.specs.Brings.{brings_fitting};
-ghost use Rattle.oa_compat.specs.Fits.{entered, fits};
-ghost use Rattle.oa_compat.specs.Keeps.{KeepsLibrary};
-ghost use Rattle.oa_table.specs.Events.{applied};
-ghost use Rattle.oa_table.specs.Locks.{with_lock, without_lock};
-ghost use Rattle.oa_table.specs.Tables.{TableValue, first_table, unlocked_table};
+ghost use Rattle.oa_compat.specs.promise.Fits.{entered, fits};
+ghost use Rattle.oa_compat.specs.promise.Keeps.{KeepsLibrary};
+ghost use Rattle.oa_table.specs.promise.Events.{applied};
+ghost use Rattle.oa_table.specs.promise.Locks.{with_lock, without_lock};
+ghost use Rattle.oa_table.specs.promise.Tables.{TableValue, unlocked_table};
+ghost use Rattle.oa_table.specs.Tables.{first_table};
 ghost use Rattle.oa_table.specs.declared.event.Event.{Event as AnEvent};
 ghost use Rattle.oa_table.specs.declared.name.CellName.{CellName as AName};
-ghost use Rattle.oa_typelib.specs.Checked.{IsChecked};
-ghost use Rattle.oa_typelib.specs.Members.{member_in, property_in};
+ghost use Rattle.oa_typelib.specs.promise.Checked.{IsChecked};
+ghost use Rattle.oa_typelib.specs.promise.Members.{member_in, property_in};
 ghost use Rattle.oa_typelib.specs.declared.access.Access.{Access as AnAccess};
 
 use oa_variant::laws::equal_is_same;

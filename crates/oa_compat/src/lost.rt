@@ -3,13 +3,14 @@ ghost use Rattle.std.specs.Prelude.{◌≡◌, ◌↔◌, true, Some, None, slic
 ghost use Rattle.std.specs.List.{filter_map, list_any};
 ghost use Rattle.std.specs.Option.{option_and_then, option_map, option_map_or};
 ghost use Rattle.oa_idl.specs.declared.items.Item.TheVariants.{Coclass as AClass};
-ghost use Rattle.oa_sema.specs.Declarations.{declarations};
-ghost use Rattle.oa_typelib.specs.Descriptions.{classes_of, interfaces_of, put_last};
-ghost use Rattle.oa_compat.specs.Keeps.{KeepsLibrary, default_guid, dispid_lost, first_lost};
-ghost use Rattle.oa_compat.specs.Keeps.{guid_lost, is_kept_by, keeps_class, keeps_default};
-ghost use Rattle.oa_compat.specs.Keeps.{keeps_entries, keeps_entry, lost_class, lost_declaration, lost_form, lost_interface, lost_member};
-ghost use Rattle.oa_sema.specs.Libraries.{as_class, as_interface, class_of};
-ghost use Rattle.oa_sema.specs.Repeats.{first_answer};
+ghost use Rattle.oa_sema.specs.promise.Declarations.{declarations};
+ghost use Rattle.oa_typelib.specs.promise.Descriptions.{classes_of, interfaces_of, put_last};
+ghost use Rattle.oa_compat.specs.promise.Keeps.{KeepsLibrary, default_guid, dispid_lost, first_lost, guid_lost};
+ghost use Rattle.oa_compat.specs.promise.Keeps.{is_kept_by, keeps_class, keeps_default, keeps_entries, keeps_entry};
+ghost use Rattle.oa_compat.specs.promise.Keeps.{lost_class, lost_declaration, lost_interface, lost_member};
+ghost use Rattle.oa_compat.specs.Keeps.{lost_form};
+ghost use Rattle.oa_sema.specs.promise.Libraries.{as_class, as_interface, class_of};
+ghost use Rattle.oa_sema.specs.promise.Repeats.{first_answer};
 
 use oa_idl::Coclass;
 use oa_sema::{Declaration, class_at, is_same_name, same_parameters, same_result};
@@ -52,7 +53,7 @@ impl Incompatibility {
 }
 
 /// Returns whether a declaration preserves another one.
-#[tactic(auto, unfolding(crate::specs::Keeps::is_kept_by))]
+#[tactic(auto, unfolding(crate::specs::promise::Keeps::is_kept_by))]
 fn is_kept_by(was: &Declaration<'_>, now: &Declaration<'_>) -> bool
     ensures { result ≡ is_kept_by was.now now.now }
 {

@@ -1,12 +1,13 @@
 -- An INVOKE that brings no more than a put's new value, of a property without parameters.
 use Rattle.std.proofs.Common.{◌≡◌, inl, inr, ℕ, [], ◌∷◌, Option, Some, None, IfSome, is_ok, Result, Ok, Err, refl, sym, ap, ◌∙◌}
 use Rattle.std.specs.Result.{result_ok}
-use Rattle.oa_bind.specs.Bindings.{bound_call}
-use Rattle.oa_bind.specs.Given.{given_call, argument_index, new_value_id}
-use Rattle.oa_bind.specs.Names.{complete, well_named}
-use Rattle.oa_bind.specs.Refusals.{any_at, each_at}
-use Rattle.oa_coerce.specs.Answers.{coerced}
-use Rattle.oa_idl.specs.Values.{InterfaceValue}
+use Rattle.oa_bind.specs.promise.Bindings.{bound_call}
+use Rattle.oa_bind.specs.Given.{given_call}
+use Rattle.oa_bind.specs.promise.Given.{argument_index, new_value_id}
+use Rattle.oa_bind.specs.promise.Names.{complete, well_named}
+use Rattle.oa_bind.specs.promise.Refusals.{any_at, each_at}
+use Rattle.oa_coerce.specs.promise.Answers.{coerced}
+use Rattle.oa_idl.specs.promise.Values.{InterfaceValue}
 use Rattle.oa_model.specs.declared.var_type.ValueType.{ValueType}
 use Rattle.oa_record.specs.ValueCalls.{bringing}
 use Rattle.oa_record.specs.declared.request.CallHead.{CallHead}
@@ -16,10 +17,11 @@ use Rattle.oa_table.specs.declared.name.CellName.{CellName}
 use Rattle.oa_typelib.specs.declared.access.Access.TheVariants.{Flags}
 use Rattle.oa_typelib.specs.declared.access.Kind.TheVariants as forms
 use Rattle.oa_variant.specs.declared.variant.Variant.{Variant}
-use Rattle.oa_decision.specs.Cells.{IsKeyless, called_cell}
-use Rattle.oa_decision.specs.Interfaces.{interface_found}
-use Rattle.oa_decision.specs.Invoke.{cell_decided, invocation}
-use Rattle.oa_decision.specs.States.{State}
+use Rattle.oa_decision.specs.Cells.{IsKeyless}
+use Rattle.oa_decision.specs.promise.Cells.{called_cell}
+use Rattle.oa_decision.specs.promise.Interfaces.{interface_found}
+use Rattle.oa_decision.specs.promise.Invoke.{cell_decided, invocation}
+use Rattle.oa_decision.specs.promise.States.{State}
 use Rattle.oa_decision.specs.ValuePlans.{PlansGet, PlansPut, PlansValue}
 use Rattle.oa_decision.specs.declared.plan.ValuePlan.{ValuePlan}
 use Rattle.oa_decision.specs.declared.plan.ValuePlan.TheVariants.{Answered, Put}

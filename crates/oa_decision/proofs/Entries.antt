@@ -5,13 +5,14 @@ use Rattle.std.specs.List.{AllByRecursion, cons_option, filter_map}
 use Rattle.std.specs.Option.{option_map}
 use Rattle.std.proofs.lemmas.List.{length-map}
 use Rattle.std.proofs.lemmas.Option.{slice_get-map}
-use Rattle.oa_idl.specs.Trees.{TreeValue}
-use Rattle.oa_idl.specs.Values.{CoclassValue}
+use Rattle.oa_idl.specs.promise.Trees.{TreeValue}
+use Rattle.oa_idl.specs.promise.Values.{CoclassValue}
 use Rattle.oa_idl.specs.declared.items.Item.{Item}
 use Rattle.oa_idl.specs.declared.items.Item.TheVariants.{Interface, Coclass}
-use Rattle.oa_typelib.specs.Checked.{IsChecked, IsClass, HasClass}
-use Rattle.oa_typelib.specs.Descriptions.{class_description, classes_of, description_at, entry_description, interface_description}
-use Rattle.oa_typelib.specs.Descriptions.{interfaces_of}
+use Rattle.oa_typelib.specs.promise.Checked.{IsChecked}
+use Rattle.oa_typelib.specs.Checked.{IsClass, HasClass}
+use Rattle.oa_typelib.specs.promise.Descriptions.{class_description, classes_of, description_at, entry_description}
+use Rattle.oa_typelib.specs.promise.Descriptions.{interface_description, interfaces_of}
 use Rattle.oa_typelib.proofs.Classes.{tree_whole}
 use Rattle.oa_typelib.proofs.Found.{get_all}
 

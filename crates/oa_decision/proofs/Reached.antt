@@ -1,19 +1,19 @@
 -- What an array answers for an index list, as the answer to a request.
 use Rattle.std.proofs.Common.{arith, ◌≡◌, ℤ, false, List, [], ◌∷◌, Some, Ok, refl}
 use Rattle.std.proofs.lemmas.Bool.{false_from_ne_true}
-use Rattle.oa_array.specs.Arrays.{ArrayValue, array_element}
+use Rattle.oa_array.specs.promise.Arrays.{ArrayValue, array_element}
 use Rattle.oa_array.specs.Boxes.{InBounds, IsWithin}
-use Rattle.oa_array.specs.Faults.{array_code}
-use Rattle.oa_array.specs.Within.{in_bounds}
+use Rattle.oa_array.specs.promise.Faults.{array_code}
+use Rattle.oa_array.specs.promise.Within.{in_bounds}
 use Rattle.oa_array.specs.declared.fault.ArrayFault.TheVariants.{BadIndex}
 use Rattle.oa_array.proofs.Decided.{in_bounds_tells}
 use Rattle.oa_array.proofs.Places.{IsWithin-above}
 use Rattle.oa_variant.specs.declared.scalar.Scalar.{Scalar}
 use Rattle.oa_model.specs.declared.var_type.VarType.{VarType}
 use Rattle.oa_model.specs.declared.var_type.ValueType.TheVariants.{Array}
-use Rattle.oa_variant.specs.Variants.{no_indices, zero_value}
-use Rattle.oa_decision.specs.ArrayCells.{array_element_at, element_type_of, element_type_at}
-use Rattle.oa_decision.specs.Refusals.{refused}
+use Rattle.oa_variant.specs.promise.Variants.{no_indices, zero_value}
+use Rattle.oa_decision.specs.promise.ArrayCells.{array_element_at, element_type_of, element_type_at}
+use Rattle.oa_decision.specs.promise.Refusals.{refused}
 
 module _ (a : ArrayValue Scalar) (index : List ℤ) where
   outside : (InBounds a.bounds index → ⊥) → in_bounds a.bounds index ≡ false

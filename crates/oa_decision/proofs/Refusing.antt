@@ -1,11 +1,12 @@
 -- A call that binding refuses is refused, or memory was wanted where binding takes some.
 use Rattle.std.proofs.Common.{◌≡◌, ◌⊎◌, inl, inr, ℕ, ◌==◌, ◌&&◌, Bool, true, false, true≢false, if◌then◌else◌, Option, Some, None, is_none, Result, Err, refl, sym, ap, subst, ◌∙◌}
 use Rattle.std.proofs.lemmas.Bool.{and_parts, eqb-true}
-use Rattle.oa_bind.specs.Calls.{BoundCallValue}
+use Rattle.oa_bind.specs.promise.Calls.{BoundCallValue}
 use Rattle.oa_bind.specs.Refusals.{lacks_memory}
 use Rattle.oa_bind.specs.declared.fault.BindFault.{BindFault}
-use Rattle.oa_model.specs.Codes.{e_outofmemory}
-use Rattle.oa_decision.specs.Cells.{FindsDue, as_refusal, call_found, undecided}
+use Rattle.oa_model.specs.promise.Codes.{e_outofmemory}
+use Rattle.oa_decision.specs.Cells.{FindsDue, undecided}
+use Rattle.oa_decision.specs.promise.Cells.{as_refusal, call_found}
 use Rattle.oa_decision.specs.declared.decision.DecideError.{DecideError}
 use Rattle.oa_decision.specs.declared.decision.DecideError.TheVariants.{OutOfMemory, Refused}
 

@@ -1,8 +1,8 @@
 //! Whether an event applies to a table.
 ghost use Rattle.std.specs.Prelude.{◌≡◌, ℕ, List};
 ghost use Rattle.oa_decision.specs.Limits.{GivesReason};
-ghost use Rattle.oa_table.specs.Elements.{with_element_put, redimensioned_value};
-ghost use Rattle.oa_table.specs.Events.{applied};
+ghost use Rattle.oa_table.specs.promise.Elements.{with_element_put, redimensioned_value};
+ghost use Rattle.oa_table.specs.promise.Events.{applied};
 ghost use Rattle.oa_table.specs.declared.event.Event.TheVariants as events;
 ghost use Rattle.oa_variant.specs.declared.variant.Variant.TheVariants as variants;
 ghost use Rattle.oa_variant.specs.declared.variant.Variant.{Variant as AVariant};

@@ -1,8 +1,8 @@
 //! Deciding about a request: it only reads the library and the table of objects.
 ghost use Rattle.std.specs.Prelude.{◌≡◌, IfOk, IsOk};
 ghost use Rattle.oa_decision.specs.Decisions.{ChangesNoLocks, Decides};
-ghost use Rattle.oa_decision.specs.Decided.{DecidingTakesMemory, decided};
-ghost use Rattle.oa_decision.specs.Queries.{answered, query_fields};
+ghost use Rattle.oa_decision.specs.promise.Decided.{DecidingTakesMemory, decided};
+ghost use Rattle.oa_decision.specs.promise.Queries.{answered, query_fields};
 ghost use Rattle.oa_record.specs.declared.request.Request.TheVariants as requests;
 
 use crate::decision::{DecideError, Decision};
@@ -42,7 +42,7 @@ pub struct Decider<'a> {
 }
 
 impl<'a> Model for Decider<'a> {
-    ghost use Rattle.oa_decision.specs.States.{State};
+    ghost use Rattle.oa_decision.specs.promise.States.{State};
 
     ghost Value = { State };
 

@@ -1,11 +1,14 @@
 //! A description as the fields of a reply.
 ghost use Rattle.std.specs.Prelude.{◌≡◌, ◌<◌, ◌≤◌, ◌++◌, length, IfOk, OnErr, OnOk, option_copied};
 ghost use Rattle.std.specs.List.{flat_map};
-ghost use Rattle.oa_record.specs.Replies.{max_fields_bytes, string_field};
+ghost use Rattle.oa_record.specs.Replies.{max_fields_bytes};
+ghost use Rattle.oa_record.specs.promise.Replies.{string_field};
 ghost use Rattle.oa_typelib.specs.Contents.{content_of};
-ghost use Rattle.oa_decision.specs.DescriptionFields.{content_head, default_field, description_field, description_head, entry_field};
-ghost use Rattle.oa_decision.specs.DescriptionFields.{entry_fields, flag, invoke_kind, member_field, member_flags, member_head};
-ghost use Rattle.oa_decision.specs.DescriptionFields.{parameter_field, parameter_flags, parameter_head_bytes, type_number};
+ghost use Rattle.oa_decision.specs.promise.DescriptionFields.{content_head, default_field, description_field};
+ghost use Rattle.oa_decision.specs.promise.DescriptionFields.{description_head, entry_field, entry_fields, flag};
+ghost use Rattle.oa_decision.specs.promise.DescriptionFields.{invoke_kind, member_field, member_flags, member_head};
+ghost use Rattle.oa_decision.specs.promise.DescriptionFields.{parameter_field, parameter_flags, parameter_head_bytes};
+ghost use Rattle.oa_decision.specs.promise.DescriptionFields.{type_number};
 
 use oa_idl::Name;
 use oa_model::{
@@ -71,7 +74,7 @@ fn parameter_flags(parameter: &DescribedParameter<'_>) -> u16
 }
 
 /// Returns the first 8 bytes of a parameter: type, flags, a reserved number.
-#[tactic(auto, unfolding(oa_record::specs::Replies::word, oa_record::specs::Replies::half_word, crate::specs::DescriptionFields::parameter_head_bytes))]
+#[tactic(auto, unfolding(oa_record::specs::promise::Replies::word, oa_record::specs::promise::Replies::half_word, crate::specs::promise::DescriptionFields::parameter_head_bytes))]
 fn parameter_head(parameter: &DescribedParameter<'_>) -> [u8; 8]
     ensures { result ≡ parameter_head_bytes parameter.now }
 {
@@ -90,7 +93,7 @@ fn put_name(out: &mut Vec<u8>, name: &Name) -> Result<(), AllocError>
 }
 
 /// Appends the field of a default, if there is one. Err: an allocation fails.
-#[tactic(auto, unfolding(crate::specs::DescriptionFields::default_field))]
+#[tactic(auto, unfolding(crate::specs::promise::DescriptionFields::default_field))]
 fn put_default(out: &mut Vec<u8>, default: Option<&Scalar>) -> Result<(), AllocError>
     ensures { OnOk result (out.new.items ≡ out.old.items ++ default_field (option_copied default.entry)) }
 {
@@ -105,7 +108,7 @@ fn put_default(out: &mut Vec<u8>, default: Option<&Scalar>) -> Result<(), AllocE
 }
 
 /// Appends a parameter. Err: an allocation fails.
-#[tactic(auto, unfolding(crate::specs::DescriptionFields::parameter_field))]
+#[tactic(auto, unfolding(crate::specs::promise::DescriptionFields::parameter_field))]
 fn put_parameter(out: &mut Vec<u8>, parameter: &DescribedParameter<'_>) -> Result<(), AllocError>
     ensures { OnOk result (out.new.items ≡ out.old.items ++ parameter_field parameter.now) }
 {
@@ -145,7 +148,7 @@ fn wide_count(n: usize) -> Result<u32, AllocError>
 
 /// Returns the first 16 bytes of a member: DISPID, kind, flags, type, the number of parameters, a
 /// reserved number. Err: it has too many parameters, as in no library.
-#[tactic(auto, unfolding(oa_record::specs::Replies::word, oa_record::specs::Replies::half_word, crate::specs::DescriptionFields::member_head))]
+#[tactic(auto, unfolding(oa_record::specs::promise::Replies::word, oa_record::specs::promise::Replies::half_word, crate::specs::promise::DescriptionFields::member_head))]
 fn member_head(member: &DescribedMember<'_>) -> Result<[u8; 16], AllocError>
     ensures { IfOk result (λ head. head ≡ member_head member.now) }
 {
@@ -159,7 +162,7 @@ fn member_head(member: &DescribedMember<'_>) -> Result<[u8; 16], AllocError>
 }
 
 /// Appends a member. Err: an allocation fails.
-#[tactic(auto, unfolding(crate::specs::DescriptionFields::member_field))]
+#[tactic(auto, unfolding(crate::specs::promise::DescriptionFields::member_field))]
 fn put_member(out: &mut Vec<u8>, member: &DescribedMember<'_>) -> Result<(), AllocError>
     ensures { OnOk result (out.new.items ≡ out.old.items ++ member_field member.now) }
 {
@@ -180,7 +183,7 @@ fn put_members(out: &mut Vec<u8>, members: &[DescribedMember<'_>]) -> Result<(),
 }
 
 /// Returns the 8 bytes of an entry: 1 for the default interface, and the index of the interface.
-#[tactic(auto, unfolding(oa_record::specs::Replies::word, crate::specs::DescriptionFields::entry_field))]
+#[tactic(auto, unfolding(oa_record::specs::promise::Replies::word, crate::specs::promise::DescriptionFields::entry_field))]
 fn entry_field(entry: &DescribedEntry) -> [u8; 8]
     ensures { result ≡ entry_field entry.now }
 {
@@ -201,7 +204,7 @@ fn put_entries(out: &mut Vec<u8>, entries: &[DescribedEntry]) -> Result<(), Allo
 
 /// Returns the first 8 bytes of a description: the kind, and the number of entries. Err: there are
 /// too many, as in no library.
-#[tactic(auto, unfolding(oa_record::specs::Replies::word, crate::specs::DescriptionFields::content_head))]
+#[tactic(auto, unfolding(oa_record::specs::promise::Replies::word, crate::specs::promise::DescriptionFields::content_head))]
 fn content_head(content: &Content<'_>) -> Result<[u8; 8], AllocError>
     ensures { IfOk result (λ head. head ≡ content_head (content_of content.now)) }
 {
@@ -225,7 +228,7 @@ fn put_content(out: &mut Vec<u8>, content: &Content<'_>) -> Result<(), AllocErro
 }
 
 /// Appends the kind, the number of entries and the GUID. Err: an allocation fails.
-#[tactic(auto, unfolding(crate::specs::DescriptionFields::description_head))]
+#[tactic(auto, unfolding(crate::specs::promise::DescriptionFields::description_head))]
 fn put_head(out: &mut Vec<u8>, description: &Description<'_>) -> Result<(), AllocError>
     ensures { OnOk result (out.new.items ≡ out.old.items ++ description_head description.now) }
 {
@@ -236,7 +239,7 @@ fn put_head(out: &mut Vec<u8>, description: &Description<'_>) -> Result<(), Allo
 }
 
 /// Appends a description. Err: an allocation fails.
-#[tactic(auto, unfolding(crate::specs::DescriptionFields::description_field))]
+#[tactic(auto, unfolding(crate::specs::promise::DescriptionFields::description_field))]
 fn put_description(out: &mut Vec<u8>, description: &Description<'_>) -> Result<(), AllocError>
     ensures { OnOk result (out.new.items ≡ out.old.items ++ description_field description.now) }
 {

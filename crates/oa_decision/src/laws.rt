@@ -1,16 +1,11 @@
 //! A theorem about descriptions: the contract of a function with an empty body.
 ghost use Rattle.std.specs.Prelude.{◌≡◌, ◌+◌, ℕ, Some, length, map, slice_get};
 ghost use Rattle.std.specs.List.{filter_map};
-ghost use Rattle.oa_idl.specs.Trees.{TreeValue};
-ghost use Rattle.oa_idl.specs.Values.{CoclassValue};
-ghost use Rattle.oa_typelib.specs.Checked.{IsChecked};
-ghost use Rattle.oa_typelib.specs.Descriptions.{
-  class_description,
-  classes_of,
-  description_at,
-  entry_description,
-  interfaces_of,
-};
+ghost use Rattle.oa_idl.specs.promise.Trees.{TreeValue};
+ghost use Rattle.oa_idl.specs.promise.Values.{CoclassValue};
+ghost use Rattle.oa_typelib.specs.promise.Checked.{IsChecked};
+ghost use Rattle.oa_typelib.specs.promise.Descriptions.{class_description, classes_of, description_at};
+ghost use Rattle.oa_typelib.specs.promise.Descriptions.{entry_description, interfaces_of};
 
 /// The descriptions of a library's interfaces are followed by one of each coclass, and none leaves
 /// an entry out. An entry names an interface of the library, with an index of 32 bits. It is in the

@@ -1,12 +1,14 @@
 //! The limits of changes.
 ghost use Rattle.std.specs.Prelude.{◌≡◌, ◌-◌, ◌≤◌, true, Ok, nat_lt};
-ghost use Rattle.oa_image.specs.Sizes.{event_size};
-ghost use Rattle.oa_image.specs.Tables.{reserved_bytes};
-ghost use Rattle.oa_model.specs.Limits.{max_event_bytes};
-ghost use Rattle.oa_table.specs.Events.{applied};
-ghost use Rattle.oa_table.specs.Sizes.{size_after, table_size};
-ghost use Rattle.oa_table.specs.Tables.{TableValue};
-ghost use Rattle.oa_decision.specs.Limits.{GivesReason, StaysWithin, allowed, most_after};
+ghost use Rattle.oa_image.specs.promise.Sizes.{event_size};
+ghost use Rattle.oa_image.specs.promise.Tables.{reserved_bytes};
+ghost use Rattle.oa_model.specs.promise.Limits.{max_event_bytes};
+ghost use Rattle.oa_table.specs.promise.Events.{applied};
+ghost use Rattle.oa_table.specs.Sizes.{size_after};
+ghost use Rattle.oa_table.specs.promise.Sizes.{table_size};
+ghost use Rattle.oa_table.specs.promise.Tables.{TableValue};
+ghost use Rattle.oa_decision.specs.Limits.{GivesReason, StaysWithin, most_after};
+ghost use Rattle.oa_decision.specs.promise.Limits.{allowed};
 
 use crate::applies::refusal_of;
 use oa_image::{RESERVED_BYTES, SizedEvent};

@@ -4,8 +4,9 @@ use Rattle.std.proofs.Common.{slice_get, refl, sym, ◌∙◌, ap, subst, arith}
 use Rattle.std.proofs.lemmas.List.{drop-drop, take-append-drop}
 use Rattle.oa_disk.specs.declared.call.DeviceCall.{DeviceCall}
 use Rattle.oa_disk.specs.declared.call.DeviceCall.TheVariants.{Read, Write, Sync}
-use Rattle.oa_disk.specs.Replay.{DiskState, IsImage, IsImageOfSome, IsOutside, AllInside, during_call, after_call, last_state, states}
-use Rattle.oa_disk.specs.Replay.{count_of, count_all, overwritten}
+use Rattle.oa_disk.specs.promise.Disk.{DiskState, IsImage, IsOutside, after_call, last_state, count_of, count_all}
+use Rattle.oa_disk.specs.promise.Disk.{overwritten}
+use Rattle.oa_disk.specs.Replay.{IsImageOfSome, AllInside, during_call, states}
 use Rattle.oa_disk.specs.Overwritten.{length-overwritten, overwritten_below, overwritten_above}
 
 -- the call is inside

@@ -4,8 +4,10 @@ use Rattle.oa_disk.specs.declared.call.DeviceCall.{DeviceCall}
 use Rattle.oa_disk.specs.declared.disk.DeviceFault.{DeviceFault}
 use Rattle.oa_disk.specs.declared.layers.SparseImage.{SparseImage}
 use Rattle.oa_disk.specs.declared.ledger.CallLog.{CallLog}
-use Rattle.oa_disk.specs.History.{DiskHistory, with_call}
-use Rattle.oa_disk.specs.CallLog.{laid, history, Enters}
+use Rattle.oa_disk.specs.promise.Disk.{DiskHistory}
+use Rattle.oa_disk.specs.History.{with_call}
+use Rattle.oa_disk.specs.promise.CallLog.{laid, history}
+use Rattle.oa_disk.specs.CallLog.{Enters}
 
 pub both : {E A B C : Type 0} (r : Result (Unit {0}) E) → (A → B → C) → OnOk r A → OnOk r B → OnOk r C
 both (Ok x) f a b = f a b

@@ -2,16 +2,17 @@
 use Rattle.std.proofs.Common.{◌≡◌, ℕ, zero, suc, ◌+◌, ◌-◌, ◌<◌, ◌≤◌, List, [], ◌∷◌, ◌++◌, length, take, drop, length-take, replicate}
 use Rattle.std.proofs.Common.{get_or, refl, sym, ◌∙◌, ap, subst, arith}
 use Rattle.std.proofs.lemmas.List.{length-replicate, ext_get_or}
-use Rattle.oa_disk.specs.Disk.{HasBytesAt, Only}
+use Rattle.oa_disk.specs.Disk.{HasBytesAt}
+use Rattle.oa_disk.specs.promise.Disk.{Only, DiskHistory, contents_of, image_of, layered, IsImage, last_state, synced}
+use Rattle.oa_disk.specs.promise.Disk.{contents_after, count_all, overwritten, zeros}
 use Rattle.oa_disk.specs.declared.call.DeviceCall.{DeviceCall}
 use Rattle.oa_disk.specs.declared.call.DeviceCall.TheVariants.{Read, Write}
 use Rattle.oa_disk.specs.declared.layers.SparseImage.{SparseImage}
 use Rattle.oa_disk.specs.declared.ledger.CallLog.{CallLog}
-use Rattle.oa_disk.specs.History.{DiskHistory, IsHistory, with_call, contents_of, image_of}
-use Rattle.oa_disk.specs.Layered.{layered}
-use Rattle.oa_disk.specs.CallLog.{laid, history}
+use Rattle.oa_disk.specs.History.{IsHistory, with_call}
+use Rattle.oa_disk.specs.promise.CallLog.{laid, history}
 use Rattle.oa_disk.specs.Overwritten.{length-overwritten}
-use Rattle.oa_disk.specs.Replay.{AllInside, IsImage, last_state, synced, contents_after, count_all, overwritten, zeros}
+use Rattle.oa_disk.specs.Replay.{AllInside}
 use Rattle.oa_disk.specs.Replaying.{contents_size, contents_bytes}
 use Rattle.oa_disk.proofs.Steps.{get_at, replay_write, replay_other}
 

@@ -1,11 +1,10 @@
 -- A file that holds at first what another held, and zeros behind it.
 use Rattle.std.proofs.Common.{◌≡◌, ℕ, ◌+◌, ◌-◌, ◌++◌, length, refl, sym, ◌∙◌, ap, subst, arith, length-append}
-use Rattle.oa_disk.specs.Disk.{Only}
-use Rattle.oa_disk.specs.History.{IsHistory, contents_of, image_of}
+use Rattle.oa_disk.specs.promise.Disk.{Only, contents_of, image_of, zeros}
+use Rattle.oa_disk.specs.History.{IsHistory}
 use Rattle.oa_disk.specs.declared.record.Record.{Record}
 use Rattle.oa_disk.specs.Overwritten.{append_bytes}
 use Rattle.oa_disk.specs.Record.{lengthened, recorded_history}
-use Rattle.oa_disk.specs.Replay.{zeros}
 use Rattle.oa_disk.specs.Replaying.{contents_size, contents_bytes}
 use Rattle.oa_disk.proofs.Laid.{none_whole}
 use Rattle.oa_disk.proofs.Noted.{first_only}

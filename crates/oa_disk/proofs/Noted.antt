@@ -8,12 +8,13 @@ use Rattle.std.proofs.lemmas.List.{get_or-take, get_or-drop, length-take-le, ext
 use Rattle.std.proofs.lemmas.List.FromFn.{length-map-range_with_len}
 use Rattle.std.proofs.lemmas.Nat.{mod_below}
 use Rattle.std.specs.List.{range_with_len}
-use Rattle.oa_disk.specs.Disk.{HasBytesAt, AllBytes, Only}
-use Rattle.oa_disk.specs.History.{IsHistory, contents_of, image_of}
+use Rattle.oa_disk.specs.Disk.{HasBytesAt}
+use Rattle.oa_disk.specs.promise.Disk.{AllBytes, Only, contents_of, image_of, IsImage, synced}
+use Rattle.oa_disk.specs.History.{IsHistory}
 use Rattle.oa_disk.specs.declared.call.DeviceCall.TheVariants.{Read}
 use Rattle.oa_disk.specs.declared.record.Record.{Record}
 use Rattle.oa_disk.specs.Record.{noted, beginning, file_bytes, recorded_history}
-use Rattle.oa_disk.specs.Replay.{IsImage, AllInside, synced, agrees}
+use Rattle.oa_disk.specs.Replay.{AllInside, agrees}
 
 -- the parts of what a call has noted
 module _ {E : Type 0} where

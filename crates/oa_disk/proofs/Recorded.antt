@@ -3,12 +3,14 @@ use Rattle.std.proofs.Common.{◌≡◌, ◌⊎◌, inl, inr, ⊎_elim, ℕ, ◌
 use Rattle.std.proofs.Common.{sym, ◌∙◌, ap, subst, arith, length-append, length-drop}
 use Rattle.std.proofs.lemmas.List.{take_all, take-append-le, drop-append-le, length-take-le, get_or-take, get_or-drop, ext_get_or}
 use Rattle.std.proofs.lemmas.Bool.{cases_lt}
-use Rattle.oa_disk.specs.Disk.{HasBytesAt, Torn, Follows, Reaches, AllBytes, Stays, WritesUnsynced, Syncs, Elapses}
+use Rattle.oa_disk.specs.Disk.{HasBytesAt, Reaches, Stays}
+use Rattle.oa_disk.specs.promise.Disk.{Torn, Follows, AllBytes, WritesUnsynced, Syncs, Elapses, DiskState, IsImage}
+use Rattle.oa_disk.specs.promise.Disk.{IsOutside, last_state, synced, after_call, count_of, count_all, overwritten}
+use Rattle.oa_disk.specs.promise.Disk.{DiskHistory, disk_state, contents_of, image_of, moment_of}
 use Rattle.oa_disk.specs.declared.call.DeviceCall.{DeviceCall}
 use Rattle.oa_disk.specs.declared.call.DeviceCall.TheVariants.{Read, Write, Sync}
-use Rattle.oa_disk.specs.Replay.{DiskState, IsImage, IsImageOfSome, IsOutside, states, last_state, synced, during_call, after_call, count_of}
-use Rattle.oa_disk.specs.Replay.{count_all, overwritten}
-use Rattle.oa_disk.specs.History.{DiskHistory, IsHistory, FitsDisk, with_call, disk_state, contents_of, image_of, moment_of, image_since_of}
+use Rattle.oa_disk.specs.Replay.{IsImageOfSome, states, during_call}
+use Rattle.oa_disk.specs.History.{IsHistory, FitsDisk, with_call, image_since_of}
 use Rattle.oa_disk.specs.Overwritten.{take_bytes, drop_bytes, append_bytes, overwritten_bytes, length-overwritten, overwritten_below}
 use Rattle.oa_disk.specs.Overwritten.{overwritten_in, overwritten_above, overwritten_holds, overwritten_torn, torn_from}
 use Rattle.oa_disk.proofs.Ranges.{Torn_refl}

@@ -5,7 +5,7 @@ use Rattle.std.proofs.lemmas.Bool.{cases_lt}
 use Rattle.std.proofs.lemmas.List.{length-take-le, get_or-take, get_or-drop}
 use Rattle.oa_disk.specs.Disk.{HasBytesAt}
 use Rattle.oa_disk.specs.Overwritten.{length-overwritten, overwritten_below, overwritten_in, overwritten_above}
-use Rattle.oa_disk.specs.Replay.{overwritten}
+use Rattle.oa_disk.specs.promise.Disk.{overwritten}
 
 module _ (disk window bytes : List ℕ) (at to : ℕ) (inside : to + length bytes ≤ length disk) (holds : HasBytesAt disk at window) (low high : ℕ)
     (is_low : low ≡ max to at) (is_high : high ≡ min (to + length bytes) (at + length window)) where

@@ -6,8 +6,8 @@ use Rattle.oa_disk.specs.declared.call.DeviceCall.{DeviceCall}
 use Rattle.oa_disk.specs.declared.call.DeviceCall.TheVariants.{Read, Write, Sync}
 use Rattle.oa_disk.specs.declared.crash.Tear.{Tear}
 use Rattle.oa_disk.specs.declared.crash.Tear.TheVariants.{Lost, Kept, Filled, Cut}
-use Rattle.oa_disk.specs.Replay.{DiskState, after_call, last_state, synced, count_of, count_all, overwritten}
-use Rattle.oa_disk.specs.Tear.{torn, tear_behind, torn_call, torn_all}
+use Rattle.oa_disk.specs.promise.Disk.{DiskState, after_call, last_state, synced, count_of, count_all, overwritten}
+use Rattle.oa_disk.specs.promise.Disk.{torn, tear_behind, torn_call, torn_all}
 use Rattle.oa_disk.proofs.Calls.{same_contents}
 
 pub get_at : (calls : List DeviceCall) (i : ℕ) (call : DeviceCall) → i < length calls → get_or calls i Read ≡ call → slice_get calls i ≡ Some call

@@ -3,16 +3,15 @@ use Rattle.std.proofs.Common.{inl, inr, ◌≡◌, ℕ, suc, ◌+◌, ◌*◌, �
 use Rattle.std.proofs.Common.{replicate, Some, slice_get, refl, sym, ◌∙◌, ap, subst, arith, length-drop, length-take}
 use Rattle.std.proofs.lemmas.Bool.{cases_eq}
 use Rattle.std.proofs.lemmas.List.{length-replicate, length-take-le, take-append-drop, drop-take, take-take, take_more, get_or-drop}
-use Rattle.oa_disk.specs.Disk.{AllBytes}
+use Rattle.oa_disk.specs.promise.Disk.{AllBytes, DiskState, IsImage, after_call, last_state, synced, contents_after}
+use Rattle.oa_disk.specs.promise.Disk.{overwritten, count_all, torn, tear_behind, torn_all, IsTorn}
 use Rattle.oa_disk.specs.declared.call.DeviceCall.{DeviceCall}
 use Rattle.oa_disk.specs.declared.call.DeviceCall.TheVariants.{Read, Write, Sync}
 use Rattle.oa_disk.specs.declared.crash.Tear.{Tear}
 use Rattle.oa_disk.specs.declared.crash.Tear.TheVariants.{Lost, Kept, Filled, Cut}
 use Rattle.oa_disk.specs.Overwritten.{length-overwritten, overwritten_below, overwritten_above}
-use Rattle.oa_disk.specs.Replay.{DiskState, IsImage, AllInside, during_call, after_call, last_state, states, synced, contents_after, overwritten}
-use Rattle.oa_disk.specs.Replay.{count_all}
+use Rattle.oa_disk.specs.Replay.{AllInside, during_call, states}
 use Rattle.oa_disk.specs.Replaying.{state_size}
-use Rattle.oa_disk.specs.Tear.{torn, tear_behind, torn_all, IsTorn}
 use Rattle.oa_disk.proofs.Calls.{AgreesOutsidePending, Keeps, last_state-append, torn_within, torn_after, even_state, odd_state}
 use Rattle.oa_disk.proofs.Calls.{NoSync, no_sync_drop, inside_drop}
 use Rattle.oa_disk.proofs.Calls.{inside_take, count_parts}

@@ -1,20 +1,9 @@
--- The parts of a disk in memory.
+-- Definitions for contracts and proofs, beside promise/CallLog.
 use Rattle.std.specs.Prelude.{◌≡◌, ℕ, ◌+◌, ◌<◌, ◌≤◌, ◌↔◌, List, [], ◌∷◌, ◌++◌, length, Result, IsOk, OnOk, OnErr, IfErr}
 use Rattle.oa_disk.specs.declared.call.DeviceCall.{DeviceCall}
 use Rattle.oa_disk.specs.declared.disk.DeviceFault.{DeviceFault}
-use Rattle.oa_disk.specs.declared.layers.SparseImage.{SparseImage}
 use Rattle.oa_disk.specs.declared.ledger.CallLog.{CallLog}
-use Rattle.oa_disk.specs.Disk.{CountsFailures}
-use Rattle.oa_disk.specs.History.{DiskHistory, contents_of}
-use Rattle.oa_disk.specs.Layered.{layered}
-
--- the zeros after all writes
-abbrev pub laid : SparseImage → List ℕ
-laid layers = contents_of (layered layers.size layers.calls.items layers.written.items)
-
--- the first contents, and the calls that were logged since
-abbrev pub history : SparseImage → CallLog → DiskHistory
-history first ledger = record { first = laid first; calls = ledger.calls.items; written = ledger.written.items }
+use Rattle.oa_disk.specs.promise.Disk.{CountsFailures}
 
 -- The call is executed exactly if the log has space for it and for the bytes that it writes. Then it is the last one
 -- in the log; otherwise only the count of failures changes.

@@ -1,11 +1,10 @@
 -- The members of the trait for a FileDisk.
 use Rattle.std.specs.Prelude.{◌≡◌, ◌-◌, ◌++◌, ℕ, IsTrue}
-use Rattle.oa_disk.specs.Disk.{NothingPending}
+use Rattle.oa_disk.specs.promise.Disk.{NothingPending, zeros}
 use Rattle.oa_disk.specs.declared.disk.Disk.{Ghosts}
 use Rattle.oa_disk.specs.declared.file.FileDisk.{FileDisk}
 use Rattle.oa_disk.specs.declared.record.Record.{Record}
 use Rattle.oa_disk.specs.Record.{beginning}
-use Rattle.oa_disk.specs.Replay.{zeros}
 
 abbrev pub file_size : FileDisk → ℕ
 file_size disk = disk.size

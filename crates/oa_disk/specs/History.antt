@@ -1,30 +1,9 @@
--- A disk as its history: its first contents, and the calls since then. A disk in memory and a file both are such a
--- disk.
-use Rattle.std.specs.Prelude.{◌≡◌, ℕ, ◌+◌, ◌*◌, ◌≤◌, List, [], ◌∷◌, ◌++◌, length, drop, Option, slice_get}
-use Rattle.oa_disk.specs.Disk.{AllBytes}
+-- Definitions for contracts and proofs, beside promise/Disk.
+use Rattle.std.specs.Prelude.{◌≡◌, ℕ, ◌+◌, ◌≤◌, List, [], ◌∷◌, ◌++◌, length, drop, Option, slice_get}
+use Rattle.oa_disk.specs.promise.Disk.{AllBytes, DiskState, synced, count_all, DiskHistory}
 use Rattle.oa_disk.specs.declared.call.DeviceCall.{DeviceCall}
 use Rattle.oa_disk.specs.declared.call.DeviceCall.TheVariants.{Read, Write, Sync}
-use Rattle.oa_disk.specs.Replay.{DiskState, IsImage, IsImageOfSome, states, last_state, synced, count_all, AllInside}
-
--- the first contents, the calls in order, and the bytes of all writes, one after the other
-pub record DiskHistory : Type 0 where
-  pub first : List ℕ
-  pub calls : List DeviceCall
-  pub written : List ℕ
-
-abbrev pub disk_state : DiskHistory → DiskState
-disk_state h = last_state (synced h.first) h.calls h.written
-
-abbrev pub contents_of : DiskHistory → List ℕ
-contents_of h = (disk_state h).contents
-
--- what a crash may leave now
-abbrev pub image_of : DiskHistory → List ℕ → Type 0
-image_of h = IsImage (disk_state h)
-
--- the present point in time: 0 is the start, `2k - 1` lies within call k, and `2k` after it
-abbrev pub moment_of : DiskHistory → ℕ
-moment_of h = 2 * length h.calls
+use Rattle.oa_disk.specs.Replay.{IsImageOfSome, states, AllInside}
 
 -- the contents at each point in time, with the pending ranges
 abbrev pub states_of : DiskHistory → List DiskState

@@ -5,7 +5,6 @@ pub mod File
 pub mod Folders
 pub mod Fuse
 pub mod History
-pub mod Layered
 pub mod CallLog
 pub mod Memory
 pub mod Moments
@@ -14,4 +13,4 @@ pub mod Record
 pub mod Replay
 pub mod Replaying
 pub mod Switch
-pub mod Tear
+pub mod promise

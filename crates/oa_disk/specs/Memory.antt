@@ -1,32 +1,16 @@
--- The members of the trait for a MemoryDisk.
+-- Definitions for contracts and proofs, beside promise/Memory.
 use Rattle.std.specs.Prelude.{◌≡◌, ℕ, ◌+◌, ◌<◌, ◌≤◌, ◌↔◌, List, length, Option, Result, IsOk, OnOk, OnErr}
 use Rattle.oa_disk.specs.declared.memory.MemoryDisk.{MemoryDisk}
 use Rattle.oa_disk.specs.declared.call.DeviceCall.{DeviceCall}
-use Rattle.oa_disk.specs.declared.crash.Tear.{Tear}
-use Rattle.oa_disk.specs.Replay.{DiskState}
-use Rattle.oa_disk.specs.History.{DiskHistory, with_call}
+use Rattle.oa_disk.specs.promise.Disk.{DiskState}
+use Rattle.oa_disk.specs.History.{with_call}
 use Rattle.oa_disk.specs.History as known
-use Rattle.oa_disk.specs.CallLog.{laid, history, IsEmpty}
-use Rattle.oa_disk.specs.Tear.{IsTorn}
-
--- its first contents, and the calls since then
-abbrev pub memory_history : MemoryDisk → DiskHistory
-memory_history disk = history disk.first disk.ledger
-
-abbrev pub memory_contents : MemoryDisk → List ℕ
-memory_contents disk = known.contents_of (memory_history disk)
+use Rattle.oa_disk.specs.CallLog.{IsEmpty}
+use Rattle.oa_disk.specs.promise.Memory.{memory_history}
 
 -- the contents at this point in time, with the pending ranges
 abbrev pub memory_state_at : MemoryDisk → ℕ → Option DiskState
 memory_state_at disk moment = known.state_at (memory_history disk) moment
-
--- the last point in time
-abbrev pub moments_of : MemoryDisk → ℕ
-moments_of disk = known.moment_of (memory_history disk)
-
--- what a crash may leave now
-abbrev pub memory_image : MemoryDisk → List ℕ → Type 0
-memory_image disk = known.image_of (memory_history disk)
 
 -- what a crash at some point in time from t on might have left
 abbrev pub memory_image_since : MemoryDisk → ℕ → List ℕ → Type 0
@@ -46,8 +30,3 @@ pub record IsRecorded {E : Type 0} (call : DeviceCall) (bytes : List ℕ) (old n
 -- no call was made, and there is space for this many calls and written bytes
 abbrev pub IsFresh : ℕ → ℕ → MemoryDisk → Type 0
 IsFresh calls bytes disk = IsEmpty calls bytes disk.ledger
-
--- what a crash at this point in time leaves under this tear
-abbrev pub IsTornAt : MemoryDisk → Tear → ℕ → List ℕ → Type 0
-IsTornAt disk tear moment image =
-    IsTorn tear (laid disk.first) disk.ledger.calls.items disk.ledger.written.items moment image

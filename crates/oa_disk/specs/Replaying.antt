@@ -2,12 +2,12 @@
 use Rattle.std.proofs.Common.{◌≡◌, inl, inr, ℕ, zero, suc, ◌*◌, ◌≤◌, List, [], ◌∷◌, length, take, drop, refl, sym, ◌∙◌}
 use Rattle.std.proofs.Common.{ap, subst, arith, length-drop}
 use Rattle.std.proofs.lemmas.List.{length-take-le}
-use Rattle.oa_disk.specs.Disk.{AllBytes}
+use Rattle.oa_disk.specs.promise.Disk.{AllBytes, DiskState, IsImage, last_state, after_call, synced, count_of}
+use Rattle.oa_disk.specs.promise.Disk.{count_all, DiskHistory, contents_of, image_of, moment_of}
 use Rattle.oa_disk.specs.declared.call.DeviceCall.{DeviceCall}
 use Rattle.oa_disk.specs.declared.call.DeviceCall.TheVariants.{Read, Write, Sync}
-use Rattle.oa_disk.specs.Replay.{DiskState, IsImage, IsImageOfSome, AllInside, states}
-use Rattle.oa_disk.specs.Replay.{last_state, during_call, after_call, synced, count_of, count_all}
-use Rattle.oa_disk.specs.History.{DiskHistory, IsHistory, contents_of, image_of, moment_of, image_since_of}
+use Rattle.oa_disk.specs.Replay.{IsImageOfSome, AllInside, states, during_call}
+use Rattle.oa_disk.specs.History.{IsHistory, image_since_of}
 use Rattle.oa_disk.specs.Overwritten.{take_bytes, drop_bytes, overwritten_bytes, length-overwritten}
 
 pub length-states : (calls : List DeviceCall) (state : DiskState) (bytes : List ℕ)

@@ -1,8 +1,9 @@
 //! The bytes that a crash leaves, computed from the calls of a disk and the bytes that they wrote.
 ghost use Rattle.std.specs.Prelude.{◌≡◌, ◌+◌, ◌*◌, ◌<◌, ◌≤◌, length, OnOk, IfOk};
-ghost use Rattle.oa_disk.specs.CallLog.{laid};
-ghost use Rattle.oa_disk.specs.Replay.{AllInside, contents_after, count_all};
-ghost use Rattle.oa_disk.specs.Tear.{torn, tear_behind, torn_all, IsLastSync, IsTorn};
+ghost use Rattle.oa_disk.specs.promise.CallLog.{laid};
+ghost use Rattle.oa_disk.specs.Replay.{AllInside};
+ghost use Rattle.oa_disk.specs.promise.Disk.{contents_after, count_all, torn, tear_behind, torn_all, IsLastSync};
+ghost use Rattle.oa_disk.specs.promise.Disk.{IsTorn};
 
 use crate::DeviceCall;
 use crate::layers::SparseImage;

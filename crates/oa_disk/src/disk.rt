@@ -1,6 +1,7 @@
 //! A disk as a store sees it: the bytes that a read returns, and the bytes that a crash may leave.
 ghost use Rattle.std.specs.Prelude.{◌≡◌, ◌+◌, ◌-◌, ◌^◌, ◌≤◌, List, ℕ, Bool, IsTrue, length, OnOk, OnErr};
-ghost use Rattle.oa_disk.specs.Disk.{FailsAs, HasBytesAt, ReadsHonestly, Torn, Reaches, Stays, WritesUnsynced, Syncs, TakesTime};
+ghost use Rattle.oa_disk.specs.promise.Disk.{FailsAs, Torn, WritesUnsynced, Syncs, TakesTime};
+ghost use Rattle.oa_disk.specs.Disk.{HasBytesAt, ReadsHonestly, Reaches, Stays};
 
 use thiserror::Error;
 

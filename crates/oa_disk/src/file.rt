@@ -1,6 +1,6 @@
 //! A file of the operating system as a disk.
 ghost use Rattle.std.specs.Prelude.{◌≡◌, ◌+◌, ◌-◌, ◌^◌, ◌<◌, ◌≤◌, ◌↔◌, [], ℕ, length, IfOk, IfErr, IsTrue};
-ghost use Rattle.oa_disk.specs.Disk.{CountsFailures};
+ghost use Rattle.oa_disk.specs.promise.Disk.{CountsFailures};
 ghost use Rattle.oa_disk.specs.Folders.{IsFolderOf};
 ghost use Rattle.oa_disk.specs.History.{IsHistory};
 ghost use Rattle.oa_disk.specs.Record.{recorded_history};
@@ -197,7 +197,8 @@ impl FileDisk {
 
 impl Disk for FileDisk {
     ghost use Rattle.oa_disk.specs.Counting.{below_all};
-    ghost use Rattle.oa_disk.specs.History.{contents_of, image_of, moment_of, image_since_of};
+    ghost use Rattle.oa_disk.specs.promise.Disk.{contents_of, image_of, moment_of};
+    ghost use Rattle.oa_disk.specs.History.{image_since_of};
     ghost use Rattle.oa_disk.specs.Replaying.{contents_is_image, images_have_size, since_have_size, counts_now, since_falls, only_now};
 
     ghost size_of = { λ f. f.size };

@@ -1,8 +1,8 @@
 //! A disk that fails from some call on.
 ghost use Rattle.std.specs.Prelude.{◌≡◌, ◌+◌, ◌-◌, ◌^◌, ◌<◌, ◌≤◌, ◌↔◌, List, ℕ, length, IsTrue, OnOk, OnErr, IfErr, IsErr};
 ghost use Rattle.oa_disk.specs.Counting.{min_below};
-ghost use Rattle.oa_disk.specs.Disk.{CountsFailures, FailsAs, HasBytesAt, ReadsHonestly, Torn};
-ghost use Rattle.oa_disk.specs.Disk.{Reaches, Stays, WritesUnsynced, Syncs, TakesTime};
+ghost use Rattle.oa_disk.specs.promise.Disk.{CountsFailures, FailsAs, Torn, WritesUnsynced, Syncs, TakesTime};
+ghost use Rattle.oa_disk.specs.Disk.{HasBytesAt, ReadsHonestly, Reaches, Stays};
 ghost use Rattle.oa_disk.specs.Fuse.{failures_with};
 
 use crate::{DeviceFault, Disk};
@@ -34,7 +34,8 @@ fn spend(calls_left: &mut u64, refused: &mut u64, fault: DeviceFault) -> Result<
 }
 
 impl<D: Disk> FuseDisk<D> {
-    ghost use Rattle.oa_disk.specs.Fuse.{inner_of, calls_left_of, refused_of, ShowsAllOf};
+    ghost use Rattle.oa_disk.specs.promise.Fuse.{inner_of, calls_left_of};
+    ghost use Rattle.oa_disk.specs.Fuse.{refused_of, ShowsAllOf};
 
     /// Makes a disk that passes on the calls before call number `first_failing`, and fails each one
     /// from there on. Reads, writes and syncs are calls, numbered from 1. The new disk is as honest

@@ -2,8 +2,8 @@
 ghost use Rattle.std.specs.Prelude.{◌≡◌, ℕ, ◌+◌, ◌-◌, ◌^◌, ◌<◌, ◌≤◌, List, length, replicate, OnOk, IfOk};
 ghost use Rattle.oa_disk.specs.Disk.{HasBytesAt};
 ghost use Rattle.oa_disk.specs.History.{IsHistory};
-ghost use Rattle.oa_disk.specs.Layered.{layered};
-ghost use Rattle.oa_disk.specs.Replay.{AllInside, contents_after, count_all, overwritten, zeros};
+ghost use Rattle.oa_disk.specs.promise.Disk.{layered, contents_after, count_all, overwritten, zeros};
+ghost use Rattle.oa_disk.specs.Replay.{AllInside};
 
 use crate::DeviceCall;
 use std::alloc::{AllocError, Global};
@@ -22,7 +22,7 @@ pub struct SparseImage {
 }
 
 impl SparseImage {
-    ghost use Rattle.oa_disk.specs.CallLog.{laid};
+    ghost use Rattle.oa_disk.specs.promise.CallLog.{laid};
 
     /// Makes an image of `size` zeros, without allocating.
     pub(crate) fn new(alloc: Global, size: usize) -> SparseImage

@@ -1,9 +1,10 @@
 //! A disk in memory that tests can crash at any point in time.
 ghost use Rattle.std.specs.Prelude.{◌≡◌, ◌+◌, ◌*◌, ◌-◌, ◌<◌, ◌≤◌, [], length, true, List, ℕ, OnOk, OnErr, IfOk, Some};
-ghost use Rattle.oa_disk.specs.Disk.{HasBytesAt, Torn, Reaches, NothingPending, FailsAs, Stays, WritesUnsynced, Syncs, TakesTime};
+ghost use Rattle.oa_disk.specs.Disk.{HasBytesAt, Reaches, Stays};
+ghost use Rattle.oa_disk.specs.promise.Disk.{Torn, NothingPending, FailsAs, WritesUnsynced, Syncs, TakesTime};
+ghost use Rattle.oa_disk.specs.promise.Disk.{DiskState, IsImage, zeros};
 ghost use Rattle.oa_disk.specs.History.{IsHistory};
-ghost use Rattle.oa_disk.specs.CallLog.{laid, history};
-ghost use Rattle.oa_disk.specs.Replay.{DiskState, IsImage, zeros};
+ghost use Rattle.oa_disk.specs.promise.CallLog.{laid, history};
 
 use crate::crash::leave_at;
 use crate::layers::{SparseImage, overlay};
@@ -26,7 +27,8 @@ pub struct MemoryDisk {
 
 impl MemoryDisk {
     ghost use Rattle.oa_disk.specs.After.{BeginsHonest};
-    ghost use Rattle.oa_disk.specs.Memory.{memory_contents, memory_state_at, moments_of, IsFresh, IsTornAt};
+    ghost use Rattle.oa_disk.specs.promise.Memory.{memory_contents, moments_of, IsTornAt};
+    ghost use Rattle.oa_disk.specs.Memory.{memory_state_at, IsFresh};
 
     /// Makes a disk of `size` zeros, all of them on the device. It reserves memory for `calls`
     /// calls, and for `bytes` bytes of all writes together; the calls then allocate nothing. A call
@@ -130,7 +132,8 @@ impl MemoryDisk {
 /// space for it, and is then logged; otherwise only the count of failures changes.
 impl Disk for MemoryDisk {
     ghost use Rattle.oa_disk.specs.declared.call.DeviceCall.TheVariants.{Read, Write, Sync};
-    ghost use Rattle.oa_disk.specs.Memory.{memory_history, memory_contents, moments_of, memory_image, memory_image_since, IsRecorded};
+    ghost use Rattle.oa_disk.specs.promise.Memory.{memory_history, memory_contents, moments_of, memory_image};
+    ghost use Rattle.oa_disk.specs.Memory.{memory_image_since, IsRecorded};
     ghost use Rattle.oa_disk.specs.Replaying.{contents_is_image, images_have_size, since_have_size, counts_now, since_falls, only_now};
     ghost use Rattle.oa_disk.specs.Counting.{below_all};
 

@@ -2,7 +2,8 @@
 //! device.
 ghost use Rattle.std.specs.Prelude.{◌≡◌, ◌⊎◌, ◌+◌, ◌<◌, ◌≤◌, List, ℕ, IsTrue, OnOk, length, slice_index};
 ghost use Rattle.oa_disk.specs.After.{AfterWrites};
-ghost use Rattle.oa_disk.specs.Disk.{CrashInvariant, LeavesStep, Follows, Torn};
+ghost use Rattle.oa_disk.specs.promise.Disk.{CrashInvariant, Follows, Torn};
+ghost use Rattle.oa_disk.specs.Disk.{LeavesStep};
 ghost use Rattle.oa_disk.specs.Switch.{MaySwitch, HasSwitched};
 
 use crate::{DeviceFault, Disk};

@@ -3,23 +3,27 @@ use Rattle.std.proofs.Common.{◌≡◌, ℕ, ◌≤◌, inl, inr, List, [], ◌
 use Rattle.std.specs.Prelude.{All}
 use Rattle.std.specs.List.{AllByRecursion}
 use Rattle.std.proofs.lemmas.List.Elements.{All-head, All-tail}
-use Rattle.oa_model.specs.Limits.{max_text_bytes}
+use Rattle.oa_model.specs.promise.Limits.{max_text_bytes}
 use Rattle.oa_model.specs.declared.bound.Bound.{Bound}
 use Rattle.oa_model.specs.declared.var_type.VarType.{VarType}
 use Rattle.oa_model.specs.declared.var_type.VarType.TheVariants as types
-use Rattle.oa_array.specs.Arrays.{ArrayValue, IsArray, with_locks}
-use Rattle.oa_bstr.specs.Text.{bytes_of}
-use Rattle.oa_variant.specs.Scalars.{FitsType, IsScalar}
-use Rattle.oa_variant.specs.Variants.{IsBound, IsVariant, unlocked}
+use Rattle.oa_array.specs.promise.Arrays.{ArrayValue, IsArray, with_locks}
+use Rattle.oa_bstr.specs.promise.Text.{bytes_of}
+use Rattle.oa_variant.specs.promise.Scalars.{FitsType}
+use Rattle.oa_variant.specs.Scalars.{IsScalar}
+use Rattle.oa_variant.specs.Variants.{IsBound, IsVariant}
+use Rattle.oa_variant.specs.promise.Variants.{unlocked}
 use Rattle.oa_variant.specs.declared.scalar.Scalar.{Scalar}
 use Rattle.oa_variant.specs.declared.scalar.Scalar.TheVariants as scalars
 use Rattle.oa_variant.specs.declared.variant.Variant.{Variant}
 use Rattle.oa_variant.specs.declared.variant.Variant.TheVariants as variants
-use Rattle.oa_formats.specs.Formats.{raw, next_by, made_where, coded, counted, only, times, nothing, case, tagged}
-use Rattle.oa_formats.specs.Numbers.{u8, u16, u32, u64, i8, i16, i32, i64, truth_format}
-use Rattle.oa_formats.specs.Values.{text_header, text_of_size, text, decimal_format, of_type, vt, scalar_format}
-use Rattle.oa_formats.specs.Arrays.{bound_format, bounds_of, cell_of, array_format, shape_here}
-use Rattle.oa_formats.specs.Variants.{kind, content, value}
+use Rattle.oa_formats.specs.promise.Formats.{raw, next_by, made_where, coded, counted, only, times, nothing, case}
+use Rattle.oa_formats.specs.promise.Formats.{tagged}
+use Rattle.oa_formats.specs.promise.Numbers.{u8, u16, u32, u64, i8, i16, i32, i64, truth_format}
+use Rattle.oa_formats.specs.promise.Values.{text_header, text_of_size, text, decimal_format, of_type, vt, scalar_format}
+use Rattle.oa_formats.specs.promise.Arrays.{bound_format, bounds_of, cell_of, array_format}
+use Rattle.oa_formats.specs.Arrays.{shape_here}
+use Rattle.oa_formats.specs.promise.Variants.{kind, content, value}
 
 pub text_is : (t : Option (List ℕ)) → length (bytes_of t) ≤ max_text_bytes → text.Is t
 unfolding text text_header text_of_size tagged coded case raw nothing

@@ -4,15 +4,15 @@ use Rattle.std.specs.List.{AllByRecursion, flat_map}
 use Rattle.oa_model.specs.declared.var_type.VarType.{VarType}
 use Rattle.oa_model.specs.declared.var_type.VarType.TheVariants as types
 use Rattle.oa_model.specs.declared.var_type.ValueType.TheVariants as kinds
-use Rattle.oa_array.specs.Arrays.{ArrayValue}
-use Rattle.oa_variant.specs.Scalars.{type_of, FitsType}
+use Rattle.oa_array.specs.promise.Arrays.{ArrayValue}
+use Rattle.oa_variant.specs.promise.Scalars.{type_of, FitsType}
 use Rattle.oa_variant.specs.declared.scalar.Scalar.{Scalar}
 use Rattle.oa_variant.specs.declared.variant.Variant.TheVariants as variants
-use Rattle.oa_formats.specs.Formats.{next_by, made_where, times, case, tagged}
-use Rattle.oa_formats.specs.Arrays.{array_format, bounds_of, cell_of}
+use Rattle.oa_formats.specs.promise.Formats.{next_by, made_where, times, case, tagged}
+use Rattle.oa_formats.specs.promise.Arrays.{array_format, bounds_of, cell_of}
 use Rattle.oa_formats.specs.Elements.{array_head, element_image}
-use Rattle.oa_formats.specs.Values.{of_type}
-use Rattle.oa_formats.specs.Variants.{content, kind, value}
+use Rattle.oa_formats.specs.promise.Values.{of_type}
+use Rattle.oa_formats.specs.promise.Variants.{content, kind, value}
 
 by_type : (t : VarType) (s : Scalar) → (t ≡ types.Variant → ⊥) → FitsType s t → (of_type (type_of s)).image s ≡ (of_type t).image s
 by_type t s other fits = ⊎_elim (λ is. absurd (other is)) (λ same. ap (λ (k : VarType). (of_type k).image s) same) fits

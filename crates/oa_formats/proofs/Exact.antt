@@ -2,8 +2,8 @@
 use Rattle.std.proofs.Common.{◌≡◌, ℕ, suc, ◌-◌, ◌<◌, ◌≤◌, List, [], ◌∷◌, ◌++◌, length, get_or, Some, None, Err, refl, sym, ap, ◌∙◌, arith}
 use Rattle.std.specs.List.{AllByRecursion, flat_map}
 use Rattle.std.proofs.lemmas.List.{append-nil, length-append}
-use Rattle.oa_ndr.specs.Reading.{Cursor, at}
-use Rattle.oa_formats.specs.Formats.{Format, IsBytes, same_content}
+use Rattle.oa_ndr.specs.promise.Reading.{Cursor, at}
+use Rattle.oa_formats.specs.promise.Formats.{Format, IsBytes, same_content}
 use Rattle.oa_formats.specs.declared.fault.ReadFault.{ReadFault}
 use Rattle.oa_formats.specs.declared.fault.ReadFault.TheVariants as reads
 use Rattle.oa_formats.specs.Answers.{ReadsImage, HasBytes, IsFirstLeft, ReadsWholeImage, placed}

@@ -6,17 +6,18 @@ use Rattle.std.proofs.lemmas.List.Sums.{sum_by-cons}
 use Rattle.oa_model.specs.declared.bound.Bound.{Bound}
 use Rattle.oa_model.specs.declared.var_type.VarType.{VarType}
 use Rattle.oa_model.specs.declared.var_type.VarType.TheVariants as types
-use Rattle.oa_bstr.specs.Text.{bytes_of}
-use Rattle.oa_variant.specs.Scalars.{type_of, text_of}
+use Rattle.oa_bstr.specs.promise.Text.{bytes_of}
+use Rattle.oa_variant.specs.promise.Scalars.{type_of, text_of}
 use Rattle.oa_variant.specs.declared.scalar.Scalar.{Scalar}
 use Rattle.oa_variant.specs.declared.variant.Variant.{Variant}
 use Rattle.oa_variant.specs.declared.variant.Variant.TheVariants as variants
-use Rattle.oa_formats.specs.Arrays.{array_format, bound_format, bounds_of, cell_of}
-use Rattle.oa_formats.specs.Formats.{raw, nothing, never, next_by, made_where, coded, case, tagged, counted, only, times}
-use Rattle.oa_formats.specs.Lengths.{content_size, element_size, scalar_size, value_size}
-use Rattle.oa_formats.specs.Numbers.{u8, u16, u32, u64, i8, i16, i32, i64, truth_format}
-use Rattle.oa_formats.specs.Values.{decimal_format, of_type, scalar_format, text, text_header, text_of_size, vt}
-use Rattle.oa_formats.specs.Variants.{content, kind, value}
+use Rattle.oa_formats.specs.promise.Arrays.{array_format, bound_format, bounds_of, cell_of}
+use Rattle.oa_formats.specs.promise.Formats.{raw, nothing, never, next_by, made_where, coded, case, tagged, counted}
+use Rattle.oa_formats.specs.promise.Formats.{only, times}
+use Rattle.oa_formats.specs.promise.Lengths.{content_size, element_size, scalar_size, value_size}
+use Rattle.oa_formats.specs.promise.Numbers.{u8, u16, u32, u64, i8, i16, i32, i64, truth_format}
+use Rattle.oa_formats.specs.promise.Values.{decimal_format, of_type, scalar_format, text, text_header, text_of_size, vt}
+use Rattle.oa_formats.specs.promise.Variants.{content, kind, value}
 
 -- images one behind the other
 pub all_sized : {X : Type 0} (image : X → List ℕ) (size : X → ℕ) → ((x : X) → length (image x) ≡ size x) → (xs : List X)

@@ -7,20 +7,20 @@ use Rattle.std.specs.Global.{Vec}
 use Rattle.std.specs.Prelude.{All, is_some, ◌&&◌}
 use Rattle.std.specs.List.{AllByRecursion, flat_map}
 use Rattle.std.proofs.lemmas.List.Elements.{All-from_recursion}
-use Rattle.oa_ndr.specs.Reading.{Cursor, Decoder, many}
+use Rattle.oa_ndr.specs.promise.Reading.{Cursor, Decoder, many}
 use Rattle.oa_ndr.proofs.Loop.{with_front, many_goes_on, many_ends, many_is_done}
-use Rattle.oa_model.specs.Limits.{max_dimensions, max_cells}
-use Rattle.oa_model.specs.Types.{sf_type_of}
+use Rattle.oa_model.specs.promise.Limits.{max_dimensions, max_cells}
+use Rattle.oa_model.specs.promise.Types.{sf_type_of}
 use Rattle.oa_model.specs.declared.bound.Bound.{Bound}
 use Rattle.oa_model.specs.declared.var_type.VarType.{VarType}
-use Rattle.oa_array.specs.Arrays.{IsArrayShape}
-use Rattle.oa_array.specs.Boxes.{box_size}
-use Rattle.oa_variant.specs.Scalars.{FitsType}
+use Rattle.oa_array.specs.promise.Arrays.{IsArrayShape}
+use Rattle.oa_array.specs.promise.Boxes.{box_size}
+use Rattle.oa_variant.specs.promise.Scalars.{FitsType}
 use Rattle.oa_variant.specs.declared.scalar.Scalar.{Scalar}
 use Rattle.oa_formats.specs.declared.fault.ReadFault.{ReadFault}
 use Rattle.oa_formats.specs.declared.fault.ReadFault.TheVariants.{Broken, Memory}
 use Rattle.oa_formats.specs.Answers.{ReadsImage, ReadsImageBy}
-use Rattle.oa_formats.specs.Arrays.{is_shape}
+use Rattle.oa_formats.specs.promise.Arrays.{is_shape}
 use Rattle.oa_formats.specs.Windows.{Showing, added, added_added}
 use Rattle.oa_formats.proofs.Adding.{added_none}
 use Rattle.oa_formats.proofs.Rows.{all_and}

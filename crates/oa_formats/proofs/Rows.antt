@@ -3,11 +3,12 @@ use Rattle.std.proofs.Common.{◌≡◌, ℕ, ◌<◌, ◌≤◌, List, [], ◌�
 use Rattle.std.specs.List.{AllByRecursion, flat_map}
 use Rattle.std.proofs.lemmas.List.{append-nil, length-append}
 use Rattle.std.proofs.lemmas.Grind.{flat_map-append}
-use Rattle.oa_ndr.specs.Reading.{Cursor, at}
-use Rattle.oa_formats.specs.Formats.{Format, IsBytes}
+use Rattle.oa_ndr.specs.promise.Reading.{Cursor, at}
+use Rattle.oa_formats.specs.promise.Formats.{Format, IsBytes}
 use Rattle.oa_formats.specs.declared.fault.ReadFault.{ReadFault}
 use Rattle.oa_formats.specs.declared.fault.ReadFault.TheVariants as reads
-use Rattle.oa_formats.specs.Answers.{ReadsImage, IsRow, IsRowReading, HasBytes, placed}
+use Rattle.oa_formats.specs.Answers.{ReadsImage, IsRowReading, HasBytes, placed}
+use Rattle.oa_formats.specs.promise.Answers.{IsRow}
 use Rattle.oa_formats.proofs.Exact.{no_prefix}
 
 -- what was read, and what is left

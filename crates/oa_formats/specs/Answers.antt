@@ -1,13 +1,13 @@
--- The results of readers.
+-- Definitions for contracts and proofs, beside promise/Answers.
 use Rattle.std.specs.Prelude.{◌≡◌, ◌<◌, ◌≤◌, ℕ, List, ◌++◌, length, Option, Some, None, Result, Ok, Err}
 use Rattle.std.specs.Global.{Vec}
-use Rattle.std.specs.List.{AllByRecursion, flat_map}
-use Rattle.oa_ndr.specs.Reading.{Cursor}
+use Rattle.oa_ndr.specs.promise.Reading.{Cursor}
 use Rattle.oa_formats.specs.declared.fault.ReadFault.{ReadFault}
 use Rattle.oa_formats.specs.declared.fault.ReadFault.TheVariants as reads
 use Rattle.oa_formats.specs.declared.fault.ImageFault.{ImageFault}
 use Rattle.oa_formats.specs.declared.fault.ImageFault.TheVariants.{Damaged, Memory}
-use Rattle.oa_formats.specs.Formats.{Format}
+use Rattle.oa_formats.specs.promise.Formats.{Format}
+use Rattle.oa_formats.specs.promise.Answers.{IsRow}
 
 -- A call returned the value that the bytes encode, and moved the reader accordingly, unless an allocation failed.
 abbrev pub ReadsImage : {A : Type 0} → Result A ReadFault → Cursor → Option (A × Cursor) → Type 0
@@ -42,11 +42,6 @@ ReadsWholeImage F bytes (Err Memory) = Unit {0}
 -- no value has an image without bytes
 abbrev pub HasBytes : {C : Type 0} → Format C → Type 0
 HasBytes {C} F = (c : C) → F.Is c → 0 < length (F.image c)
-
--- the images of the values, one after the other, are the bytes
-pub record IsRow {C : Type 0} (F : Format C) (bytes : List ℕ) (xs : List C) : Type 0 where
-  pub are : AllByRecursion F.Is xs
-  pub whole : bytes ≡ flat_map F.image xs
 
 -- The result of reading such a list.
 abbrev pub IsRowReading : {C : Type 0} → Format C → List ℕ → Result (Vec C) ImageFault → Type 0

@@ -3,12 +3,12 @@ use Rattle.std.specs.Prelude.{ℕ, List, ◌++◌}
 use Rattle.oa_model.specs.declared.var_type.VarType.{VarType}
 use Rattle.oa_model.specs.declared.var_type.VarType.TheVariants as types
 use Rattle.oa_model.specs.declared.var_type.ValueType.TheVariants as kinds
-use Rattle.oa_array.specs.Arrays.{ArrayValue}
-use Rattle.oa_variant.specs.Scalars.{type_of}
+use Rattle.oa_array.specs.promise.Arrays.{ArrayValue}
+use Rattle.oa_variant.specs.promise.Scalars.{type_of}
 use Rattle.oa_variant.specs.declared.scalar.Scalar.{Scalar}
-use Rattle.oa_formats.specs.Arrays.{bounds_of}
-use Rattle.oa_formats.specs.Values.{of_type, scalar_format}
-use Rattle.oa_formats.specs.Variants.{kind}
+use Rattle.oa_formats.specs.promise.Arrays.{bounds_of}
+use Rattle.oa_formats.specs.promise.Values.{of_type, scalar_format}
+use Rattle.oa_formats.specs.promise.Variants.{kind}
 
 -- the bytes of a cell of an array of the type, if it fits
 unfoldable pub element_image : VarType → Scalar → List ℕ

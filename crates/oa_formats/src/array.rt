@@ -1,16 +1,17 @@
 //! The images of arrays.
 ghost use Rattle.std.specs.Prelude.{◌≡◌, ◌≤◌, ◌*◌, All, IfOk, length};
 ghost use Rattle.std.specs.List.{AllByRecursion, flat_map, sum_by};
-ghost use Rattle.oa_model.specs.Limits.{max_cells};
-ghost use Rattle.oa_array.specs.Arrays.{IsArrayShape};
-ghost use Rattle.oa_array.specs.Boxes.{box_size};
-ghost use Rattle.oa_variant.specs.Scalars.{FitsType};
+ghost use Rattle.oa_model.specs.promise.Limits.{max_cells};
+ghost use Rattle.oa_array.specs.promise.Arrays.{IsArrayShape};
+ghost use Rattle.oa_array.specs.promise.Boxes.{box_size};
+ghost use Rattle.oa_variant.specs.promise.Scalars.{FitsType};
 ghost use Rattle.oa_variant.specs.declared.variant.Variant.TheVariants as variants;
 ghost use Rattle.oa_formats.specs.Answers.{ReadsImage, ReadsImageBy};
-ghost use Rattle.oa_formats.specs.Arrays as arrays;
+ghost use Rattle.oa_formats.specs.promise.Arrays as arrays;
 ghost use Rattle.oa_formats.specs.Elements.{array_head, element_image};
-ghost use Rattle.oa_formats.specs.Formats.{times};
-ghost use Rattle.oa_formats.specs.Lengths.{element_size, max_scalar_bytes, max_value_image, value_size};
+ghost use Rattle.oa_formats.specs.promise.Formats.{times};
+ghost use Rattle.oa_formats.specs.promise.Lengths.{element_size, value_size};
+ghost use Rattle.oa_formats.specs.Lengths.{max_scalar_bytes, max_value_image};
 ghost use Rattle.oa_formats.specs.Windows.{Adds};
 
 use crate::image::{PutImage, ReadImage, put_each, read_times};
@@ -33,7 +34,7 @@ impl ReadImage for BoundFormat {
 
     ghost format = { arrays.bound_format };
 
-    #[tactic(auto, unfolding(crate::specs::Formats::combinators, crate::specs::Arrays::bound_format))]
+    #[tactic(auto, unfolding(crate::specs::Formats::combinators, crate::specs::promise::Arrays::bound_format))]
     fn read(_alloc: Global, r: &mut Ndr<'_>) -> Result<Bound, ReadFault> {
         let count = read_u32(r)?;
         let lower = read_i32(r)?;
@@ -42,7 +43,7 @@ impl ReadImage for BoundFormat {
 }
 
 impl PutImage for BoundFormat {
-    #[tactic(auto, unfolding(crate::specs::Formats::combinators, crate::specs::Arrays::bound_format), using(crate::specs::Windows::added_added))]
+    #[tactic(auto, unfolding(crate::specs::Formats::combinators, crate::specs::promise::Arrays::bound_format), using(crate::specs::Windows::added_added))]
     fn put(value: &Bound, w: &mut OutputCursor, out: &mut [u8]) {
         put_u32(value.count, w, out);
         put_i32(value.lower, w, out)
@@ -50,7 +51,7 @@ impl PutImage for BoundFormat {
 }
 
 /// Reads one element of an array of type `elem`. Errors: `Broken`, `Memory`.
-#[tactic(auto, unfolding(crate::specs::Arrays::cell_of))]
+#[tactic(auto, unfolding(crate::specs::promise::Arrays::cell_of))]
 fn read_cell(alloc: Global, elem: VarType, r: &mut Ndr<'_>) -> Result<Scalar, ReadFault>
     ensures read { ReadsImage result r.new ((arrays.cell_of elem).read r.old) }
     ensures fits { IfOk result (λ s. FitsType s elem) }
@@ -73,7 +74,7 @@ fn blank(alloc: Global, count: usize) -> Result<Cells<Scalar>, AllocError>
 }
 
 /// Reads `count` elements of an array of type `elem`. Errors: `Broken`, `Memory`.
-#[tactic(auto, unfolding(crate::specs::Formats::times), using(crate::proofs::Loops::cells_full, crate::proofs::Loops::cells_err))]
+#[tactic(auto, unfolding(crate::specs::promise::Formats::times), using(crate::proofs::Loops::cells_full, crate::proofs::Loops::cells_err))]
 fn read_cells(
     alloc: Global,
     elem: VarType,
@@ -94,7 +95,7 @@ fn read_cells(
 
 /// Reads the bounds of an array of type `elem`. Returns them and the number of elements. Errors:
 /// `Broken`, also if no array has such bounds; `Memory`.
-#[tactic(auto, unfolding(crate::specs::Formats::combinators, crate::specs::Arrays::bounds_of), using(crate::specs::Arrays::shape_here, crate::proofs::Loops::shape_not))]
+#[tactic(auto, unfolding(crate::specs::Formats::combinators, crate::specs::promise::Arrays::bounds_of), using(crate::specs::Arrays::shape_here, crate::proofs::Loops::shape_not))]
 fn read_bounds(
     alloc: Global,
     elem: VarType,
@@ -113,7 +114,7 @@ fn read_bounds(
 
 /// Reads the part of an array's image after the number of the type: the number of bounds, the
 /// bounds, and the elements of type `elem`. Errors: `Broken`, `Memory`.
-#[tactic(auto, unfolding(crate::specs::Formats::combinators, crate::specs::Arrays::array_format), using(crate::proofs::Loops::all_fit))]
+#[tactic(auto, unfolding(crate::specs::Formats::combinators, crate::specs::promise::Arrays::array_format), using(crate::proofs::Loops::all_fit))]
 pub(crate) fn read_array(
     alloc: Global,
     elem: VarType,
@@ -147,7 +148,7 @@ fn put_cells(elem: VarType, cells: &[Scalar], w: &mut OutputCursor, out: &mut [u
 
 /// Writes the part of an array's image after the number of the type: the number of bounds, the
 /// bounds, and the elements.
-#[tactic(auto, unfolding(crate::specs::Formats::combinators, crate::specs::Arrays::bounds_of, crate::specs::Arrays::array_format), using(crate::specs::Windows::added_added))]
+#[tactic(auto, unfolding(crate::specs::Formats::combinators, crate::specs::promise::Arrays::bounds_of, crate::specs::promise::Arrays::array_format), using(crate::specs::Windows::added_added))]
 pub(crate) fn put_array(a: &SafeArray<Scalar>, w: &mut OutputCursor, out: &mut [u8])
     ensures { Adds ((arrays.array_format a.now.elem).image a.now) w.old w.new out.old out.new }
 {
@@ -173,7 +174,7 @@ pub fn put_element(elem: VarType, s: &Scalar, w: &mut OutputCursor, out: &mut [u
 /// Writes the part of an array's image before its elements: the number of their type with VT_ARRAY
 /// (0x2000) as u16, the number of bounds as u16, and each bound in 8 bytes. These are its count as
 /// u32 and its lowest index as i32. Allocates nothing.
-#[tactic(auto, unfolding(crate::specs::Formats::combinators, crate::specs::Arrays::bounds_of, crate::specs::Variants::kind, crate::specs::Elements::array_head), using(crate::specs::Windows::added_added))]
+#[tactic(auto, unfolding(crate::specs::Formats::combinators, crate::specs::promise::Arrays::bounds_of, crate::specs::promise::Variants::kind, crate::specs::Elements::array_head), using(crate::specs::Windows::added_added))]
 pub fn put_array_head(a: &SafeArray<Scalar>, w: &mut OutputCursor, out: &mut [u8])
     ensures { Adds (array_head a.now) w.old w.new out.old out.new }
 {
@@ -186,7 +187,7 @@ pub fn put_array_head(a: &SafeArray<Scalar>, w: &mut OutputCursor, out: &mut [u8
 }
 
 /// Returns the length in bytes of an element in the image of an array of the type.
-#[tactic(auto, unfolding(crate::specs::Lengths::element_size))]
+#[tactic(auto, unfolding(crate::specs::promise::Lengths::element_size))]
 pub fn element_len(elem: VarType, s: &Scalar) -> usize
     ensures value { result ≡ element_size elem s.now }
     ensures small { result ≤ max_scalar_bytes }
@@ -212,7 +213,7 @@ pub fn elements_len(elem: VarType, elements: &[Scalar]) -> usize
 
 /// Returns the length in bytes of an array's image: the number of the type, the number of bounds,
 /// the bounds, and the elements.
-#[tactic(auto, unfolding(crate::specs::Lengths::value_size))]
+#[tactic(auto, unfolding(crate::specs::promise::Lengths::value_size))]
 pub(crate) fn array_image_len(a: &SafeArray<Scalar>) -> usize
     ensures value { result ≡ value_size (variants.Array a.now) }
     ensures small { result ≤ max_value_image }

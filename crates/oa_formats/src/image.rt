@@ -2,7 +2,7 @@
 ghost use Rattle.std.specs.Prelude.{◌≡◌, ◌≤◌, ◌↔◌, ◌++◌, ◌+◌, ◌-◌, [], IsOk, IsTrue, OnOk, OnErr, IfOk, length, take, vec_capacity};
 ghost use Rattle.std.specs.List.{flat_map};
 ghost use Rattle.oa_formats.specs.Answers.{ReadsImage, ReadsImageBy, HasBytes, ReadsWholeImage, IsRowReading, placed};
-ghost use Rattle.oa_formats.specs.Formats.{Format, times};
+ghost use Rattle.oa_formats.specs.promise.Formats.{Format, times};
 ghost use Rattle.oa_formats.specs.Windows.{Adds};
 
 use crate::{ImageFault, OutputCursor, ReadFault};

@@ -1,11 +1,12 @@
 //! Theorems about the images of values, each the contract of a function with an empty body.
 ghost use Rattle.std.specs.Prelude.{◌≡◌};
 ghost use Rattle.oa_variant.specs.Scalars.{IsScalar};
-ghost use Rattle.oa_variant.specs.Variants.{IsVariant, unlocked};
+ghost use Rattle.oa_variant.specs.Variants.{IsVariant};
+ghost use Rattle.oa_variant.specs.promise.Variants.{unlocked};
 ghost use Rattle.oa_variant.specs.declared.scalar.Scalar.{Scalar};
 ghost use Rattle.oa_variant.specs.declared.variant.Variant.{Variant};
-ghost use Rattle.oa_formats.specs.Values.{scalar_format};
-ghost use Rattle.oa_formats.specs.Variants.{value};
+ghost use Rattle.oa_formats.specs.promise.Values.{scalar_format};
+ghost use Rattle.oa_formats.specs.promise.Variants.{value};
 
 /// Each scalar has an image. Every `Scalar` meets `IsScalar` (`oa_variant::laws::is_scalar`).
 pub fn scalars_have_images()

@@ -2,8 +2,8 @@
 ghost use Rattle.std.specs.Prelude.{◌≡◌, length, IfOk};
 ghost use Rattle.oa_ndr.specs.Reading.{Gives};
 ghost use Rattle.oa_formats.specs.Answers.{ReadsImage};
-ghost use Rattle.oa_formats.specs.Formats.{raw};
-ghost use Rattle.oa_formats.specs.Numbers as numbers;
+ghost use Rattle.oa_formats.specs.promise.Formats.{raw};
+ghost use Rattle.oa_formats.specs.promise.Numbers as numbers;
 
 use crate::ReadFault;
 use oa_model::guid_from_wire;
@@ -11,7 +11,7 @@ use oa_ndr::{Ndr, Short};
 use uuid::Uuid;
 
 /// Reads `n` bytes. Err: fewer are left.
-#[tactic(auto, unfolding(crate::specs::Formats::raw))]
+#[tactic(auto, unfolding(crate::specs::promise::Formats::raw))]
 pub(crate) fn read_bytes<'a>(n: usize, r: &mut Ndr<'a>) -> Result<&'a [u8], Short>
     ensures read { Gives (λ x. x.now) result r.old r.new ((raw n).read r.old) }
     ensures len { IfOk result (λ x. length x.now ≡ n) }
@@ -20,7 +20,7 @@ pub(crate) fn read_bytes<'a>(n: usize, r: &mut Ndr<'a>) -> Result<&'a [u8], Shor
 }
 
 /// Reads a byte. Err: none is left.
-#[tactic(auto, unfolding(oa_ndr::specs::Reading::steps, crate::specs::Formats::made_where, crate::specs::Numbers::u8))]
+#[tactic(auto, unfolding(oa_ndr::specs::Reading::steps, crate::specs::promise::Formats::made_where, crate::specs::promise::Numbers::u8))]
 pub fn read_u8(r: &mut Ndr<'_>) -> Result<u8, Short>
     ensures { Gives (λ x. x) result r.old r.new (numbers.u8.read r.old) }
 {
@@ -29,7 +29,7 @@ pub fn read_u8(r: &mut Ndr<'_>) -> Result<u8, Short>
 }
 
 /// Reads a number of 2 bytes, lowest first. Err: fewer bytes are left.
-#[tactic(auto, unfolding(oa_ndr::specs::Reading::steps, crate::specs::Formats::made_where, crate::specs::Numbers::u16))]
+#[tactic(auto, unfolding(oa_ndr::specs::Reading::steps, crate::specs::promise::Formats::made_where, crate::specs::promise::Numbers::u16))]
 pub fn read_u16(r: &mut Ndr<'_>) -> Result<u16, Short>
     ensures { Gives (λ x. x) result r.old r.new (numbers.u16.read r.old) }
 {
@@ -38,7 +38,7 @@ pub fn read_u16(r: &mut Ndr<'_>) -> Result<u16, Short>
 }
 
 /// Reads a number of 4 bytes, lowest first. Err: fewer bytes are left.
-#[tactic(auto, unfolding(oa_ndr::specs::Reading::steps, crate::specs::Formats::made_where, crate::specs::Numbers::u32))]
+#[tactic(auto, unfolding(oa_ndr::specs::Reading::steps, crate::specs::promise::Formats::made_where, crate::specs::promise::Numbers::u32))]
 pub fn read_u32(r: &mut Ndr<'_>) -> Result<u32, Short>
     ensures { Gives (λ x. x) result r.old r.new (numbers.u32.read r.old) }
 {
@@ -47,7 +47,7 @@ pub fn read_u32(r: &mut Ndr<'_>) -> Result<u32, Short>
 }
 
 /// Reads a number of 8 bytes, lowest first. Err: fewer bytes are left.
-#[tactic(auto, unfolding(oa_ndr::specs::Reading::steps, crate::specs::Formats::made_where, crate::specs::Numbers::u64))]
+#[tactic(auto, unfolding(oa_ndr::specs::Reading::steps, crate::specs::promise::Formats::made_where, crate::specs::promise::Numbers::u64))]
 pub(crate) fn read_u64(r: &mut Ndr<'_>) -> Result<u64, Short>
     ensures { Gives (λ x. x) result r.old r.new (numbers.u64.read r.old) }
 {
@@ -58,7 +58,7 @@ pub(crate) fn read_u64(r: &mut Ndr<'_>) -> Result<u64, Short>
 }
 
 /// Reads a signed number of one byte. Err: none is left.
-#[tactic(auto, unfolding(oa_ndr::specs::Reading::steps, crate::specs::Formats::made_where, crate::specs::Numbers::i8))]
+#[tactic(auto, unfolding(oa_ndr::specs::Reading::steps, crate::specs::promise::Formats::made_where, crate::specs::promise::Numbers::i8))]
 pub(crate) fn read_i8(r: &mut Ndr<'_>) -> Result<i8, Short>
     ensures { Gives (λ x. x) result r.old r.new (numbers.i8.read r.old) }
 {
@@ -66,7 +66,7 @@ pub(crate) fn read_i8(r: &mut Ndr<'_>) -> Result<i8, Short>
 }
 
 /// Reads a signed number of 2 bytes, lowest first. Err: fewer bytes are left.
-#[tactic(auto, unfolding(oa_ndr::specs::Reading::steps, crate::specs::Formats::made_where, crate::specs::Numbers::i16))]
+#[tactic(auto, unfolding(oa_ndr::specs::Reading::steps, crate::specs::promise::Formats::made_where, crate::specs::promise::Numbers::i16))]
 pub(crate) fn read_i16(r: &mut Ndr<'_>) -> Result<i16, Short>
     ensures { Gives (λ x. x) result r.old r.new (numbers.i16.read r.old) }
 {
@@ -74,7 +74,7 @@ pub(crate) fn read_i16(r: &mut Ndr<'_>) -> Result<i16, Short>
 }
 
 /// Reads a signed number of 4 bytes, lowest first. Err: fewer bytes are left.
-#[tactic(auto, unfolding(oa_ndr::specs::Reading::steps, crate::specs::Formats::made_where, crate::specs::Numbers::i32))]
+#[tactic(auto, unfolding(oa_ndr::specs::Reading::steps, crate::specs::promise::Formats::made_where, crate::specs::promise::Numbers::i32))]
 pub fn read_i32(r: &mut Ndr<'_>) -> Result<i32, Short>
     ensures { Gives (λ x. x) result r.old r.new (numbers.i32.read r.old) }
 {
@@ -82,7 +82,7 @@ pub fn read_i32(r: &mut Ndr<'_>) -> Result<i32, Short>
 }
 
 /// Reads a signed number of 8 bytes, lowest first. Err: fewer bytes are left.
-#[tactic(auto, unfolding(oa_ndr::specs::Reading::steps, crate::specs::Formats::made_where, crate::specs::Numbers::i64))]
+#[tactic(auto, unfolding(oa_ndr::specs::Reading::steps, crate::specs::promise::Formats::made_where, crate::specs::promise::Numbers::i64))]
 pub(crate) fn read_i64(r: &mut Ndr<'_>) -> Result<i64, Short>
     ensures { Gives (λ x. x) result r.old r.new (numbers.i64.read r.old) }
 {
@@ -90,7 +90,7 @@ pub(crate) fn read_i64(r: &mut Ndr<'_>) -> Result<i64, Short>
 }
 
 /// Reads a GUID of 16 bytes in wire order (MS-DTYP section 2.3.4.2). Err: fewer bytes are left.
-#[tactic(auto, unfolding(oa_ndr::specs::Reading::steps, crate::specs::Formats::made_where, crate::specs::Numbers::guid_format))]
+#[tactic(auto, unfolding(oa_ndr::specs::Reading::steps, crate::specs::promise::Formats::made_where, crate::specs::promise::Numbers::guid_format))]
 pub fn read_guid(r: &mut Ndr<'_>) -> Result<Uuid, Short>
     ensures { Gives (λ x. x) result r.old r.new (numbers.guid_format.read r.old) }
 {
@@ -101,7 +101,7 @@ pub fn read_guid(r: &mut Ndr<'_>) -> Result<Uuid, Short>
 }
 
 /// Reads a truth value: one byte, 0 or 1. Err: `Broken` for any other byte, or if none is left.
-#[tactic(auto, unfolding(oa_ndr::specs::Reading::steps, crate::specs::Formats::coded, crate::specs::Numbers::truth_format))]
+#[tactic(auto, unfolding(oa_ndr::specs::Reading::steps, crate::specs::promise::Formats::coded, crate::specs::promise::Numbers::truth_format))]
 pub(crate) fn read_truth(r: &mut Ndr<'_>) -> Result<bool, ReadFault>
     ensures { ReadsImage result r.new (numbers.truth_format.read r.old) }
 {

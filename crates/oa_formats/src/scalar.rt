@@ -1,10 +1,11 @@
 //! The images of texts, DECIMAL and scalars.
 ghost use Rattle.std.specs.Prelude.{◌≡◌, ◌≤◌, ◌+◌, length, IfOk};
-ghost use Rattle.oa_bstr.specs.Text.{bytes_of};
-ghost use Rattle.oa_variant.specs.Scalars.{type_of, text_of};
+ghost use Rattle.oa_bstr.specs.promise.Text.{bytes_of};
+ghost use Rattle.oa_variant.specs.promise.Scalars.{type_of, text_of};
 ghost use Rattle.oa_formats.specs.Answers.{ReadsImage};
-ghost use Rattle.oa_formats.specs.Lengths.{content_size, max_content_bytes, max_scalar_bytes, scalar_size};
-ghost use Rattle.oa_formats.specs.Values as values;
+ghost use Rattle.oa_formats.specs.promise.Lengths.{content_size, scalar_size};
+ghost use Rattle.oa_formats.specs.Lengths.{max_content_bytes, max_scalar_bytes};
+ghost use Rattle.oa_formats.specs.promise.Values as values;
 ghost use Rattle.oa_formats.specs.Windows.{Adds};
 
 use crate::image::{PutImage, ReadImage};
@@ -33,7 +34,7 @@ const ABOVE_LOW: u128 = 0x1_0000_0000_0000_0000;
 
 /// Reads the number of bytes of a text; None for the null text. Err: `Broken`, also if no text has
 /// that number.
-#[tactic(auto, unfolding(oa_ndr::specs::Reading::bind, crate::specs::Formats::coded, crate::specs::Values::text_header))]
+#[tactic(auto, unfolding(oa_ndr::specs::promise::Reading::bind, crate::specs::promise::Formats::coded, crate::specs::promise::Values::text_header))]
 fn read_text_header(r: &mut Ndr<'_>) -> Result<Option<u32>, ReadFault>
     ensures { ReadsImage result r.new (values.text_header.read r.old) }
 {
@@ -63,7 +64,7 @@ fn read_text(alloc: Global, r: &mut Ndr<'_>) -> Result<Bstr, ReadFault>
 
 /// Reads a DECIMAL of 14 bytes: its scale, its sign, the high 32 and the low 64 bits of its
 /// magnitude. Err: `Broken`, also for a scale above 28.
-#[tactic(auto, unfolding(crate::specs::Formats::combinators, crate::specs::Values::decimal_format))]
+#[tactic(auto, unfolding(crate::specs::Formats::combinators, crate::specs::promise::Values::decimal_format))]
 fn read_decimal(r: &mut Ndr<'_>) -> Result<Decimal, ReadFault>
     ensures { ReadsImage result r.new (values.decimal_format.read r.old) }
 {
@@ -79,7 +80,7 @@ fn read_decimal(r: &mut Ndr<'_>) -> Result<Decimal, ReadFault>
 }
 
 /// Reads the number of a scalar's type. Err: `Broken`, also if no type has it.
-#[tactic(auto, unfolding(oa_ndr::specs::Reading::bind, crate::specs::Formats::coded, crate::specs::Values::vt))]
+#[tactic(auto, unfolding(oa_ndr::specs::promise::Reading::bind, crate::specs::promise::Formats::coded, crate::specs::promise::Values::vt))]
 fn read_vt(r: &mut Ndr<'_>) -> Result<VarType, ReadFault>
     ensures { ReadsImage result r.new (values.vt.read r.old) }
 {
@@ -88,7 +89,7 @@ fn read_vt(r: &mut Ndr<'_>) -> Result<VarType, ReadFault>
 
 /// Reads the part of a scalar's image after the number of the type, for this type. Errors:
 /// `Broken`, `Memory`.
-#[tactic(auto, unfolding(crate::specs::Formats::combinators, crate::specs::Values::of_type))]
+#[tactic(auto, unfolding(crate::specs::Formats::combinators, crate::specs::promise::Values::of_type))]
 pub(crate) fn read_content(
     alloc: Global,
     var_type: VarType,
@@ -132,7 +133,7 @@ fn put_text(text: &Bstr, w: &mut OutputCursor, out: &mut [u8])
 }
 
 /// Writes a DECIMAL in 14 bytes, as `read_decimal` reads it.
-#[tactic(auto, unfolding(crate::specs::Formats::combinators, crate::specs::Values::decimal_format), using(crate::specs::Windows::added_added))]
+#[tactic(auto, unfolding(crate::specs::Formats::combinators, crate::specs::promise::Values::decimal_format), using(crate::specs::Windows::added_added))]
 fn put_decimal(d: &Decimal, w: &mut OutputCursor, out: &mut [u8])
     ensures { Adds (values.decimal_format.image d.now) w.old w.new out.old out.new }
 {
@@ -144,7 +145,7 @@ fn put_decimal(d: &Decimal, w: &mut OutputCursor, out: &mut [u8])
 }
 
 /// Writes the part of a scalar's image that follows the number of the type.
-#[tactic(auto, unfolding(crate::specs::Formats::combinators, crate::specs::Values::of_type), using(crate::proofs::Adding::added_none))]
+#[tactic(auto, unfolding(crate::specs::Formats::combinators, crate::specs::promise::Values::of_type), using(crate::proofs::Adding::added_none))]
 pub(crate) fn put_content(s: &Scalar, w: &mut OutputCursor, out: &mut [u8])
     ensures { Adds ((values.of_type (type_of s.now)).image s.now) w.old w.new out.old out.new }
 {
@@ -177,7 +178,7 @@ impl ReadImage for ScalarFormat {
 
     ghost format = { values.scalar_format };
 
-    #[tactic(auto, unfolding(oa_ndr::specs::Reading::bind, crate::specs::Formats::tagged, crate::specs::Values::scalar_format))]
+    #[tactic(auto, unfolding(oa_ndr::specs::promise::Reading::bind, crate::specs::promise::Formats::tagged, crate::specs::promise::Values::scalar_format))]
     fn read(alloc: Global, r: &mut Ndr<'_>) -> Result<Scalar, ReadFault> {
         let var_type = read_vt(r)?;
         read_content(alloc, var_type, r)
@@ -205,7 +206,7 @@ fn text_len(s: &Scalar) -> usize
 
 /// Returns the length in bytes of a scalar's image after the number of its type.
 #[inline(always)]
-#[tactic(auto, unfolding(crate::specs::Lengths::content_size))]
+#[tactic(auto, unfolding(crate::specs::promise::Lengths::content_size))]
 pub(crate) fn content_len(elem: VarType, s: &Scalar) -> usize
     ensures value { result ≡ content_size elem s.now }
     ensures small { result ≤ max_content_bytes }
@@ -223,7 +224,7 @@ pub(crate) fn content_len(elem: VarType, s: &Scalar) -> usize
 
 /// Returns the length in bytes of a scalar's image: for a text at most six more than the text has.
 #[inline(always)]
-#[tactic(auto, unfolding(crate::specs::Lengths::scalar_size), using(crate::proofs::Lengths::scalar_sized))]
+#[tactic(auto, unfolding(crate::specs::promise::Lengths::scalar_size), using(crate::proofs::Lengths::scalar_sized))]
 pub fn scalar_image_len(s: &Scalar) -> usize
     ensures value { result ≡ length (values.scalar_format.image s.now) }
     ensures counted { result ≡ scalar_size s.now }

@@ -1,8 +1,9 @@
 //! The images of values.
 ghost use Rattle.std.specs.Prelude.{◌≡◌, ◌≤◌, length};
 ghost use Rattle.oa_formats.specs.Answers.{ReadsImage};
-ghost use Rattle.oa_formats.specs.Lengths.{max_value_image, value_size};
-ghost use Rattle.oa_formats.specs.Variants as variants;
+ghost use Rattle.oa_formats.specs.Lengths.{max_value_image};
+ghost use Rattle.oa_formats.specs.promise.Lengths.{value_size};
+ghost use Rattle.oa_formats.specs.promise.Variants as variants;
 
 use crate::array::{array_image_len, put_array, read_array};
 use crate::image::{PutImage, ReadImage};
@@ -17,7 +18,7 @@ use std::alloc::Global;
 
 /// Reads the type of a value: that of a scalar, or with VT_ARRAY that of an array's elements. Err:
 /// `Broken`.
-#[tactic(auto, unfolding(oa_ndr::specs::Reading::bind, crate::specs::Formats::coded, crate::specs::Variants::kind))]
+#[tactic(auto, unfolding(oa_ndr::specs::promise::Reading::bind, crate::specs::promise::Formats::coded, crate::specs::promise::Variants::kind))]
 fn read_kind(r: &mut Ndr<'_>) -> Result<ValueType, ReadFault>
     ensures { ReadsImage result r.new (variants.kind.read r.old) }
 {
@@ -61,7 +62,7 @@ impl PutImage for VariantFormat {
 
 /// Returns the length in bytes of a value's image. It reads each element of an array.
 #[inline(always)]
-#[tactic(auto, unfolding(crate::specs::Lengths::value_size), using(crate::proofs::Lengths::value_sized))]
+#[tactic(auto, unfolding(crate::specs::promise::Lengths::value_size), using(crate::proofs::Lengths::value_sized))]
 pub fn value_image_len(value: &Variant) -> usize
     ensures value { result ≡ length (variants.value.image value.now) }
     ensures counted { result ≡ value_size value.now }

@@ -1,6 +1,6 @@
 //! Writing numbers, GUIDs and truth values to a window. Nothing is allocated.
 ghost use Rattle.oa_formats.specs.Windows.{Adds};
-ghost use Rattle.oa_formats.specs.Numbers as numbers;
+ghost use Rattle.oa_formats.specs.promise.Numbers as numbers;
 
 use crate::OutputCursor;
 use oa_model::guid_to_wire;
@@ -14,7 +14,7 @@ pub(crate) fn put_bytes(bytes: &[u8], w: &mut OutputCursor, out: &mut [u8])
 }
 
 /// Writes a byte to a window of `out`.
-#[tactic(auto, unfolding(crate::specs::Formats::made_where, crate::specs::Formats::raw, crate::specs::Numbers::u8))]
+#[tactic(auto, unfolding(crate::specs::promise::Formats::made_where, crate::specs::promise::Formats::raw, crate::specs::promise::Numbers::u8))]
 pub fn put_u8(n: u8, w: &mut OutputCursor, out: &mut [u8])
     ensures { Adds (numbers.u8.image n) w.old w.new out.old out.new }
 {
@@ -22,7 +22,7 @@ pub fn put_u8(n: u8, w: &mut OutputCursor, out: &mut [u8])
 }
 
 /// Writes a number in 2 bytes, lowest first, to a window of `out`.
-#[tactic(auto, unfolding(crate::specs::Formats::made_where, crate::specs::Formats::raw, crate::specs::Numbers::u16))]
+#[tactic(auto, unfolding(crate::specs::promise::Formats::made_where, crate::specs::promise::Formats::raw, crate::specs::promise::Numbers::u16))]
 pub fn put_u16(n: u16, w: &mut OutputCursor, out: &mut [u8])
     ensures { Adds (numbers.u16.image n) w.old w.new out.old out.new }
 {
@@ -30,7 +30,7 @@ pub fn put_u16(n: u16, w: &mut OutputCursor, out: &mut [u8])
 }
 
 /// Writes a number in 4 bytes, lowest first, to a window of `out`.
-#[tactic(auto, unfolding(crate::specs::Formats::made_where, crate::specs::Formats::raw, crate::specs::Numbers::u32))]
+#[tactic(auto, unfolding(crate::specs::promise::Formats::made_where, crate::specs::promise::Formats::raw, crate::specs::promise::Numbers::u32))]
 pub fn put_u32(n: u32, w: &mut OutputCursor, out: &mut [u8])
     ensures { Adds (numbers.u32.image n) w.old w.new out.old out.new }
 {
@@ -38,7 +38,7 @@ pub fn put_u32(n: u32, w: &mut OutputCursor, out: &mut [u8])
 }
 
 /// Writes a number in 8 bytes, lowest first.
-#[tactic(auto, unfolding(crate::specs::Formats::made_where, crate::specs::Formats::raw, crate::specs::Numbers::u64))]
+#[tactic(auto, unfolding(crate::specs::promise::Formats::made_where, crate::specs::promise::Formats::raw, crate::specs::promise::Numbers::u64))]
 pub(crate) fn put_u64(n: u64, w: &mut OutputCursor, out: &mut [u8])
     ensures { Adds (numbers.u64.image n) w.old w.new out.old out.new }
 {
@@ -46,7 +46,7 @@ pub(crate) fn put_u64(n: u64, w: &mut OutputCursor, out: &mut [u8])
 }
 
 /// Writes a signed number in one byte.
-#[tactic(auto, unfolding(crate::specs::Formats::made_where, crate::specs::Numbers::i8))]
+#[tactic(auto, unfolding(crate::specs::promise::Formats::made_where, crate::specs::promise::Numbers::i8))]
 pub(crate) fn put_i8(n: i8, w: &mut OutputCursor, out: &mut [u8])
     ensures { Adds (numbers.i8.image n) w.old w.new out.old out.new }
 {
@@ -54,7 +54,7 @@ pub(crate) fn put_i8(n: i8, w: &mut OutputCursor, out: &mut [u8])
 }
 
 /// Writes a signed number in 2 bytes, lowest first.
-#[tactic(auto, unfolding(crate::specs::Formats::made_where, crate::specs::Numbers::i16))]
+#[tactic(auto, unfolding(crate::specs::promise::Formats::made_where, crate::specs::promise::Numbers::i16))]
 pub(crate) fn put_i16(n: i16, w: &mut OutputCursor, out: &mut [u8])
     ensures { Adds (numbers.i16.image n) w.old w.new out.old out.new }
 {
@@ -62,7 +62,7 @@ pub(crate) fn put_i16(n: i16, w: &mut OutputCursor, out: &mut [u8])
 }
 
 /// Writes a signed number in 4 bytes, lowest first, to a window of `out`.
-#[tactic(auto, unfolding(crate::specs::Formats::made_where, crate::specs::Numbers::i32))]
+#[tactic(auto, unfolding(crate::specs::promise::Formats::made_where, crate::specs::promise::Numbers::i32))]
 pub fn put_i32(n: i32, w: &mut OutputCursor, out: &mut [u8])
     ensures { Adds (numbers.i32.image n) w.old w.new out.old out.new }
 {
@@ -70,7 +70,7 @@ pub fn put_i32(n: i32, w: &mut OutputCursor, out: &mut [u8])
 }
 
 /// Writes a signed number in 8 bytes, lowest first.
-#[tactic(auto, unfolding(crate::specs::Formats::made_where, crate::specs::Numbers::i64))]
+#[tactic(auto, unfolding(crate::specs::promise::Formats::made_where, crate::specs::promise::Numbers::i64))]
 pub(crate) fn put_i64(n: i64, w: &mut OutputCursor, out: &mut [u8])
     ensures { Adds (numbers.i64.image n) w.old w.new out.old out.new }
 {
@@ -85,7 +85,7 @@ pub fn put_guid(id: &Uuid, w: &mut OutputCursor, out: &mut [u8])
 }
 
 /// Writes a truth value as one byte, 0 or 1.
-#[tactic(auto, unfolding(crate::specs::Formats::coded, crate::specs::Numbers::truth_format))]
+#[tactic(auto, unfolding(crate::specs::promise::Formats::coded, crate::specs::promise::Numbers::truth_format))]
 pub(crate) fn put_truth(b: bool, w: &mut OutputCursor, out: &mut [u8])
     ensures { Adds (numbers.truth_format.image b) w.old w.new out.old out.new }
 {

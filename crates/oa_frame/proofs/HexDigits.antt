@@ -18,7 +18,7 @@ use Rattle.hex.specs.declared.error.FromHexError.TheVariants.{InvalidHexCharacte
 use Rattle.hex.proofs.HexLemmas.{decode_of-even}
 use Rattle.oa_frame.specs.Digits.{AreDecoded, HasBadPair, HasDigitValue, HasNoDigit, IsDigitValue}
 use Rattle.hex.proofs.Pairs.{cons_byte, decode_start, decode_step, prepend}
-use Rattle.oa_stream.specs.Sink.{Output, Writes, Breaks}
+use Rattle.oa_stream.specs.promise.Sink.{Output, Writes, Breaks}
 use Rattle.oa_stream.proofs.Stretches.{writes_nothing, writes_then, breaks_after, breaks_before}
 
 encode_append : (t xs ys : List ℕ) → encode_with t (xs ++ ys) ≡ encode_with t xs ++ encode_with t ys

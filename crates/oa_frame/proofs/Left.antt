@@ -1,9 +1,9 @@
 -- What has left a writer before bodies that come alone.
 use Rattle.std.proofs.Common.{◌≡◌, ℕ, ◌+◌, ◌≤◌, Bool, true, List, [], ◌∷◌, ◌++◌, length, refl, sym, ap, ◌∙◌, arith}
 use Rattle.std.proofs.lemmas.List.{append-nil, length-append}
-use Rattle.oa_stream.specs.Sink.{Output, Writes, Breaks}
-use Rattle.oa_frame.specs.Framings.{Frames}
-use Rattle.oa_frame.specs.Sessions.{HasLeft, BodiesTurned, TurnOf, but_last, concat_replies, spelled_all}
+use Rattle.oa_stream.specs.promise.Sink.{Output, Writes, Breaks}
+use Rattle.oa_frame.specs.promise.Framings.{Frames}
+use Rattle.oa_frame.specs.promise.Sessions.{HasLeft, BodiesTurned, TurnOf, but_last, concat_replies, spelled_all}
 use Rattle.oa_frame.proofs.Spelled.{spelled_append}
 
 -- ---- replies but the last

@@ -2,9 +2,9 @@
 use Rattle.std.proofs.Common.{◌≡◌, ℕ, ◌+◌, List, [], ◌∷◌, length, Bool, refl, sym, subst, arith}
 use Rattle.oa_frame.specs.declared.ends.End.{End}
 use Rattle.oa_frame.specs.declared.ends.End.TheVariants.{ReadFault}
-use Rattle.oa_frame.specs.Framings.{Frames}
-use Rattle.oa_frame.specs.Sessions.{Bodies, CanStop, ReadTo}
-use Rattle.oa_frame.specs.Sessions.Halt.{At}
+use Rattle.oa_frame.specs.promise.Framings.{Frames}
+use Rattle.oa_frame.specs.promise.Sessions.{Bodies, CanStop, ReadTo}
+use Rattle.oa_frame.specs.promise.Sessions.Halt.{At}
 
 -- one body stands first, or one end
 pub record IsDecided (f : Frames) : Type 0 where

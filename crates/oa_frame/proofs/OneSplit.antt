@@ -2,7 +2,7 @@
 use Rattle.std.proofs.Common.{◌≡◌, ◌≢◌, ℕ, List, [], ◌∷◌, ◌++◌, length, drop, get_or, refl, sym, ap, ◌∙◌, inl, inr, arith}
 use Rattle.std.specs.List.{AllByRecursion}
 use Rattle.std.proofs.lemmas.List.Elements.{recursion_from_All}
-use Rattle.oa_frame.specs.Lines.{HasNoLineFeed, without_return, FirstLine}
+use Rattle.oa_frame.specs.promise.Lines.{HasNoLineFeed, without_return, FirstLine}
 
 abbrev pub IsFreeTo : List ℕ → Type 0
 IsFreeTo bytes = AllByRecursion (λ b. b ≢ 10) bytes

@@ -4,11 +4,11 @@ use Rattle.std.proofs.Common.{sym, ap, ◌∙◌, append_assoc, length-take-le, 
 use Rattle.std.proofs.lemmas.List.{append-nil, drop_at, length-append, length-drop}
 use lib.Seq.{take-add}
 use Rattle.std.specs.Io.KnownBytes.{Consumes, IsAtEnd}
-use Rattle.oa_model.specs.Limits.{max_request_bytes}
-use Rattle.oa_stream.specs.Source.{Input, later}
+use Rattle.oa_model.specs.promise.Limits.{max_request_bytes}
+use Rattle.oa_stream.specs.promise.Source.{Input, later}
 use Rattle.oa_frame.specs.declared.ends.End.TheVariants.{Cut, ReadFault}
-use Rattle.oa_frame.specs.Known.{Known}
-use Rattle.oa_frame.specs.Framings.{records, SaysLength}
+use Rattle.oa_frame.specs.promise.Known.{Known}
+use Rattle.oa_frame.specs.promise.Framings.{records, SaysLength}
 use Rattle.oa_frame.specs.Records.{Gets, SpendsCalls}
 use Rattle.oa_frame.specs.declared.records.Got.TheVariants.{Fault}
 use Rattle.oa_frame.specs.Paces.{Paced}

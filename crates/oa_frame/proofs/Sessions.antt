@@ -7,24 +7,29 @@ use Rattle.std.proofs.lemmas.List.{append-nil, length-append}
 use Rattle.std.proofs.lemmas.List.Elements.{All-nil, All-push}
 use Rattle.std.proofs.lemmas.List.Sums.{sum_by-append}
 use Rattle.std.specs.Io.KnownBytes.{Appends, Keeps}
-use Rattle.oa_model.specs.Limits.{max_read_calls, max_records}
-use Rattle.oa_stream.specs.Source.{Input, later}
-use Rattle.oa_stream.specs.Sink.{Output, Writes, Breaks, Puts, Delivers}
+use Rattle.oa_model.specs.promise.Limits.{max_read_calls, max_records}
+use Rattle.oa_stream.specs.promise.Source.{Input, later}
+use Rattle.oa_stream.specs.promise.Sink.{Output, Writes, Breaks}
+use Rattle.oa_stream.specs.Sink.{Puts, Delivers}
 use Rattle.oa_stream.specs.declared.sink.Unwritten.{Unwritten}
 use Rattle.oa_stream.proofs.Stretches.{writes_nothing, writes_then, breaks_after, breaks_before, tear, lost_few}
 use Rattle.oa_frame.specs.declared.ends.End.{End}
 use Rattle.oa_frame.specs.declared.ends.End.TheVariants.{ReadFault, WriteFault}
-use Rattle.oa_frame.specs.Known.{Known}
+use Rattle.oa_frame.specs.promise.Known.{Known}
 use Rattle.oa_frame.specs.declared.framing.Framing.{Framing}
 use Rattle.oa_frame.specs.declared.framing.Framing.TheVariants.{HexLines, Records}
 use Rattle.std.proofs.lemmas.Bool.{false≢true}
-use Rattle.oa_frame.specs.Framings.{Frames, frames, is_read_fault}
-use Rattle.oa_frame.specs.Paces.{HasCause, Paced}
-use Rattle.oa_frame.specs.Sessions.{TurnOf, EndOf, BodiesTurned, Bodies, ReadTo, spelled_all, concat_replies, last_reply, CallsReader, AllHaveLeft, HasLeft, WriterFails, Session}
-use Rattle.oa_frame.specs.Sessions.{HandsOn, Closes, AnswersApart, AnswersBody, AnswersBy, AnswersNext, FlushesHeld, IsParted, but_last, step, step_by}
+use Rattle.oa_frame.specs.promise.Framings.{Frames, frames, is_read_fault}
+use Rattle.oa_frame.specs.promise.Paces.{HasCause}
+use Rattle.oa_frame.specs.Paces.{Paced}
+use Rattle.oa_frame.specs.promise.Sessions.{TurnOf, EndOf, BodiesTurned, Bodies, ReadTo, spelled_all, concat_replies}
+use Rattle.oa_frame.specs.promise.Sessions.{last_reply, CallsReader, AllHaveLeft, HasLeft, WriterFails, Session}
+use Rattle.oa_frame.specs.promise.Sessions.{but_last}
+use Rattle.oa_frame.specs.Sessions.{HandsOn, Closes, AnswersApart, AnswersBody, AnswersBy, AnswersNext, FlushesHeld}
+use Rattle.oa_frame.specs.Sessions.{IsParted, step, step_by}
 use Rattle.oa_frame.specs.declared.session.Loss.{Loss}
 use Rattle.oa_frame.specs.declared.session.Loss.TheVariants as loss
-use Rattle.oa_frame.specs.Sessions.Halt.{Between, At, Undone}
+use Rattle.oa_frame.specs.promise.Sessions.Halt.{Between, At, Undone}
 use Rattle.oa_frame.proofs.Left.{breaks_more, but_few, gone_is, kept_less, left_more, left_push, torn_is, writes_more}
 use Rattle.oa_frame.proofs.Spelled.{spelled_append, joined_more, latest_more}
 

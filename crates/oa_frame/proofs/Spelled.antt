@@ -2,9 +2,10 @@
 use Rattle.std.proofs.Common.{◌≡◌, ℕ, false, List, [], ◌∷◌, ◌++◌, Result, refl, sym, append_assoc}
 use Rattle.std.proofs.lemmas.List.{append-nil}
 use Rattle.oa_stream.specs.declared.sink.Unwritten.{Unwritten}
-use Rattle.oa_stream.specs.Sink.{Output, Writes, Puts}
+use Rattle.oa_stream.specs.promise.Sink.{Output, Writes}
+use Rattle.oa_stream.specs.Sink.{Puts}
 use Rattle.oa_stream.proofs.Stretches.{writes_nothing}
-use Rattle.oa_frame.specs.Sessions.{spelled_all, concat_replies, latest}
+use Rattle.oa_frame.specs.promise.Sessions.{spelled_all, concat_replies, latest}
 
 pub spelled_append : (s : List ℕ → List ℕ) (xs ys : List (List ℕ)) → spelled_all s (xs ++ ys) ≡ spelled_all s xs ++ spelled_all s ys
 unfolding spelled_all

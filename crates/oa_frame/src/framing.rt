@@ -2,7 +2,8 @@
 ghost use Rattle.std.specs.Prelude.{length, vec_capacity};
 ghost use Rattle.oa_stream.specs.BufferedSource.{ahead, passed};
 ghost use Rattle.oa_frame.specs.Beginnings.{AreUnbroken, HoldLongest, KeepPlaces};
-ghost use Rattle.oa_frame.specs.Framings.{GrowsTo, Hands, Inputs, IsBodyAt, frames, ends_in_read_fault};
+ghost use Rattle.oa_frame.specs.Framings.{GrowsTo, Hands, Inputs, IsBodyAt, ends_in_read_fault};
+ghost use Rattle.oa_frame.specs.promise.Framings.{frames};
 ghost use Rattle.oa_frame.specs.Paces.{Paced};
 
 use crate::End;

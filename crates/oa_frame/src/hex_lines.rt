@@ -2,12 +2,14 @@
 ghost use Rattle.std.specs.Prelude.{◌≡◌, ◌<◌, ◌≤◌, ◌+◌, ◌*◌, ◌%◌, ℕ, true, false, length, slice_index, take, vec_capacity};
 ghost use Rattle.std.specs.Prelude.{Ok, IfSome, IsErr, IsNone};
 ghost use Rattle.hex.specs.Hex.{decode_of, pair_value};
-ghost use Rattle.oa_model.specs.Limits.{max_request_bytes};
+ghost use Rattle.oa_model.specs.promise.Limits.{max_request_bytes};
 ghost use Rattle.oa_stream.specs.BufferedSource.{ahead, passed};
 ghost use Rattle.oa_frame.specs.Beginnings.{AreUnbroken, HoldLongest};
 ghost use Rattle.oa_frame.specs.Digits.{AreDecoded, HasBadPair, HasDigitValue, HasNoDigit, IsDigitValue};
-ghost use Rattle.oa_frame.specs.Lines.{DecodesLine, without_return};
-ghost use Rattle.oa_frame.specs.Framings.{GrowsTo, Hands, Inputs, IsBodyAt, hex_lines, ends_in_read_fault};
+ghost use Rattle.oa_frame.specs.Lines.{DecodesLine};
+ghost use Rattle.oa_frame.specs.promise.Lines.{without_return};
+ghost use Rattle.oa_frame.specs.Framings.{GrowsTo, Hands, Inputs, IsBodyAt, ends_in_read_fault};
+ghost use Rattle.oa_frame.specs.promise.Framings.{hex_lines};
 ghost use Rattle.oa_frame.specs.Paces.{Paced};
 
 use crate::buffer::lengthen;

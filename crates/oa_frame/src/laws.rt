@@ -3,10 +3,10 @@ ghost use Rattle.std.specs.Prelude.{◌≡◌, ℕ, Bool, List, length};
 ghost use Rattle.oa_frame.specs.declared.ends.End.{End as AnEnd};
 ghost use Rattle.oa_frame.specs.declared.ends.End.TheVariants.{ReadFault};
 ghost use Rattle.oa_frame.specs.declared.framing.Framing.{Framing as AFraming};
-ghost use Rattle.oa_frame.specs.Framings.{frames};
-ghost use Rattle.oa_frame.specs.Lines.{FirstLine};
-ghost use Rattle.oa_frame.specs.Sessions.{CanStop, ReadTo};
-ghost use Rattle.oa_frame.specs.Sessions.Halt.{At};
+ghost use Rattle.oa_frame.specs.promise.Framings.{frames};
+ghost use Rattle.oa_frame.specs.promise.Lines.{FirstLine};
+ghost use Rattle.oa_frame.specs.promise.Sessions.{CanStop, ReadTo};
+ghost use Rattle.oa_frame.specs.promise.Sessions.Halt.{At};
 
 /// Bytes have one first line, and one rest after it.
 pub fn one_line()

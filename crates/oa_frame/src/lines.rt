@@ -1,10 +1,11 @@
 //! Reading lines.
 ghost use Rattle.std.specs.Prelude.{◌≡◌, ◌≤◌, ◌+◌, ◌++◌, false, length, vec_capacity};
-ghost use Rattle.oa_model.specs.Limits.{max_line_characters};
+ghost use Rattle.oa_model.specs.promise.Limits.{max_line_characters};
 ghost use Rattle.oa_stream.specs.BufferedSource.{ahead, read_ahead};
-ghost use Rattle.oa_stream.specs.Sink.{IsHandedOn};
-ghost use Rattle.oa_frame.specs.Known.{Known};
-ghost use Rattle.oa_frame.specs.Lines.{FindsLine, FindsAtEnd, TakesPieces, is_lost, without_return};
+ghost use Rattle.oa_stream.specs.promise.Sink.{IsHandedOn};
+ghost use Rattle.oa_frame.specs.promise.Known.{Known};
+ghost use Rattle.oa_frame.specs.Lines.{FindsLine, FindsAtEnd, TakesPieces, is_lost};
+ghost use Rattle.oa_frame.specs.promise.Lines.{without_return};
 ghost use Rattle.oa_frame.specs.Paces.{Paced};
 ghost use Rattle.oa_frame.specs.declared.lines.Found.TheVariants as Found;
 

@@ -1,12 +1,13 @@
 //! Bodies as records of a length and that many bytes.
 ghost use Rattle.std.specs.Prelude.{◌≡◌, ◌≤◌, ◌<◌, ◌+◌, ℕ, List, Option, false, drop, length, take, vec_capacity, IfSome};
 ghost use Rattle.std.specs.Io.KnownBytes.{Consumes};
-ghost use Rattle.oa_model.specs.Limits.{max_request_bytes};
+ghost use Rattle.oa_model.specs.promise.Limits.{max_request_bytes};
 ghost use Rattle.oa_stream.specs.BufferedSource.{TakesAhead, ahead, passed, read_ahead};
-ghost use Rattle.oa_stream.specs.Sink.{IsHandedOn};
-ghost use Rattle.oa_stream.specs.Source.{Input};
+ghost use Rattle.oa_stream.specs.promise.Sink.{IsHandedOn};
+ghost use Rattle.oa_stream.specs.promise.Source.{Input};
 ghost use Rattle.oa_frame.specs.Beginnings.{AreUnbroken};
-ghost use Rattle.oa_frame.specs.Framings.{GrowsTo, Hands, Inputs, WriterStands, IsBodyAt, SaysLength, ends_in_read_fault, records};
+ghost use Rattle.oa_frame.specs.Framings.{GrowsTo, Hands, Inputs, WriterStands, IsBodyAt, ends_in_read_fault};
+ghost use Rattle.oa_frame.specs.promise.Framings.{SaysLength, records};
 ghost use Rattle.oa_frame.specs.Paces.{Paced};
 ghost use Rattle.oa_frame.specs.Records.{Fetches, Gets, MayCall, SpendsCalls, is_gone};
 

@@ -1,12 +1,15 @@
 //! Sessions over a reader and a writer.
 ghost use Rattle.std.specs.Prelude.{◌≡◌, ◌≤◌, ℕ, Bool, List, false, true, length, vec_capacity};
 ghost use Rattle.oa_stream.specs.BufferedSource.{ahead, passed};
-ghost use Rattle.oa_stream.specs.Sink.{IsHandedOn, Puts};
+ghost use Rattle.oa_stream.specs.promise.Sink.{IsHandedOn};
+ghost use Rattle.oa_stream.specs.Sink.{Puts};
 ghost use Rattle.oa_frame.specs.Beginnings.{AreUnbroken, HoldLongest};
-ghost use Rattle.oa_frame.specs.Framings.{IsBodyAt, body_of_read, frames};
+ghost use Rattle.oa_frame.specs.Framings.{IsBodyAt, body_of_read};
+ghost use Rattle.oa_frame.specs.promise.Framings.{frames};
 ghost use Rattle.oa_frame.specs.declared.framing.Read.TheVariants.{Body};
-ghost use Rattle.oa_frame.specs.Sessions.{AnswersBody, AnswersNext, AnswersOwn, Closes, DropsHeld, FlushesHeld, HandsOn};
-ghost use Rattle.oa_frame.specs.Sessions.{HasEnded, IsParted, Session, is_answered, last_reply, spelled_all, step};
+ghost use Rattle.oa_frame.specs.Sessions.{AnswersBody, AnswersNext, AnswersOwn, Closes, DropsHeld, FlushesHeld};
+ghost use Rattle.oa_frame.specs.Sessions.{HandsOn, HasEnded, IsParted, step};
+ghost use Rattle.oa_frame.specs.promise.Sessions.{Session, is_answered, last_reply, spelled_all};
 
 use crate::writing::put_reply;
 use crate::{End, Framing, Read, read_body};

@@ -3,7 +3,7 @@ ghost use Rattle.std.specs.Prelude.{◌≡◌, ◌<◌, ◌≤◌, ◌+◌, ◌*
 ghost use Rattle.std.specs.Int.{to_le_bytes, w32};
 ghost use Rattle.hex.specs.Hex.{encode_lower, lower_digits};
 ghost use Rattle.oa_stream.specs.Sink.{Puts};
-ghost use Rattle.oa_frame.specs.Framings.{frames};
+ghost use Rattle.oa_frame.specs.promise.Framings.{frames};
 
 use crate::Framing;
 use oa_stream::{Sink, Unwritten};

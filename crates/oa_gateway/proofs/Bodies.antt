@@ -3,10 +3,11 @@ use Rattle.std.proofs.Common.{◌≡◌, ◌⊎◌, inl, inr, ◌<◌, ◌≤◌
 use Rattle.std.proofs.lemmas.List.{append-nil, length-drop, length-take-le, take-append-drop}
 use Rattle.std.proofs.Math.Seq.{take-add}
 use Rattle.std.specs.Int.{w32, from_le_bytes}
-use Rattle.oa_model.specs.Limits.{max_request_bytes}
-use Rattle.oa_frame.specs.Framings.{NextRecord, records}
-use Rattle.oa_frame.specs.Sessions.{Bodies}
-use Rattle.oa_mux.specs.Readers.{IsPartRecord, IsWholeRecord, said}
+use Rattle.oa_model.specs.promise.Limits.{max_request_bytes}
+use Rattle.oa_frame.specs.promise.Framings.{NextRecord, records}
+use Rattle.oa_frame.specs.promise.Sessions.{Bodies}
+use Rattle.oa_mux.specs.Readers.{IsPartRecord, IsWholeRecord}
+use Rattle.oa_mux.specs.promise.Readers.{said}
 use Rattle.oa_gateway.specs.WholeRequests.{AreRequests, EndsRequests}
 
 -- a body and what follows it, and some bytes more

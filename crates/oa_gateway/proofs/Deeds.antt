@@ -1,6 +1,7 @@
 -- What a call does with a number.
 use Rattle.std.proofs.Common.{◌≡◌, ◌<◌, ◌≤◌, ℕ, ◌+◌, List, [], ◌∷◌, length, take, refl, sym, ap, ◌∙◌, subst, inl, inr, arith}
-use Rattle.oa_mux.specs.Marks.{StreamPiece, Last, pieces}
+use Rattle.oa_mux.specs.promise.Marks.{StreamPiece, Last}
+use Rattle.oa_mux.specs.Marks.{pieces}
 use Rattle.oa_gateway.specs.Frames.{PutsDeed, SpellsFrames, gateway_number}
 use Rattle.oa_gateway.specs.Places.{Closes, Deed, Leaves, MayDo, Number, Sends, owes, puts, stands}
 use Rattle.oa_gateway.specs.declared.place.Standing.{Standing}

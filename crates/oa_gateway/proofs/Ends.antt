@@ -2,7 +2,8 @@
 use Rattle.std.proofs.Common.{◌≡◌, ◌<◌, ℕ, zero, suc, ◌+◌, ◌-◌, Bool, true, false, if◌then◌else◌, List, [], ◌∷◌, ◌++◌, refl, arith}
 use Rattle.std.specs.Prelude.{◌==◌}
 use Rattle.std.proofs.lemmas.Bool.{eqb-true}
-use Rattle.oa_mux.specs.Marks.{StreamPiece, Last, pieces}
+use Rattle.oa_mux.specs.promise.Marks.{StreamPiece, Last}
+use Rattle.oa_mux.specs.Marks.{pieces}
 use Rattle.oa_gateway.specs.Places.{Closes, Deed, Hears, HearsEnd, Leaves, Number, Sends, Wrong, after_deed, deed_outcome, owes, puts, stands}
 use Rattle.oa_gateway.specs.Traces.{IsSound, after_deeds, all_owed, ends_by, ends_heard, ends_sent, own_end, stream}
 use Rattle.oa_gateway.specs.declared.place.Standing.{Standing}

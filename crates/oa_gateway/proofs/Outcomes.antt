@@ -6,7 +6,7 @@ use Rattle.std.proofs.lemmas.Bool.{cases_lt}
 use Rattle.std.proofs.lemmas.List.{append_assoc, drop-drop, get_or-drop, get_or-take, get_or_past, length-drop, length-take-le, set-get_or, take-append-drop}
 use Rattle.std.proofs.lemmas.Nat.{le_bytes_4}
 use Rattle.std.proofs.lemmas.Option.{slice_get-get_or}
-use Rattle.oa_mux.specs.Frames.{frame_of}
+use Rattle.oa_mux.specs.promise.Frames.{frame_of}
 use Rattle.oa_gateway.specs.Frames.{gateway_number}
 use Rattle.oa_gateway.specs.Hearing.{what_of, FirstFrame, HeardEnd, HeardReplies, Hearing, HearsAt, HearsFrame, IsNobodys, deed_of}
 use Rattle.oa_gateway.specs.Places.{Deed, Dropped, Ended, Given, Hears, HearsEnd, Number, Told, Wrong, after_deed, deed_outcome, hears_own, hears_own_end, place_number}

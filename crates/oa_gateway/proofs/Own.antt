@@ -1,8 +1,9 @@
 -- What is done with one number, among all.
 use Rattle.std.proofs.Common.{◌≡◌, ◌≢◌, ℕ, Bool, true, false, if◌then◌else◌, List, [], ◌∷◌, ◌++◌, refl, sym, ap, ◌∙◌, eqb, append_assoc}
 use Rattle.std.proofs.lemmas.Bool.{eqb-true}
-use Rattle.oa_mux.specs.Frames.{InHead, pieces_in}
-use Rattle.oa_mux.specs.Marks.{StreamPiece, Tagged, Of, Flush, States, if_own, tag_all, own, with_state_at}
+use Rattle.oa_mux.specs.promise.Frames.{InHead, pieces_in}
+use Rattle.oa_mux.specs.promise.Marks.{StreamPiece, Tagged, Of, Flush, States, tag_all, with_state_at}
+use Rattle.oa_mux.specs.Marks.{if_own, own}
 use Rattle.oa_gateway.specs.Frames.{gateway_number}
 use Rattle.oa_gateway.specs.Places.{Deed, Number, after_deed, puts}
 use Rattle.oa_gateway.specs.Traces.{Says, stream, streams}

@@ -5,8 +5,9 @@ use Rattle.std.proofs.lemmas.Slice.{take-put_mid}
 use Rattle.std.proofs.Math.Seq.{take-add}
 use Rattle.std.specs.Int.{w32, to_le_bytes}
 use borrow.Rule.Slice.PartMut.{put_mid}
-use Rattle.oa_mux.specs.Frames.{InHead, all_clients, frame_head, frame_of, max_frame_bytes, pieces_in}
-use Rattle.oa_mux.specs.Marks.{StreamPiece, Byte, Last, Flush, Of, tag_all, pieces}
+use Rattle.oa_mux.specs.promise.Frames.{InHead, all_clients, frame_head, frame_of, max_frame_bytes, pieces_in}
+use Rattle.oa_mux.specs.promise.Marks.{StreamPiece, Byte, Last, Flush, Of, tag_all}
+use Rattle.oa_mux.specs.Marks.{pieces}
 use Rattle.oa_gateway.specs.Frames.{SpellsFrames, gateway_number}
 
 -- what the laws of frames say

@@ -2,7 +2,8 @@
 use Rattle.std.proofs.Common.{◌≡◌, inl, inr, ℕ, Bool, true, false, if◌then◌else◌, List, [], ◌∷◌, ◌++◌, refl, sym, ap, ◌∙◌, subst, append_assoc}
 use Rattle.std.specs.Prelude.{◌==◌}
 use Rattle.std.proofs.lemmas.List.{append-nil}
-use Rattle.oa_mux.specs.Marks.{StreamPiece, Byte, Last, pieces}
+use Rattle.oa_mux.specs.promise.Marks.{StreamPiece, Byte, Last}
+use Rattle.oa_mux.specs.Marks.{pieces}
 use Rattle.oa_gateway.specs.Places.{Closes, Deed, Hears, HearsEnd, Leaves, MayDo, Number, Sends, after_deed, puts, stands}
 use Rattle.oa_gateway.specs.Traces.{AllMayBeDone, IsItsStream, IsWholeStream, StaysPresent, StaysThere, after_deeds, sent, sent_by, stream}
 use Rattle.oa_gateway.specs.declared.place.Standing.{Standing}

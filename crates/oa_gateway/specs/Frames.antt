@@ -1,7 +1,7 @@
 -- The bytes that the gateway puts into the stream to the server. (This project's choice.)
 use Rattle.std.specs.Prelude.{◌≡◌, ◌<◌, ◌≤◌, ℕ, ◌+◌, ◌*◌, ◌/◌, List, [], ◌++◌, length, take}
-use Rattle.oa_mux.specs.Frames.{InHead, max_frame_bytes, pieces_in}
-use Rattle.oa_mux.specs.Marks.{StreamPiece, tag_all}
+use Rattle.oa_mux.specs.promise.Frames.{InHead, max_frame_bytes, pieces_in}
+use Rattle.oa_mux.specs.promise.Marks.{StreamPiece, tag_all}
 use Rattle.oa_gateway.specs.Places.{Deed, MayDo, Number, after_deed, puts}
 
 -- After a batch the gateway itself ends as a client with this number. Its end is answered after all

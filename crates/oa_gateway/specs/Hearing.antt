@@ -2,7 +2,7 @@
 use Rattle.std.specs.Prelude.{◌≡◌, ◌⊎◌, ◌<◌, ◌≤◌, ℕ, ◌+◌, List, [], ◌∷◌, ◌++◌, length, take, drop, Some}
 use Rattle.std.specs.Prelude.{slice_get, slice_set}
 use Rattle.std.specs.Int.{w32, from_le_bytes}
-use Rattle.oa_mux.specs.Frames.{frame_of}
+use Rattle.oa_mux.specs.promise.Frames.{frame_of}
 use Rattle.oa_gateway.specs.Frames.{gateway_number}
 use Rattle.oa_gateway.specs.Places.{Deed, Dropped, Ended, Given, Hears, HearsEnd, Number, Told, Wrong, after_deed}
 use Rattle.oa_gateway.specs.Places.{place_number}

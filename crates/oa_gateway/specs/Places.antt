@@ -2,7 +2,8 @@
 -- (This project's choice.)
 use Rattle.std.specs.Prelude.{◌≡◌, ◌⊎◌, ◌<◌, ℕ, ◌+◌, ◌-◌, ◌==◌, if◌then◌else◌, List, [], ◌∷◌, length}
 use Rattle.std.specs.Prelude.{slice_index_or, ⊤}
-use Rattle.oa_mux.specs.Marks.{StreamPiece, Last, pieces}
+use Rattle.oa_mux.specs.promise.Marks.{StreamPiece, Last}
+use Rattle.oa_mux.specs.Marks.{pieces}
 use Rattle.oa_gateway.specs.declared.place.NumberState.{NumberState}
 use Rattle.oa_gateway.specs.declared.place.Standing.{Standing}
 use Rattle.oa_gateway.specs.declared.place.Standing.TheVariants.{Absent, Present, Ending, Over}

@@ -1,7 +1,8 @@
 -- Numbers over any list of deeds. (This project's choice.)
 use Rattle.std.specs.Prelude.{◌≡◌, ◌⊎◌, ℕ, zero, suc, ◌+◌, List, [], ◌∷◌, ◌++◌, ⊤}
-use Rattle.oa_mux.specs.Frames.{InHead, pieces_in}
-use Rattle.oa_mux.specs.Marks.{Byte, Flush, Last, Of, States, StreamPiece, Tagged, pieces, tag_all, with_state_at}
+use Rattle.oa_mux.specs.promise.Frames.{InHead, pieces_in}
+use Rattle.oa_mux.specs.promise.Marks.{Byte, Flush, Last, Of, States, StreamPiece, Tagged, tag_all, with_state_at}
+use Rattle.oa_mux.specs.Marks.{pieces}
 use Rattle.oa_gateway.specs.Frames.{gateway_number}
 use Rattle.oa_gateway.specs.Places.{Closes, Deed, Dropped, Ended, Given, Hears, HearsEnd, Leaves, MayDo, Number, Sends}
 use Rattle.oa_gateway.specs.Places.{Told, Wrong, after_deed, deed_outcome, puts}

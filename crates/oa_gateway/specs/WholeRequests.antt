@@ -1,9 +1,10 @@
 -- Which of a client's bytes are whole requests. (This project's choice.)
 use Rattle.std.specs.Prelude.{◌≡◌, ◌⊎◌, ◌<◌, ◌≤◌, ℕ, Bool, true, false, List, [], length, take, drop}
-use Rattle.oa_frame.specs.Framings.{records}
-use Rattle.oa_frame.specs.Sessions.{Bodies}
-use Rattle.oa_model.specs.Limits.{max_request_bytes}
-use Rattle.oa_mux.specs.Readers.{IsPartRecord, IsWholeRecord, said}
+use Rattle.oa_frame.specs.promise.Framings.{records}
+use Rattle.oa_frame.specs.promise.Sessions.{Bodies}
+use Rattle.oa_model.specs.promise.Limits.{max_request_bytes}
+use Rattle.oa_mux.specs.Readers.{IsPartRecord, IsWholeRecord}
+use Rattle.oa_mux.specs.promise.Readers.{said}
 use Rattle.oa_gateway.specs.declared.requests.Next.{Next}
 use Rattle.oa_gateway.specs.declared.requests.Next.TheVariants as next
 

@@ -1,7 +1,8 @@
 //! Frames for the server.
 ghost use Rattle.std.specs.Prelude.{◌≡◌, ◌<◌, ◌≤◌, ◌+◌, ◌∷◌, [], ◌++◌, length, take, ℕ, List, IfSome, IsNone};
-ghost use Rattle.oa_mux.specs.Frames.{InHead, all_clients, frame_of, max_frame_bytes, pieces_in};
-ghost use Rattle.oa_mux.specs.Marks.{Flush, Last, Of, pieces};
+ghost use Rattle.oa_mux.specs.promise.Frames.{InHead, all_clients, frame_of, max_frame_bytes, pieces_in};
+ghost use Rattle.oa_mux.specs.promise.Marks.{Flush, Last, Of};
+ghost use Rattle.oa_mux.specs.Marks.{pieces};
 ghost use Rattle.oa_gateway.specs.Frames.{SpellsFrames, gateway_number, room_for};
 
 use oa_mux::laws::frames_are_read;

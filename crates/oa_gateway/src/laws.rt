@@ -2,8 +2,10 @@
 //! the calls of this crate may do, one after another, with one number or with all.
 ghost use Rattle.std.specs.Prelude.{◌≡◌, ◌≢◌, ◌⊎◌, ◌↔◌, ◌<◌, ◌≤◌, ℕ, ◌/◌, Bool, ◌+◌, ◌∷◌, ◌++◌, List, [], None, length, map, true, false};
 ghost use Rattle.oa_frame.specs.declared.ends.End.TheVariants.{Closed};
-ghost use Rattle.oa_mux.specs.Marks.{Last, States, StreamPiece, Tagged, own, pieces};
-ghost use Rattle.oa_mux.specs.Readers.{Body, Ends, brought_in, records_of};
+ghost use Rattle.oa_mux.specs.promise.Marks.{Last, States, StreamPiece, Tagged};
+ghost use Rattle.oa_mux.specs.Marks.{own, pieces};
+ghost use Rattle.oa_mux.specs.promise.Readers.{Body, Ends, records_of};
+ghost use Rattle.oa_mux.specs.Readers.{brought_in};
 ghost use Rattle.oa_gateway.specs.Beginnings.{BeginsSoon, IsFree};
 ghost use Rattle.oa_gateway.specs.Disconnects.{gives_way, judged};
 ghost use Rattle.oa_gateway.specs.Exclusive.{AllAreHolders, HasNext, WaitsFor, behind_batch, behind_holder, waits, whose};

@@ -6,8 +6,8 @@
 #![tactic(auto)]
 
 ghost use Rattle.std.specs.Prelude.{◌≡◌, ◌<◌, ◌≤◌, ◌∷◌, ◌++◌, [], ℕ, List, Bool, true, false, length, take, slice_get, slice_index, Some, None};
-ghost use Rattle.oa_mux.specs.Frames.{InHead, pieces_in};
-ghost use Rattle.oa_mux.specs.Marks.{Flush, Last, Of};
+ghost use Rattle.oa_mux.specs.promise.Frames.{InHead, pieces_in};
+ghost use Rattle.oa_mux.specs.promise.Marks.{Flush, Last, Of};
 ghost use Rattle.oa_gateway.specs.Beginnings.{begins};
 ghost use Rattle.oa_gateway.specs.Disconnects.{AllHaveRead, IsHeaviest, gives_way, judged};
 ghost use Rattle.oa_gateway.specs.Exclusive.{behind_batch, behind_holder, waiting_in, whose};

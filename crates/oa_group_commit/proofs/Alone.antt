@@ -4,12 +4,10 @@ use Rattle.std.proofs.Common.{length, map, refl, sym, ◌∙◌, ap, subst, arit
 use Rattle.std.proofs.lemmas.List.{append-nil, map-append}
 use Rattle.oa_disk.specs.declared.disk.Disk.{Ghosts}
 use Rattle.oa_store.specs.declared.store.Store.{Store}
-use Rattle.oa_group_commit.specs.GroupStates.{GroupState, IsBarrierAnswered}
-use Rattle.oa_group_commit.specs.Faults.{IsWholeBefore}
+use Rattle.oa_group_commit.specs.promise.Groups.{GroupState, IsBarrierAnswered, IsWholeBefore, concat_groups, events_in}
+use Rattle.oa_group_commit.specs.promise.Groups.{AllHoldState, CallsFor, HoldsPrefix, HoldsState, IsRun, Sequentially}
+use Rattle.oa_group_commit.specs.promise.Groups.{Trace, Exchange, StateMachine, body_of, reply_of}
 use Rattle.oa_group_commit.specs.Invariants.{IsCut, HealthyGroups, FailedGroups}
-use Rattle.oa_group_commit.specs.Groups.{concat_groups, events_in}
-use Rattle.oa_group_commit.specs.Runs.{AllHoldState, CallsFor, HoldsPrefix, HoldsState, IsRun, Sequentially, Trace}
-use Rattle.oa_group_commit.specs.StateMachines.{Exchange, StateMachine, body_of, reply_of}
 use Rattle.oa_group_commit.proofs.Called.{calls_none, turn_push}
 use Rattle.oa_group_commit.proofs.Entries.{IsCutBefore, apart_group, cut_apart, cut_before, either, joined_push, no_entry, run_append, run_one}
 use Rattle.oa_group_commit.proofs.Running.{after_all, after_fewer, after_more, run_more, run_on}

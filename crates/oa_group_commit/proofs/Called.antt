@@ -1,9 +1,8 @@
 -- Which requests call for the device, and groups one after another on it.
 use Rattle.std.proofs.Common.{◌≡◌, ◌⊎◌, inl, inr, ◌<◌, List, [], ◌∷◌, ◌++◌, length, refl, sym, ◌∙◌, ap, subst, arith, length-append}
 use Rattle.std.proofs.Common.{append_assoc}
-use Rattle.oa_group_commit.specs.Groups.{events_in}
-use Rattle.oa_group_commit.specs.Runs.{CallsFor, MakesEvent, Sequentially, Trace}
-use Rattle.oa_group_commit.specs.StateMachines.{Exchange, StateMachine}
+use Rattle.oa_group_commit.specs.promise.Groups.{events_in, CallsFor, MakesEvent, Sequentially, Trace, Exchange}
+use Rattle.oa_group_commit.specs.promise.Groups.{StateMachine}
 use Rattle.oa_group_commit.proofs.Entries.{run_append}
 
 pub none_or_some : {X : Type 0} (xs : List X) → (length xs ≡ 0) ⊎ (0 < length xs)

@@ -4,12 +4,11 @@ use Rattle.std.proofs.Common.{false, true≢false, List, [], ◌∷◌, ◌++◌
 use Rattle.std.proofs.lemmas.List.{append-nil}
 use Rattle.oa_disk.specs.declared.disk.Disk.{Ghosts}
 use Rattle.oa_store.specs.declared.store.Store.{Store}
-use Rattle.oa_group_commit.specs.Groups.{concat_groups}
+use Rattle.oa_group_commit.specs.promise.Groups.{concat_groups, HoldsPrefix, HoldsState, IsRun, Trace, IsServed}
+use Rattle.oa_group_commit.specs.promise.Groups.{AnsweredCall, ServesCalls, IsCalled, IsSession, OpenSession, Exchange}
+use Rattle.oa_group_commit.specs.promise.Groups.{StateMachine}
 use Rattle.oa_group_commit.specs.Laws.{LateCallCounts, OneFault, OpeningBegins, StopIsLink}
-use Rattle.oa_group_commit.specs.Runs.{HoldsPrefix, HoldsState, IsRun, Trace}
-use Rattle.oa_group_commit.specs.Served.{IsServed}
-use Rattle.oa_group_commit.specs.Sessions.{by_then, AnsweredCall, ServesCalls, IsCalled, IsSession, OpenSession}
-use Rattle.oa_group_commit.specs.StateMachines.{Exchange, StateMachine}
+use Rattle.oa_group_commit.specs.Sessions.{by_then}
 use Rattle.oa_group_commit.proofs.Entries.{joined_two, run_append}
 use Rattle.oa_group_commit.proofs.Running.{after_all, one_moment, run_joined}
 

@@ -2,13 +2,12 @@
 use Rattle.std.proofs.Common.{◌≡◌, ◌⊎◌, inl, inr, ℕ, ◌+◌, ◌*◌, ◌≤◌, true, false, IsTrue, List, [], ◌∷◌, ◌++◌, length, ap, ◌∙◌, subst, arith, length-append}
 use Rattle.std.proofs.Math.Nat.{add-mul}
 use Rattle.oa_disk.specs.declared.disk.Disk.{Ghosts}
-use Rattle.oa_journal.specs.Shapes.{body_bytes}
+use Rattle.oa_journal.specs.promise.Bank.{body_bytes}
 use Rattle.oa_journal.specs.declared.shape.BankFormat.{BankFormat}
-use Rattle.oa_store.specs.Calls.{most_checkpoint_calls}
+use Rattle.oa_store.specs.promise.Stores.{most_checkpoint_calls}
 use Rattle.oa_store.specs.declared.store.Store.{Store}
-use Rattle.oa_group_commit.specs.Counts.{CallsForRequests}
-use Rattle.oa_group_commit.specs.GroupStates.{GroupState, IsAdmitted, IsAfterFault, IsApart, IsEnded, IsFlushed}
-use Rattle.oa_group_commit.specs.StateMachines.{StateMachine}
+use Rattle.oa_group_commit.specs.promise.Groups.{CallsForRequests, GroupState, IsAdmitted, IsAfterFault, IsApart}
+use Rattle.oa_group_commit.specs.promise.Groups.{IsEnded, IsFlushed, StateMachine}
 use Rattle.oa_group_commit.proofs.Entries.{either}
 
 added : (before mid now one two most : ℕ) → mid ≤ before + one → now ≤ mid + two → one + two ≤ most → now ≤ before + most

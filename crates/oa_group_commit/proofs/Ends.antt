@@ -3,15 +3,12 @@ use Rattle.std.proofs.Common.{◌≡◌, ◌⊎◌, inl, inr, ℕ, true, false, 
 use Rattle.std.proofs.lemmas.List.{append-nil}
 use Rattle.oa_disk.specs.declared.disk.Disk.{Ghosts}
 use Rattle.oa_store.specs.declared.store.Store.{Store}
-use Rattle.oa_group_commit.specs.Counts.{CallsForRequests}
-use Rattle.oa_group_commit.specs.GroupStates.{GroupState, IsEnded}
-use Rattle.oa_group_commit.specs.Faults.{IsFaultIn, IsWholeBefore}
+use Rattle.oa_group_commit.specs.promise.Groups.{CallsForRequests, GroupState, IsEnded, IsFaultIn, IsWholeBefore}
+use Rattle.oa_group_commit.specs.promise.Groups.{concat_groups, groups_of, rest_of, AllHoldState, CallsFor, IsRun}
+use Rattle.oa_group_commit.specs.promise.Groups.{Sequentially, Trace, IsServed, Exchange, StateMachine, body_of}
+use Rattle.oa_group_commit.specs.promise.Groups.{reply_of}
 use Rattle.oa_group_commit.specs.Invariants.{FailedGroups, GroupInvariant, HealthyGroups, IsCut, IsNextGroup}
-use Rattle.oa_group_commit.specs.Groups.{concat_groups, groups_of, rest_of}
-use Rattle.oa_group_commit.specs.Runs.{AllHoldState, CallsFor, IsRun, Sequentially, Trace}
-use Rattle.oa_group_commit.specs.Served.{IsServed}
-use Rattle.oa_store.specs.Writing.{DeviceFrame}
-use Rattle.oa_group_commit.specs.StateMachines.{Exchange, StateMachine, body_of, reply_of}
+use Rattle.oa_store.specs.promise.Writing.{DeviceFrame}
 use Rattle.oa_group_commit.proofs.Called.{calls_none}
 use Rattle.oa_group_commit.proofs.Counted.{all_calls}
 use Rattle.oa_group_commit.proofs.Entries.{IsEnd, cut_last, either, ends_after, group_ends, joined_push, no_entry, run_append, some_entry}

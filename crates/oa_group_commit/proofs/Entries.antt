@@ -3,17 +3,16 @@ use Rattle.std.proofs.Common.{◌≡◌, ◌≢◌, ◌⊎◌, inl, inr, ℕ, �
 use Rattle.std.proofs.Common.{Err, refl, sym, ◌∙◌, ap, subst, arith, append_assoc}
 use Rattle.std.proofs.lemmas.List.{append-nil}
 use Rattle.std.specs.List.{AllByRecursion, flat_map}
-use Rattle.oa_image.specs.Events.{event}
-use Rattle.oa_journal.specs.Replays.{Replays, applied_all, followed}
-use Rattle.oa_table.specs.Events.{applied}
-use Rattle.oa_table.specs.Tables.{TableValue}
+use Rattle.oa_image.specs.promise.Events.{event}
+use Rattle.oa_journal.specs.promise.Bank.{Replays, applied_all, followed}
+use Rattle.oa_table.specs.promise.Events.{applied}
+use Rattle.oa_table.specs.promise.Tables.{TableValue}
 use Rattle.oa_table.specs.declared.event.Event.{Event}
 use Rattle.oa_table.specs.declared.fault.TableFault.{TableFault}
 use Rattle.oa_group_commit.specs.Invariants.{IsCut, IsNextGroup}
-use Rattle.oa_group_commit.specs.Groups.{events_in, is_full, rest_of, cut, groups_of, concat_groups}
-use Rattle.oa_group_commit.specs.Runs.{Trace}
+use Rattle.oa_group_commit.specs.promise.Groups.{events_in, is_full, rest_of, cut, groups_of, concat_groups, Trace}
+use Rattle.oa_group_commit.specs.promise.Groups.{Exchange, StateMachine, reply_of}
 use Rattle.oa_group_commit.specs.Simple.{no_event}
-use Rattle.oa_group_commit.specs.StateMachines.{Exchange, StateMachine, reply_of}
 
 -- events and then more of them
 all_append : (front back : List Event) → AllByRecursion event.Is front → AllByRecursion event.Is back → AllByRecursion event.Is (front ++ back)

@@ -3,12 +3,9 @@ use Rattle.std.proofs.Common.{◌≡◌, inl, inr, ℕ, IsTrue, List, [], ◌∷
 use Rattle.std.proofs.Common.{length, map, sym, ◌∙◌, ap, subst, append_assoc}
 use Rattle.std.proofs.lemmas.List.{map-append}
 use Rattle.oa_disk.specs.declared.disk.Disk.{Ghosts}
-use Rattle.oa_group_commit.specs.GroupStates.{GroupState, IsAfterFault}
-use Rattle.oa_group_commit.specs.Faults.{IsWholeBefore}
+use Rattle.oa_group_commit.specs.promise.Groups.{GroupState, IsAfterFault, IsWholeBefore, concat_groups, AllHoldState}
+use Rattle.oa_group_commit.specs.promise.Groups.{IsRun, Sequentially, Trace, Exchange, StateMachine, body_of, reply_of}
 use Rattle.oa_group_commit.specs.Invariants.{FailedGroups}
-use Rattle.oa_group_commit.specs.Groups.{concat_groups}
-use Rattle.oa_group_commit.specs.Runs.{AllHoldState, IsRun, Sequentially, Trace}
-use Rattle.oa_group_commit.specs.StateMachines.{Exchange, StateMachine, body_of, reply_of}
 
 module _ {S R : Type 0} (t : StateMachine S R) where
   -- more bodies behind the fault

@@ -1,12 +1,12 @@
 -- Sessions that were stopped.
 use Rattle.std.proofs.Common.{◌≡◌, ℕ, Bool, true, false, if◌then◌else◌, drop, List, [], ◌∷◌, refl, sym, subst}
 use Rattle.oa_disk.specs.declared.disk.Disk.{Ghosts}
-use Rattle.oa_group_commit.specs.Groups.{concat_groups}
-use Rattle.oa_group_commit.specs.History.{IsStopped, StoppedSession, KeepsAcknowledged, KeepsEach, RunEach, Sessions, accepted, accepted_each}
+use Rattle.oa_group_commit.specs.promise.Groups.{concat_groups, accepted, HoldsPrefix, HoldsState, Trace, Exchange}
+use Rattle.oa_group_commit.specs.promise.Groups.{StateMachine}
+use Rattle.oa_group_commit.specs.History.{IsStopped, StoppedSession, KeepsAcknowledged, KeepsEach, RunEach, Sessions}
+use Rattle.oa_group_commit.specs.History.{accepted_each}
 use Rattle.oa_group_commit.specs.Laws.{HistoryKeepsAcknowledged, OthersAreRun}
-use Rattle.oa_group_commit.specs.Runs.{HoldsPrefix, HoldsState, Trace}
 use Rattle.oa_group_commit.specs.Sessions.{by_then}
-use Rattle.oa_group_commit.specs.StateMachines.{Exchange, StateMachine}
 use Rattle.oa_group_commit.proofs.Calling.{session_stopped}
 
 module _ {S R : Type 0} (t : StateMachine S R) where

@@ -3,17 +3,16 @@ use Rattle.std.proofs.Common.{◌≡◌, ◌⊎◌, inl, inr, ℕ, ◌+◌, ◌<
 use Rattle.std.proofs.Common.{length, map, refl, sym, ◌∙◌, ap, subst, arith, length-append, append_assoc}
 use Rattle.std.proofs.lemmas.List.{append-nil, map-append, length-map}
 use Rattle.oa_disk.specs.declared.disk.Disk.{Ghosts}
-use Rattle.oa_journal.specs.Replays.{Replays}
+use Rattle.oa_journal.specs.promise.Bank.{Replays}
 use Rattle.oa_journal.specs.declared.shape.BankFormat.TheVariants.{Two}
-use Rattle.oa_store.specs.Stores.{IsStoreIn}
-use Rattle.oa_table.specs.Tables.{TableValue}
+use Rattle.oa_store.specs.promise.Stores.{IsStoreIn}
+use Rattle.oa_table.specs.promise.Tables.{TableValue}
 use Rattle.oa_store.proofs.Committed.{no_change}
-use Rattle.oa_group_commit.specs.GroupStates.{GroupState, IsDue, FailsAtCheckpoint, IsBuffered, IsGroupCommitted}
-use Rattle.oa_group_commit.specs.Faults.{IsWholeBefore}
+use Rattle.oa_group_commit.specs.promise.Groups.{GroupState, IsDue, FailsAtCheckpoint, IsBuffered, IsGroupCommitted}
+use Rattle.oa_group_commit.specs.promise.Groups.{IsWholeBefore, concat_groups, events_in, fills, is_full, AllHoldState}
+use Rattle.oa_group_commit.specs.promise.Groups.{CallsFor, HoldsPrefix, HoldsState, IsRun, Trace, Exchange}
+use Rattle.oa_group_commit.specs.promise.Groups.{StateMachine, body_of, exchange, reply_of}
 use Rattle.oa_group_commit.specs.Invariants.{IsCut, IsNextGroup, HealthyGroups, FailedGroups}
-use Rattle.oa_group_commit.specs.Groups.{concat_groups, events_in, fills, is_full}
-use Rattle.oa_group_commit.specs.Runs.{AllHoldState, CallsFor, HoldsPrefix, HoldsState, IsRun, Trace}
-use Rattle.oa_group_commit.specs.StateMachines.{Exchange, StateMachine, body_of, exchange, reply_of}
 use Rattle.oa_group_commit.proofs.Called.{calls_behind, calls_events, calls_more, calls_one, none_or_some, turn_push}
 use Rattle.oa_group_commit.proofs.Entries.{cut_one, events_push, joined_events, joined_push, run_append, run_one, run_replays, run_withdrawn}
 use Rattle.oa_group_commit.proofs.Running.{after_all, after_fewer, after_more, run_more, run_on, run_started}

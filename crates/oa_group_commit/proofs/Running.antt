@@ -2,10 +2,9 @@
 use Rattle.std.proofs.Common.{◌≡◌, ◌⊎◌, inl, inr, ⊎_elim, ℕ, zero, suc, ◌+◌, ◌<◌, ◌≤◌, List, [], ◌∷◌, ◌++◌, length, Some, slice_get, refl}
 use Rattle.std.proofs.Common.{sym, ◌∙◌, ap, subst, arith, length-append, append_assoc}
 use Rattle.std.proofs.lemmas.List.{append-nil}
-use Rattle.oa_disk.specs.Disk.{CrashInvariant}
-use Rattle.oa_group_commit.specs.Groups.{concat_groups}
-use Rattle.oa_group_commit.specs.Runs.{AscendsFrom, HoldsPrefix, HoldsState, IsRun, Trace}
-use Rattle.oa_group_commit.specs.StateMachines.{Exchange, StateMachine}
+use Rattle.oa_disk.specs.promise.Disk.{CrashInvariant}
+use Rattle.oa_group_commit.specs.promise.Groups.{concat_groups, AscendsFrom, HoldsPrefix, HoldsState, IsRun, Trace}
+use Rattle.oa_group_commit.specs.promise.Groups.{Exchange, StateMachine}
 use Rattle.oa_group_commit.proofs.Entries.{joined_two, run_append}
 
 get_below : (xs : List ℕ) (j m : ℕ) → slice_get xs j ≡ Some m → j < length xs

@@ -4,12 +4,11 @@ use Rattle.std.proofs.Common.{refl, sym, ◌∙◌, subst, arith}
 use Rattle.oa_disk.specs.declared.disk.Disk.{Ghosts}
 use Rattle.oa_journal.specs.declared.shape.BankFormat.{BankFormat}
 use Rattle.oa_journal.specs.declared.shape.BankFormat.TheVariants.{Two}
-use Rattle.oa_store.specs.Stores.{IsStoreIn}
+use Rattle.oa_store.specs.promise.Stores.{IsStoreIn}
 use Rattle.oa_store.specs.declared.store.Store.{Store}
-use Rattle.oa_table.specs.Tables.{TableValue}
-use Rattle.oa_group_commit.specs.Runs.{AllHoldState, HoldsState}
-use Rattle.oa_store.specs.Writing.{DeviceFrame}
-use Rattle.oa_group_commit.specs.StateMachines.{StateMachine}
+use Rattle.oa_table.specs.promise.Tables.{TableValue}
+use Rattle.oa_group_commit.specs.promise.Groups.{AllHoldState, HoldsState, StateMachine}
+use Rattle.oa_store.specs.promise.Writing.{DeviceFrame}
 
 -- no call of the device
 pub goes_nowhere : {D : Type 0} {g : Ghosts D} (store : Store D g) → DeviceFrame store store

@@ -4,13 +4,11 @@ use Rattle.std.proofs.Common.{length, refl, sym, ◌∙◌, ap, subst, append_as
 use Rattle.std.proofs.lemmas.List.{append-nil}
 use Rattle.oa_disk.specs.declared.disk.Disk.{Ghosts}
 use Rattle.oa_store.specs.declared.store.Store.{Store}
-use Rattle.oa_group_commit.specs.Counts.{CallsForRequests}
-use Rattle.oa_group_commit.specs.GroupStates.{GroupState, IsApart, IsFlushed, IsBarrierAnswered, IsAdmitted}
-use Rattle.oa_group_commit.specs.Faults.{IsWholeBefore}
+use Rattle.oa_group_commit.specs.promise.Groups.{CallsForRequests, GroupState, IsApart, IsFlushed, IsBarrierAnswered}
+use Rattle.oa_group_commit.specs.promise.Groups.{IsAdmitted, IsWholeBefore, BeginsWithBarrier, is_full, Exchange}
+use Rattle.oa_group_commit.specs.promise.Groups.{StateMachine, exchange}
 use Rattle.oa_group_commit.specs.Invariants.{IsCut, HealthyGroups, FailedGroups, GroupInvariant}
-use Rattle.oa_group_commit.specs.Groups.{BeginsWithBarrier, is_full}
-use Rattle.oa_store.specs.Writing.{DeviceFrame}
-use Rattle.oa_group_commit.specs.StateMachines.{Exchange, StateMachine, exchange}
+use Rattle.oa_store.specs.promise.Writing.{DeviceFrame}
 use Rattle.oa_group_commit.proofs.Counted.{more_calls}
 use Rattle.oa_group_commit.proofs.Entries.{cut_before, cut_ends, cut_flushed, cut_holds, either, full_group, group_ends, some_entry}
 use Rattle.oa_group_commit.proofs.Stores.{goes_nowhere, goes_on}

@@ -1,10 +1,9 @@
--- Crash histories: sessions that crash, each opened on what the crash before it left. (This project's choice.)
-use Rattle.std.specs.Prelude.{◌≡◌, ◌≤◌, ℕ, if◌then◌else◌, List, [], ◌∷◌, ◌++◌, length}
+-- Definitions for contracts and proofs, beside promise/Groups.
+use Rattle.std.specs.Prelude.{◌≡◌, ◌≤◌, ℕ, List, [], ◌∷◌, ◌++◌, length}
 use Rattle.oa_disk.specs.declared.disk.Disk.{Ghosts}
-use Rattle.oa_group_commit.specs.Groups.{concat_groups}
-use Rattle.oa_group_commit.specs.Runs.{HoldsState, Trace, HoldsPrefix}
-use Rattle.oa_group_commit.specs.Sessions.{AnsweredCall, IsSessionOn, answered_by}
-use Rattle.oa_group_commit.specs.StateMachines.{Exchange, StateMachine}
+use Rattle.oa_group_commit.specs.promise.Groups.{concat_groups, HoldsState, Trace, HoldsPrefix, AnsweredCall}
+use Rattle.oa_group_commit.specs.promise.Groups.{IsSessionOn, Exchange, StateMachine, MayBeLeft, accepted}
+use Rattle.oa_group_commit.specs.Sessions.{answered_by}
 
 -- one session: its calls with their replies, the groups of its requests, and how many of the groups were answered by
 -- the crash
@@ -20,10 +19,6 @@ pub record KeepsAcknowledged {R : Type 0} (session : StoppedSession R) (kept : L
   pub groups_are : session.groups ≡ done ++ later
   pub kept_are : kept ≡ concat_groups done
   pub enough : session.count ≤ length done
-
--- a crash at this point in time may leave the image
-abbrev pub MayBeLeft : {D : Type 0} → Ghosts D → D → ℕ → List ℕ → Type 0
-MayBeLeft g disk stop image = (m : ℕ) → m ≤ stop → g.image_since disk m image
 
 -- A session began on a disk with these contents, and crashed at a point in time. The image is one that a crash then
 -- may leave, and the groups that were answered by then are counted.
@@ -65,11 +60,6 @@ KeepsEach (session ∷ sessions) [] = ⊥
 abbrev pub RunEach : {S R : Type 0} → StateMachine S R → S → List (List (Exchange R)) → S → Type 0
 RunEach t old [] new = old ≡ new
 RunEach {S} t old (kept ∷ others) new = (mid : S) × Trace t (t.opened old) kept mid × RunEach t mid others new
-
--- the requests that were done
-abbrev pub accepted : {S R : Type 0} → StateMachine S R → List (Exchange R) → List (Exchange R)
-accepted t [] = []
-accepted t (asked ∷ entries) = if t.is_done asked.reply then asked ∷ accepted t entries else accepted t entries
 
 -- of each session
 abbrev pub accepted_each : {S R : Type 0} → StateMachine S R → List (List (Exchange R)) → List (List (Exchange R))

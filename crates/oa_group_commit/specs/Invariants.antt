@@ -1,13 +1,10 @@
 -- Invariants while requests are admitted. (This project's choice.)
 use Rattle.std.specs.Prelude.{◌≡◌, ◌⊎◌, ℕ, Bool, true, false, List, [], ◌∷◌, ◌++◌, length, map}
 use Rattle.oa_disk.specs.declared.disk.Disk.{Ghosts}
-use Rattle.oa_group_commit.specs.Counts.{CallsForRequests}
-use Rattle.oa_group_commit.specs.GroupStates.{GroupState}
-use Rattle.oa_group_commit.specs.Faults.{IsWholeBefore}
-use Rattle.oa_group_commit.specs.Groups.{concat_groups, cut, events_in, groups_of}
-use Rattle.oa_group_commit.specs.Runs.{AllHoldState, CallsFor, HasMoments, Sequentially, Trace}
-use Rattle.oa_store.specs.Writing.{DeviceFrame}
-use Rattle.oa_group_commit.specs.StateMachines.{Exchange, StateMachine, body_of, reply_of}
+use Rattle.oa_group_commit.specs.promise.Groups.{CallsForRequests, GroupState, IsWholeBefore, concat_groups, cut}
+use Rattle.oa_group_commit.specs.promise.Groups.{events_in, groups_of, AllHoldState, CallsFor, HasMoments, Sequentially}
+use Rattle.oa_group_commit.specs.promise.Groups.{Trace, Exchange, StateMachine, body_of, reply_of}
+use Rattle.oa_store.specs.promise.Writing.{DeviceFrame}
 
 -- Which groups are whole is known, whatever follows.
 abbrev pub IsCut : {R : Type 0} → (List ℕ → Bool) → ℕ → List (List (Exchange R)) → List (Exchange R) → Type 0

@@ -1,17 +1,14 @@
 -- Theorems about groups and sessions, for any kind of requests, replies and states. (This project's choice.)
 use Rattle.std.specs.Prelude.{◌≡◌, ◌+◌, ◌≤◌, ℕ, false, true, List, [], ◌∷◌, ◌++◌, length, map}
-use Rattle.oa_disk.specs.Disk.{CrashInvariant}
+use Rattle.oa_disk.specs.promise.Disk.{CrashInvariant}
 use Rattle.oa_disk.specs.declared.disk.Disk.{Ghosts}
 use Rattle.oa_store.specs.declared.store.Store.{Store}
-use Rattle.oa_group_commit.specs.GroupStates.{GroupState, IsAdmitted, IsEnded}
+use Rattle.oa_group_commit.specs.promise.Groups.{GroupState, IsAdmitted, IsEnded, MayBeLeft, accepted, AllHoldState}
+use Rattle.oa_group_commit.specs.promise.Groups.{HoldsPrefix, HoldsState, Trace, IsServed, AnsweredCall, IsSessionOn}
+use Rattle.oa_group_commit.specs.promise.Groups.{OpenSession, Exchange, StateMachine}
 use Rattle.oa_group_commit.specs.Invariants.{GroupInvariant}
-use Rattle.oa_group_commit.specs.History.{IsAfterSession, IsAfterSessions, IsStopped, MayBeLeft, StoppedSession}
-use Rattle.oa_group_commit.specs.History.{Sessions}
-use Rattle.oa_group_commit.specs.History.{accepted}
-use Rattle.oa_group_commit.specs.Runs.{AllHoldState, HoldsPrefix, HoldsState, Trace}
-use Rattle.oa_group_commit.specs.Served.{IsServed}
-use Rattle.oa_group_commit.specs.Sessions.{AnsweredCall, IsSessionOn, OpenSession, answered_by}
-use Rattle.oa_group_commit.specs.StateMachines.{Exchange, StateMachine}
+use Rattle.oa_group_commit.specs.History.{IsAfterSession, IsAfterSessions, IsStopped, StoppedSession, Sessions}
+use Rattle.oa_group_commit.specs.Sessions.{answered_by}
 
 -- ---- requests that are taken one by one
 

@@ -1,12 +1,6 @@
-pub mod GroupStates
-pub mod Counts
-pub mod Faults
 pub mod Invariants
-pub mod Groups
 pub mod History
 pub mod Laws
-pub mod Runs
-pub mod Served
 pub mod Sessions
 pub mod Simple
-pub mod StateMachines
+pub mod promise

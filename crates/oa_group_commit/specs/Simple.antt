@@ -2,9 +2,9 @@
 -- choice.)
 use Rattle.std.proofs.Common.{◌≡◌, ◌⊎◌, inl, inr, ◌==◌, Bool, true, false, true≢false, List, [], ◌∷◌, ℕ, drop, refl}
 use Rattle.std.proofs.Common.{sym, ap, ◌∙◌, subst}
-use Rattle.oa_journal.specs.Replays.{Replays}
-use Rattle.oa_table.specs.Tables.{TableValue}
-use Rattle.oa_group_commit.specs.StateMachines.{Exchange, StateMachine}
+use Rattle.oa_journal.specs.promise.Bank.{Replays}
+use Rattle.oa_table.specs.promise.Tables.{TableValue}
+use Rattle.oa_group_commit.specs.promise.Groups.{Exchange, StateMachine}
 
 pub record Kept : Type 0 where
   pub bank : ℕ

@@ -3,19 +3,18 @@ use Rattle.std.proofs.Common.{◌≡◌, ◌⊎◌, inl, inr, ℕ, false, true, 
 use Rattle.std.proofs.lemmas.List.{map-append}
 use Rattle.oa_disk.specs.declared.disk.Disk.{Ghosts}
 use Rattle.oa_group_commit.proofs.Entries.{either, joined_two}
-use Rattle.oa_group_commit.specs.Groups.{concat_groups}
-use Rattle.oa_group_commit.specs.Runs.{Trace}
-use Rattle.oa_group_commit.specs.Served.{IsServed}
-use Rattle.oa_group_commit.specs.StateMachines.{Exchange, body_of, reply_of}
-use Rattle.oa_record.specs.Replies.{ReplyValue}
-use Rattle.oa_server.specs.ServerMachine as one_client
-use Rattle.oa_server.specs.SharedMachine.{shared_machine}
-use Rattle.oa_server.specs.Sharing.{ClientReply, IsSharedTurn, Shared, SharedTurnOf, brought_by, client_in, failed_client_reply, fault_client_reply, told_by}
+use Rattle.oa_group_commit.specs.promise.Groups.{concat_groups, Trace, IsServed, Exchange, body_of, reply_of}
+use Rattle.oa_record.specs.promise.Replies.{ReplyValue}
+use Rattle.oa_server.specs.promise.ServerMachine as one_client
+use Rattle.oa_server.specs.promise.SharedMachine.{shared_machine, ClientReply, IsSharedTurn, Shared, SharedTurnOf}
+use Rattle.oa_server.specs.promise.SharedMachine.{brought_by, client_in, failed_client_reply, fault_client_reply}
+use Rattle.oa_server.specs.promise.SharedMachine.{told_by}
 use Rattle.oa_server.specs.declared.storage.Storage.{Storage}
 use Rattle.oa_server.specs.declared.storage.Storage.TheVariants.{Disk, Memory}
-use Rattle.oa_mux.specs.Readers.{Body, Brought, Ends}
+use Rattle.oa_mux.specs.promise.Readers.{Body, Brought, Ends}
 use Rattle.oa_store.specs.declared.store.Store.{Store}
-use Rattle.oa_history.specs.Framed.{RepliesGoToClients, ServesShared, client_of}
+use Rattle.oa_history.specs.Framed.{RepliesGoToClients}
+use Rattle.oa_history.specs.promise.Framed.{ServesShared, client_of}
 
 told_to_it : (code : List ℕ → ReplyValue) (client : ℕ) (brought : Brought) → client_of (told_by code client brought) ≡ client
 told_to_it code client (Body body) = refl

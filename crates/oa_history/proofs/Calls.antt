@@ -4,18 +4,16 @@ use Rattle.std.proofs.lemmas.List.{append-nil}
 use Rattle.oa_disk.specs.declared.disk.Disk.{Ghosts}
 use Rattle.oa_group_commit.proofs.Calling.{chained, session_called, session_ended}
 use Rattle.oa_group_commit.proofs.Entries.{joined_two, run_append}
-use Rattle.oa_group_commit.specs.Groups.{concat_groups}
+use Rattle.oa_group_commit.specs.promise.Groups.{concat_groups, Trace, IsServed, AnsweredCall, IsCalled, IsSession}
+use Rattle.oa_group_commit.specs.promise.Groups.{IsSessionOn, OpenSession, Exchange, StateMachine}
 use Rattle.oa_group_commit.specs.Laws.{LateCallCounts}
-use Rattle.oa_group_commit.specs.Runs.{Trace}
-use Rattle.oa_group_commit.specs.Served.{IsServed}
-use Rattle.oa_group_commit.specs.Sessions.{AnsweredCall, IsCalled, IsSession, IsSessionOn, OpenSession, answered_by, by_then}
-use Rattle.oa_group_commit.specs.StateMachines.{Exchange, StateMachine}
-use Rattle.oa_server.specs.Storages.{OverStore, disk_of}
+use Rattle.oa_group_commit.specs.Sessions.{answered_by, by_then}
+use Rattle.oa_server.specs.promise.Storages.{OverStore, disk_of}
 use Rattle.oa_server.specs.declared.storage.Storage.{Storage}
 use Rattle.oa_server.specs.declared.storage.Storage.TheVariants.{Disk, Memory}
 use Rattle.oa_store.specs.declared.store.Store.{Store}
-use Rattle.oa_history.specs.Kept.{SessionStart}
-use Rattle.oa_history.specs.KeepsDurablePrefix.{CallSequence, CompletedCall, RunsUpToFault, Serving, over_by}
+use Rattle.oa_history.specs.promise.CrashHistories.{SessionStart}
+use Rattle.oa_history.specs.promise.DurablePrefixes.{CallSequence, CompletedCall, RunsUpToFault, Serving, over_by}
 use Rattle.oa_history.proofs.CallsOverStore.{IsServing, ServesOver}
 
 -- ---- a session under way

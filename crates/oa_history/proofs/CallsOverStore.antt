@@ -1,14 +1,13 @@
 -- A call of a server over a store, whatever its requests are.
 use Rattle.std.proofs.Common.{◌≡◌, ℕ, false, true, List, map}
 use Rattle.oa_disk.specs.declared.disk.Disk.{Ghosts}
-use Rattle.oa_group_commit.specs.Served.{IsServed}
-use Rattle.oa_group_commit.specs.StateMachines.{StateMachine}
-use Rattle.oa_server.specs.ServerMachine.{server_machine}
-use Rattle.oa_server.specs.Storages.{OverStore, Serves}
+use Rattle.oa_group_commit.specs.promise.Groups.{IsServed, StateMachine}
+use Rattle.oa_server.specs.promise.ServerMachine.{server_machine}
+use Rattle.oa_server.specs.promise.Storages.{OverStore, Serves}
 use Rattle.oa_server.specs.declared.storage.Storage.{Storage}
 use Rattle.oa_server.specs.declared.storage.Storage.TheVariants.{Disk, Memory}
 use Rattle.oa_store.specs.declared.store.Store.{Store}
-use Rattle.oa_history.specs.KeepsDurablePrefix.{Serving}
+use Rattle.oa_history.specs.promise.DurablePrefixes.{Serving}
 
 -- the device has failed before
 pub record AnswersLate {S R D : Type 0} {g : Ghosts D} (t : StateMachine S R) (old new : Store D g) (before after : S) (bodies : List (List ℕ)) (replies : List R) : Type 0 where

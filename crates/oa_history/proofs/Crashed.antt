@@ -1,10 +1,9 @@
 -- A crash behind the last call that keeps all that was written leaves what a read gives.
 use Rattle.std.proofs.Common.{◌≡◌, ℕ, ◌+◌, ◌*◌, ◌-◌, ◌/◌, List, [], ◌∷◌, ◌++◌, take, drop, length, refl, sym, ◌∙◌, ap, arith}
 use Rattle.std.proofs.lemmas.List.{drop-drop, length-drop, take-append-drop, take_all}
-use Rattle.oa_disk.specs.Memory.{IsTornAt, memory_contents, moments_of}
-use Rattle.oa_disk.specs.CallLog.{laid}
-use Rattle.oa_disk.specs.Replay.{DiskState, after_call, count_all, count_of, last_state, synced}
-use Rattle.oa_disk.specs.Tear.{torn_all}
+use Rattle.oa_disk.specs.promise.Memory.{IsTornAt, memory_contents, moments_of}
+use Rattle.oa_disk.specs.promise.CallLog.{laid}
+use Rattle.oa_disk.specs.promise.Disk.{DiskState, after_call, count_all, count_of, last_state, synced, torn_all}
 use Rattle.oa_disk.specs.declared.call.DeviceCall.{DeviceCall}
 use Rattle.oa_disk.specs.declared.call.DeviceCall.TheVariants.{Read, Write, Sync}
 use Rattle.oa_disk.specs.declared.crash.Tear.TheVariants.{Kept}

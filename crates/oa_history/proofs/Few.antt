@@ -1,8 +1,8 @@
 -- A call of few bodies is one group.
 use Rattle.std.proofs.Common.{rules, ◌≡◌, ℕ, suc, ◌+◌, ◌<◌, ◌≤◌, nat_le, ◌||◌, if◌then◌else◌, Bool, true, false, List, [], ◌∷◌, ◌++◌, map, length, refl, sym, ◌∙◌, ap, subst, arith, length-append}
-use Rattle.oa_model.specs.Limits.{group_bytes}
-use Rattle.oa_group_commit.specs.Groups.{HasNoBarrier, concat_groups, cut, events_in, fills, is_full, rest_of}
-use Rattle.oa_group_commit.specs.StateMachines.{Exchange, StateMachine, body_of}
+use Rattle.oa_model.specs.promise.Limits.{group_bytes}
+use Rattle.oa_group_commit.specs.promise.Groups.{HasNoBarrier, concat_groups, cut, events_in, fills, is_full, rest_of}
+use Rattle.oa_group_commit.specs.promise.Groups.{Exchange, StateMachine, body_of}
 use Rattle.oa_history.specs.OneGroup.{FewAreOneGroup}
 
 rest_few : {R : Type 0} (held : List (Exchange R)) → length (rest_of held) ≤ 1

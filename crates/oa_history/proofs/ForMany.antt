@@ -1,36 +1,34 @@
 -- A server of many clients: what it begins with, and that one can begin again with what it leaves.
 use Rattle.std.proofs.Common.{◌≡◌, inl, inr, ℕ, ◌+◌, ◌≤◌, IsTrue, List, [], ◌∷◌, length, refl, sym, ◌∙◌, ap, subst}
-use Rattle.oa_disk.specs.Disk.{NothingPending}
+use Rattle.oa_disk.specs.promise.Disk.{NothingPending}
 use Rattle.oa_disk.specs.Moments.{weakened}
 use Rattle.oa_disk.specs.declared.disk.Disk.{Ghosts}
 use Rattle.oa_compat.proofs.Kept.{unlocked_fits}
-use Rattle.oa_compat.specs.Fits.{fits}
+use Rattle.oa_compat.specs.promise.Fits.{fits}
 use Rattle.oa_group_commit.proofs.Calling.{session_opened}
-use Rattle.oa_group_commit.specs.Runs.{HoldsState, Trace}
-use Rattle.oa_group_commit.specs.StateMachines.{Exchange}
-use Rattle.oa_idl.specs.Trees.{TreeValue}
+use Rattle.oa_group_commit.specs.promise.Groups.{HoldsState, Trace, Exchange}
+use Rattle.oa_idl.specs.promise.Trees.{TreeValue}
 use Rattle.oa_image.proofs.Numbered.{unlocked_numbers}
 use Rattle.oa_image.proofs.TablesWithImages.{same_table}
-use Rattle.oa_image.specs.Tables.{FitsBank, is_numbered, reserved_bytes, table_image}
-use Rattle.oa_turn.specs.ClientLocks.{ClientLock}
-use Rattle.oa_record.specs.Replies.{ReplyValue}
-use Rattle.oa_server.specs.Openings.{IsOpened}
-use Rattle.oa_server.specs.ServerMachine.{server_machine}
-use Rattle.oa_server.specs.SharedMachine.{end_keeps, opened_shared, shared_machine}
-use Rattle.oa_server.specs.Sharing.{ClientReply, Shared, SharedTurnOf, TurnsFor, shared}
-use Rattle.oa_server.specs.Storages.{OverStore}
+use Rattle.oa_image.specs.promise.Tables.{FitsBank, is_numbered, reserved_bytes, table_image}
+use Rattle.oa_turn.specs.promise.ClientLocks.{ClientLock}
+use Rattle.oa_record.specs.promise.Replies.{ReplyValue}
+use Rattle.oa_server.specs.promise.ServerMachine.{IsOpened, server_machine}
+use Rattle.oa_server.specs.promise.SharedMachine.{end_keeps, opened_shared, shared_machine, ClientReply, Shared}
+use Rattle.oa_server.specs.promise.SharedMachine.{SharedTurnOf, TurnsFor, shared}
+use Rattle.oa_server.specs.promise.Storages.{OverStore}
 use Rattle.oa_server.specs.declared.storage.Storage.{Storage}
 use Rattle.oa_server.specs.declared.storage.Storage.TheVariants.{Disk, Memory}
-use Rattle.oa_mux.specs.Readers.{Body, Brought, Ends}
+use Rattle.oa_mux.specs.promise.Readers.{Body, Brought, Ends}
 use Rattle.oa_store.specs.declared.store.Store.{Store}
-use Rattle.oa_table.specs.Tables.{TableValue, unlocked_table}
-use Rattle.oa_turn.specs.Beginnings.{CanBegin}
-use Rattle.oa_turn.specs.Plans.{HoldsSame}
-use Rattle.oa_turn.specs.Turns.{Turn}
-use Rattle.oa_typelib.specs.Checked.{IsChecked}
-use Rattle.oa_decision.specs.States.{State}
-use Rattle.oa_history.specs.Framed.{ServesShared}
-use Rattle.oa_history.specs.Kept.{SessionStart}
+use Rattle.oa_table.specs.promise.Tables.{TableValue, unlocked_table}
+use Rattle.oa_turn.specs.promise.Beginnings.{CanBegin}
+use Rattle.oa_turn.specs.promise.Plans.{HoldsSame}
+use Rattle.oa_turn.specs.promise.Turns.{Turn}
+use Rattle.oa_typelib.specs.promise.Checked.{IsChecked}
+use Rattle.oa_decision.specs.promise.States.{State}
+use Rattle.oa_history.specs.promise.Framed.{ServesShared}
+use Rattle.oa_history.specs.promise.CrashHistories.{SessionStart}
 use Rattle.oa_history.proofs.Found.{opened_again}
 use Rattle.oa_history.proofs.CallsOverStore.{IsServing}
 

@@ -1,25 +1,24 @@
 -- What an opening of a disk that holds a state makes.
 use Rattle.std.proofs.Common.{◌≡◌, inl, ⊎_elim, ℕ, List, IsTrue, [], refl, sym, ◌∙◌, ap, subst}
-use Rattle.oa_disk.specs.Disk.{NothingPending}
+use Rattle.oa_disk.specs.promise.Disk.{NothingPending}
 use Rattle.oa_disk.specs.declared.disk.Disk.{Ghosts}
-use Rattle.oa_group_commit.specs.Runs.{HoldsState}
-use Rattle.oa_group_commit.specs.Sessions.{OpenSession}
-use Rattle.oa_printer.specs.Canonical.{canonical}
-use Rattle.oa_idl.specs.Trees.{TreeValue}
-use Rattle.oa_journal.specs.Shapes.{body_bytes}
+use Rattle.oa_group_commit.specs.promise.Groups.{HoldsState, OpenSession}
+use Rattle.oa_printer.specs.promise.Canonical.{canonical}
+use Rattle.oa_idl.specs.promise.Trees.{TreeValue}
+use Rattle.oa_journal.specs.promise.Bank.{body_bytes}
 use Rattle.oa_server.specs.Laws.{OpenedBegins}
-use Rattle.oa_turn.specs.Beginnings.{CanBegin}
-use Rattle.oa_server.specs.Openings.{FindsState, IsNotOpened, IsOpened}
-use Rattle.oa_server.specs.ServerMachine.{opened, server_machine}
-use Rattle.oa_decision.specs.States.{State, state_of}
-use Rattle.oa_server.specs.Storages.{OverStore, bank_bytes_of}
+use Rattle.oa_turn.specs.promise.Beginnings.{CanBegin}
+use Rattle.oa_server.specs.promise.ServerMachine.{FindsState, IsNotOpened, IsOpened, opened, server_machine}
+use Rattle.oa_decision.specs.promise.States.{State, state_of}
+use Rattle.oa_server.specs.promise.Storages.{OverStore}
+use Rattle.oa_server.specs.Storages.{bank_bytes_of}
 use Rattle.oa_server.specs.declared.storage.Storage.{Storage}
 use Rattle.oa_server.specs.declared.storage.Storage.TheVariants.{Disk, Memory}
-use Rattle.oa_store.specs.Faults.{SpeaksOfContents}
+use Rattle.oa_store.specs.promise.Faults.{SpeaksOfContents}
 use Rattle.oa_store.specs.declared.fault.OpenFault.{OpenFault}
 use Rattle.oa_store.specs.declared.store.Store.{Store}
-use Rattle.oa_table.specs.Tables.{TableValue}
-use Rattle.oa_history.specs.Kept.{SessionStart}
+use Rattle.oa_table.specs.promise.Tables.{TableValue}
+use Rattle.oa_history.specs.promise.CrashHistories.{SessionStart}
 
 pub same_state : (a b : State) → a.bank ≡ b.bank → a.library ≡ b.library → a.table ≡ b.table → a ≡ b
 same_state a b bank library table =

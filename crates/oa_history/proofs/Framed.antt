@@ -3,30 +3,31 @@ use mathlib.Core.Path.{path_j, subst_refl}
 use Rattle.std.proofs.Common.{◌≡◌, ◌⊎◌, inl, inr, ⊎_elim, ℕ, ◌+◌, length, List, [], ◌∷◌, ◌++◌, Bor, refl, sym, ◌∙◌, ap, subst, append_assoc}
 use Rattle.oa_disk.specs.declared.disk.Disk.{Ghosts}
 use Rattle.oa_disk.specs.declared.memory.MemoryDisk.{MemoryDisk}
-use Rattle.oa_turn.specs.ClientLocks.{ClientLock}
-use Rattle.oa_record.specs.Replacement.{is_replacement}
+use Rattle.oa_turn.specs.promise.ClientLocks.{ClientLock}
+use Rattle.oa_record.specs.promise.Replacement.{is_replacement}
 use Rattle.oa_stream.specs.BufferedSource.{ahead, read_ahead}
-use Rattle.oa_stream.specs.Memory.{gathered_output}
-use Rattle.oa_stream.specs.Sink.{Output}
-use Rattle.oa_stream.specs.Source.{Input as Read, in_memory}
+use Rattle.oa_stream.specs.promise.Memory.{gathered_output}
+use Rattle.oa_stream.specs.promise.Sink.{Output}
+use Rattle.oa_stream.specs.promise.Source.{Input as Read, in_memory}
 use Rattle.oa_stream.specs.declared.ahead.BufferedSource.{BufferedSource}
 use Rattle.oa_stream.specs.declared.gathered.VecSink.{VecSink}
-use Rattle.oa_server.specs.SharedSessions.{IsSharedSession}
-use Rattle.oa_server.specs.SharedTalks.{asked_written}
-use Rattle.oa_server.specs.Sharing.{ClientReply, Shared, shared}
-use Rattle.oa_server.specs.Storages.{OverStore}
+use Rattle.oa_server.specs.promise.SharedSessions.{IsSharedSession, asked_written}
+use Rattle.oa_server.specs.promise.SharedMachine.{ClientReply, Shared, shared}
+use Rattle.oa_server.specs.promise.Storages.{OverStore}
 use Rattle.oa_server.specs.declared.engine.ServerState.{ServerState}
 use Rattle.oa_server.specs.declared.server.Server.{Server}
 use Rattle.oa_server.specs.declared.storage.Storage.{Storage}
 use Rattle.oa_server.specs.declared.storage.Storage.TheVariants.{Disk, Memory}
-use Rattle.oa_mux.specs.Marks.{Flush, Tagged}
-use Rattle.oa_mux.specs.Readers.{Brought}
-use Rattle.oa_mux.specs.Shared.{starting}
-use Rattle.oa_mux.specs.Talking.{AllTurned, FailsToTell, ServesClients, TellsAll, ends_at, parted}
+use Rattle.oa_mux.specs.promise.Marks.{Flush, Tagged}
+use Rattle.oa_mux.specs.promise.Readers.{Brought}
+use Rattle.oa_mux.specs.promise.Shared.{starting}
+use Rattle.oa_mux.specs.promise.Talking.{AllTurned, FailsToTell, ServesClients, TellsAll, ends_at, parted}
 use Rattle.oa_mux.specs.declared.session_end.SessionEnd.{SessionEnd}
-use Rattle.oa_decision.specs.States.{State}
-use Rattle.oa_history.specs.Framed.{AreTurnsOf, MakesCalls, ServesShared, TurnsAreCalls, ends_of_turns, turns_asked, turns_ended, turns_told}
-use Rattle.oa_history.specs.KeepsDurablePrefix.{CallSequence, CompletedCall}
+use Rattle.oa_decision.specs.promise.States.{State}
+use Rattle.oa_history.specs.promise.Framed.{AreTurnsOf, ServesShared, ends_of_turns, turns_asked, turns_ended}
+use Rattle.oa_history.specs.promise.Framed.{turns_told}
+use Rattle.oa_history.specs.Framed.{MakesCalls, TurnsAreCalls}
+use Rattle.oa_history.specs.promise.DurablePrefixes.{CallSequence, CompletedCall}
 use Rattle.oa_history.specs.declared.session.SharedInput.{SharedInput}
 use Rattle.oa_history.proofs.Streams.{reads_from}
 

@@ -1,21 +1,19 @@
 -- What the stop of a session leaves.
 use Rattle.std.proofs.Common.{rules, ◌≡◌, ◌⊎◌, inl, inr, ⊎_elim, ℕ, ◌<◌, ◌≤◌, nat_le, min, Bool, true, false, List, refl, sym, subst, arith}
 use Rattle.oa_disk.specs.declared.disk.Disk.{Ghosts}
-use Rattle.oa_group_commit.specs.Groups.{concat_groups}
-use Rattle.oa_group_commit.specs.History.{MayBeLeft}
+use Rattle.oa_group_commit.specs.promise.Groups.{concat_groups, MayBeLeft, HoldsPrefix, HoldsState, Trace, AnsweredCall}
+use Rattle.oa_group_commit.specs.promise.Groups.{IsSessionOn, Exchange, StateMachine}
 use Rattle.oa_group_commit.specs.Laws.{CrashKeepsAcknowledged, EndCountsAll, LateCallCounts, OthersAreRun}
-use Rattle.oa_group_commit.specs.Runs.{HoldsPrefix, HoldsState, Trace}
-use Rattle.oa_group_commit.specs.Sessions.{AnsweredCall, IsSessionOn, answered_by}
-use Rattle.oa_group_commit.specs.StateMachines.{Exchange, StateMachine}
+use Rattle.oa_group_commit.specs.Sessions.{answered_by}
 use Rattle.oa_journal.specs.declared.shape.BankFormat.TheVariants.{Two}
-use Rattle.oa_server.specs.Storages.{OverStore, disk_of}
+use Rattle.oa_server.specs.promise.Storages.{OverStore, disk_of}
 use Rattle.oa_server.specs.declared.storage.Storage.{Storage}
 use Rattle.oa_server.specs.declared.storage.Storage.TheVariants.{Disk, Memory}
-use Rattle.oa_store.specs.Stores.{IsStoreIn}
+use Rattle.oa_store.specs.promise.Stores.{IsStoreIn}
 use Rattle.oa_store.specs.declared.store.Store.{Store}
-use Rattle.oa_table.specs.Tables.{TableValue}
-use Rattle.oa_history.specs.Kept.{SessionStart}
-use Rattle.oa_history.specs.KeepsDurablePrefix.{CallSequence, CompletedCall, KeepsDurablePrefix, Serving}
+use Rattle.oa_table.specs.promise.Tables.{TableValue}
+use Rattle.oa_history.specs.promise.CrashHistories.{SessionStart}
+use Rattle.oa_history.specs.promise.DurablePrefixes.{CallSequence, CompletedCall, KeepsDurablePrefix, Serving}
 use Rattle.oa_history.proofs.CallsOverStore.{IsServing}
 use Rattle.oa_history.proofs.Calls.{CountsBy, GroupInvariant, all_made}
 

@@ -1,16 +1,16 @@
 -- One step more, and what is told at last.
 use Rattle.std.proofs.Common.{◌≡◌, ℕ, ◌+◌, ◌<◌, List, [], ◌∷◌, ◌++◌, take, length, get_or, refl, sym, ◌∙◌, ap, subst}
 use Rattle.std.proofs.lemmas.List.{take_more}
-use Rattle.oa_group_commit.specs.Runs.{HoldsState}
-use Rattle.oa_printer.specs.Canonical.{canonical}
+use Rattle.oa_group_commit.specs.promise.Groups.{HoldsState}
+use Rattle.oa_printer.specs.promise.Canonical.{canonical}
 use Rattle.oa_journal.specs.declared.shape.BankFormat.TheVariants.{Two}
-use Rattle.oa_turn.specs.Events.{held_of}
-use Rattle.oa_server.specs.ServerMachine.{opened, server_machine}
-use Rattle.oa_decision.specs.States.{State}
+use Rattle.oa_turn.specs.promise.Events.{held_of}
+use Rattle.oa_server.specs.promise.ServerMachine.{opened, server_machine}
+use Rattle.oa_decision.specs.promise.States.{State}
 use Rattle.oa_store.proofs.OneStore.{one_store}
-use Rattle.oa_store.specs.Stores.{IsStore}
-use Rattle.oa_table.specs.Tables.{TableValue}
-use Rattle.oa_history.specs.CrashHistories.{HistorySteps, IsStepped}
+use Rattle.oa_store.specs.promise.Stores.{IsStore}
+use Rattle.oa_table.specs.promise.Tables.{TableValue}
+use Rattle.oa_history.specs.promise.CrashHistories.{HistorySteps, IsStepped}
 use Rattle.oa_history.specs.declared.session.Transcript.{Transcript}
 use Rattle.oa_history.specs.declared.session.Step.{Step}
 

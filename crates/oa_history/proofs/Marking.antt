@@ -2,21 +2,24 @@
 use Rattle.std.proofs.Common.{◌≡◌, Bool, true, false, cond, ◌||◌, if◌then◌else◌, List, [], ◌∷◌, ◌++◌, map, find, ℕ, Option, None, Some, is_some, refl, sym, ◌∙◌, ap, subst}
 use Rattle.std.specs.List.{list_any}
 use Rattle.std.specs.Option.{option_and_then, option_or}
-use Rattle.oa_printer.specs.Canonical.{canonical}
-use Rattle.oa_sema.specs.Breaches.{array_breach, bad_default_in, default_breach, disagrees, entry_breach, first_array_parameter, first_breach, first_broken, form_breach, guid_breach, id_breach, in_interface}
-use Rattle.oa_sema.specs.Breaches.{inner_breach, interface_breach, item_breach, length_breach, name_breach, repeated_name, shares_id, text_breach, unknown_name}
-use Rattle.oa_sema.specs.DeclarationValues.{DeclarationValue}
-use Rattle.oa_sema.specs.IsLibrary.{IsLibrary}
-use Rattle.oa_sema.specs.Libraries.{as_interface, interface_named, item_name, mark_first, marked, marked_entries, marked_item, same, same_name}
-use Rattle.oa_sema.specs.Repeats.{first_after, first_answer, first_repeat}
-use Rattle.oa_idl.specs.IsTree.{IsTree}
-use Rattle.oa_idl.specs.Trees.{TreeValue}
+use Rattle.oa_printer.specs.promise.Canonical.{canonical}
+use Rattle.oa_sema.specs.promise.Breaches.{array_breach, bad_default_in, default_breach, disagrees, entry_breach}
+use Rattle.oa_sema.specs.promise.Breaches.{first_array_parameter, first_breach, first_broken, form_breach, guid_breach}
+use Rattle.oa_sema.specs.promise.Breaches.{id_breach, in_interface, inner_breach, interface_breach, item_breach}
+use Rattle.oa_sema.specs.promise.Breaches.{length_breach, name_breach, repeated_name, shares_id, text_breach}
+use Rattle.oa_sema.specs.promise.Breaches.{unknown_name}
+use Rattle.oa_sema.specs.promise.DeclarationValues.{DeclarationValue}
+use Rattle.oa_sema.specs.promise.IsLibrary.{IsLibrary}
+use Rattle.oa_sema.specs.promise.Libraries.{as_interface, interface_named, item_name, mark_first, marked}
+use Rattle.oa_sema.specs.promise.Libraries.{marked_entries, marked_item, same, same_name, item_guid}
+use Rattle.oa_sema.specs.promise.Repeats.{first_after, first_answer, first_repeat}
+use Rattle.oa_idl.specs.promise.IsTree.{IsTree}
+use Rattle.oa_idl.specs.promise.Trees.{TreeValue}
 use Rattle.oa_idl.specs.declared.items.Item.{Item}
 use Rattle.oa_idl.specs.declared.items.Item.TheVariants.{Interface, Coclass}
 use Rattle.oa_idl.specs.declared.parts.Entry.{Entry}
 use Rattle.oa_typelib.proofs.Finds.{guid_kept, kept}
-use Rattle.oa_sema.specs.Libraries.{item_guid}
-use Rattle.oa_typelib.specs.Checked.{IsChecked}
+use Rattle.oa_typelib.specs.promise.Checked.{IsChecked}
 use Rattle.oa_history.proofs.Reading.{library_marked, marked_again}
 
 -- ---- what the marks keep of an item

@@ -3,30 +3,31 @@ use Rattle.std.proofs.Common.{Err, ◌≡◌, ⊎_elim, inl, inr, ℕ, Bool, tru
 use Rattle.std.specs.List.{list_any}
 use Rattle.std.specs.Prelude.{if◌then◌else◌}
 use Rattle.std.specs.Str.{IsUtf8}
-use Rattle.oa_printer.specs.Canonical.{canonical}
-use Rattle.oa_idl.specs.IsTree.{IsTree}
-use Rattle.oa_printer.specs.Marked.{mark_first, marked, marked_entries, marked_item}
-use Rattle.oa_idl.specs.Trees.{TreeValue}
+use Rattle.oa_printer.specs.promise.Canonical.{canonical}
+use Rattle.oa_idl.specs.promise.IsTree.{IsTree}
+use Rattle.oa_printer.specs.promise.Marked.{mark_first, marked, marked_entries, marked_item}
+use Rattle.oa_idl.specs.promise.Trees.{TreeValue}
 use Rattle.oa_idl.specs.declared.items.Item.{Item}
 use Rattle.oa_idl.specs.declared.items.Item.TheVariants.{Interface, Coclass}
 use Rattle.oa_idl.specs.declared.parts.Entry.{Entry}
-use Rattle.oa_compat.specs.LibraryTexts.{IsTextOf, StandsFor}
+use Rattle.oa_compat.specs.LibraryTexts.{IsTextOf}
+use Rattle.oa_compat.specs.promise.LibraryTexts.{StandsFor}
 use Rattle.oa_compat.specs.declared.library_text.TextError.{TextError}
 use Rattle.oa_compat.specs.declared.library_text.TextError.TheVariants as texts
-use Rattle.oa_journal.specs.Bank.{HasHeader, from_place}
+use Rattle.oa_journal.specs.promise.Bank.{HasHeader, from_place}
 use Rattle.oa_journal.proofs.Banks.{bank_header}
-use Rattle.oa_journal.specs.Damages.{IsDamagedBody}
+use Rattle.oa_journal.specs.promise.Damages.{IsDamagedBody}
 use Rattle.oa_journal.proofs.Damages.{bank_library, not_damaged, one_library}
 use Rattle.oa_journal.proofs.Unique.{one_head}
 use Rattle.oa_journal.specs.declared.shape.BankFormat.{BankFormat}
 use Rattle.oa_journal.specs.declared.shape.BankFormat.TheVariants.{One, Two}
-use Rattle.oa_store.specs.Faults.{IsDamaged, SpeaksOfContents, RefusalSays}
-use Rattle.oa_store.specs.Stores.{IsForeign, IsFormatted, IsStoreAt, IsStoreIn, body_place, head_place}
+use Rattle.oa_store.specs.promise.Faults.{IsDamaged, SpeaksOfContents, RefusalSays}
+use Rattle.oa_store.specs.promise.Stores.{IsForeign, IsFormatted, IsStoreAt, IsStoreIn, body_place, head_place}
 use Rattle.oa_store.specs.declared.fault.OpenFault.{OpenFault}
 use Rattle.oa_store.specs.declared.fault.OpenFault.TheVariants.{NotAStore, OldFormat, LibraryDiffers, Damaged, Device, Memory}
-use Rattle.oa_table.specs.Tables.{TableValue}
-use Rattle.oa_typelib.specs.Checked.{IsChecked}
-use Rattle.oa_sema.specs.IsLibrary.{IsLibrary}
+use Rattle.oa_table.specs.promise.Tables.{TableValue}
+use Rattle.oa_typelib.specs.promise.Checked.{IsChecked}
+use Rattle.oa_sema.specs.promise.IsLibrary.{IsLibrary}
 
 -- ---- a store is not refused by whoever wants any library
 

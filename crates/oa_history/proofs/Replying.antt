@@ -2,12 +2,12 @@
 use Rattle.std.proofs.Common.{◌≡◌, ℕ, ◌+◌, ◌<◌, List, [], ◌∷◌, ◌++◌, take, length, get_or, refl, sym, ◌∙◌, ap, subst, arith, length-append}
 use Rattle.std.proofs.lemmas.List.{take_more}
 use Rattle.oa_disk.specs.declared.disk.Disk.{Ghosts}
-use Rattle.oa_record.specs.Replies.{ReplyValue}
-use Rattle.oa_decision.specs.States.{State}
-use Rattle.oa_server.specs.Storages.{Serves, disk_of}
+use Rattle.oa_record.specs.promise.Replies.{ReplyValue}
+use Rattle.oa_decision.specs.promise.States.{State}
+use Rattle.oa_server.specs.promise.Storages.{Serves, disk_of}
 use Rattle.oa_server.specs.declared.storage.Storage.{Storage}
-use Rattle.oa_history.specs.CrashHistories.{call_bodies, made_calls}
-use Rattle.oa_history.specs.KeepsDurablePrefix.{CallSequence, CompletedCall}
+use Rattle.oa_history.specs.promise.CrashHistories.{call_bodies, made_calls}
+use Rattle.oa_history.specs.promise.DurablePrefixes.{CallSequence, CompletedCall}
 use Rattle.oa_history.proofs.Calls.{made_push}
 use Rattle.oa_history.specs.declared.session.Answer.{Answer}
 use Rattle.oa_history.specs.declared.session.ServerCall.{ServerCall}

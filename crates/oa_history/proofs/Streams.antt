@@ -2,22 +2,21 @@
 use Rattle.std.proofs.Common.{◌≡◌, ℕ, List, [], ◌∷◌, Bor, refl, sym, ◌∙◌, ap, subst}
 use Rattle.oa_disk.specs.declared.disk.Disk.{Ghosts}
 use Rattle.oa_disk.specs.declared.memory.MemoryDisk.{MemoryDisk}
-use Rattle.oa_frame.specs.Framings.{frames}
+use Rattle.oa_frame.specs.promise.Framings.{frames}
 use Rattle.oa_frame.specs.declared.framing.Framing.{Framing}
 use Rattle.oa_frame.specs.declared.session.Served.{Served}
 use Rattle.oa_stream.specs.BufferedSource.{ahead, read_ahead, with_front}
-use Rattle.oa_stream.specs.Memory.{gathered_output}
-use Rattle.oa_stream.specs.Source.{Input as Read, in_memory}
+use Rattle.oa_stream.specs.promise.Memory.{gathered_output}
+use Rattle.oa_stream.specs.promise.Source.{Input as Read, in_memory}
 use Rattle.oa_stream.specs.declared.ahead.BufferedSource.{BufferedSource}
 use Rattle.oa_stream.specs.declared.gathered.VecSink.{VecSink}
-use Rattle.oa_decision.specs.States.{State}
-use Rattle.oa_record.specs.Replies.{ReplyValue}
-use Rattle.oa_server.specs.Storages.{Serves, disk_of}
-use Rattle.oa_server.specs.Talks.{InParts, IsStoreSession, Part, Parts}
+use Rattle.oa_decision.specs.promise.States.{State}
+use Rattle.oa_record.specs.promise.Replies.{ReplyValue}
+use Rattle.oa_server.specs.promise.Storages.{Serves, disk_of, InParts, Part, Parts}
+use Rattle.oa_server.specs.Talks.{IsStoreSession}
 use Rattle.oa_server.specs.declared.server.Server.{Server}
 use Rattle.oa_server.specs.declared.storage.Storage.{Storage}
-use Rattle.oa_history.specs.KeepsDurablePrefix.{CallSequence, CompletedCall}
-use Rattle.oa_history.specs.StreamedSessions.{HasWritten, calls_in, stream_parts}
+use Rattle.oa_history.specs.promise.DurablePrefixes.{CallSequence, CompletedCall, HasWritten, calls_in, stream_parts}
 use Rattle.oa_history.specs.declared.session.StreamInput.{StreamInput}
 use Rattle.oa_history.proofs.Calls.{made_push}
 

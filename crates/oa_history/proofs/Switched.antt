@@ -1,26 +1,24 @@
 -- What a checkpoint and its stop leave of a state.
 use Rattle.std.proofs.Common.{◌≡◌, ⊎_elim, ℕ, ◌+◌, ◌*◌, ◌-◌, ◌≤◌, List, length, sym, ◌∙◌, ap, subst, arith}
-use Rattle.oa_disk.specs.Disk.{Follows, LeavesStep, NothingPending}
+use Rattle.oa_disk.specs.promise.Disk.{Follows, NothingPending}
+use Rattle.oa_disk.specs.Disk.{LeavesStep}
 use Rattle.oa_disk.specs.declared.disk.Disk.{Ghosts}
-use Rattle.oa_group_commit.specs.Runs.{HoldsState}
-use Rattle.oa_printer.specs.Canonical.{canonical}
-use Rattle.oa_image.specs.Tables.{table_image}
-use Rattle.oa_journal.specs.Banks.{first_gate}
-use Rattle.oa_journal.specs.Reads.{WritesNothing}
-use Rattle.oa_journal.specs.Shapes.{body_bytes}
+use Rattle.oa_group_commit.specs.promise.Groups.{HoldsState}
+use Rattle.oa_printer.specs.promise.Canonical.{canonical}
+use Rattle.oa_image.specs.promise.Tables.{table_image}
+use Rattle.oa_journal.specs.promise.Bank.{first_gate, WritesNothing, body_bytes}
 use Rattle.oa_journal.specs.declared.shape.BankFormat.{BankFormat}
 use Rattle.oa_journal.specs.declared.shape.BankFormat.TheVariants.{Two}
-use Rattle.oa_turn.specs.Beginnings.{CanBegin}
-use Rattle.oa_turn.specs.Events.{held_of}
-use Rattle.oa_server.specs.ServerMachine.{opened, server_machine}
-use Rattle.oa_decision.specs.States.{State}
-use Rattle.oa_store.specs.Calls.{checkpoint_calls}
+use Rattle.oa_turn.specs.promise.Beginnings.{CanBegin}
+use Rattle.oa_turn.specs.promise.Events.{held_of}
+use Rattle.oa_server.specs.promise.ServerMachine.{opened, server_machine}
+use Rattle.oa_decision.specs.promise.States.{State}
+use Rattle.oa_store.specs.promise.Stores.{checkpoint_calls, IsStoreAt}
 use Rattle.oa_store.specs.Changes.{IsSwitch, IsSwitched}
 use Rattle.oa_store.specs.OneStore.{AreSameStores}
 use Rattle.oa_store.proofs.OneStore.{one_store}
-use Rattle.oa_store.specs.Stores.{IsStoreAt}
 use Rattle.oa_store.specs.declared.store.Store.{Store}
-use Rattle.oa_table.specs.Tables.{TableValue, unlocked_table}
+use Rattle.oa_table.specs.promise.Tables.{TableValue, unlocked_table}
 
 -- the calls of an opening, and of a checkpoint behind it
 pub within : (start mid end short gate one other : ℕ) → start ≡ 0 → mid + short ≤ start + (20 + gate) → end ≤ mid + 2 * one → one ≡ other → end + short ≤ 20 + gate + 2 * other

@@ -1,30 +1,30 @@
 -- An opening of a disk that holds a state, whatever is pending on it.
 use Rattle.std.proofs.Common.{◌≡◌, ⊎_elim, ℕ, List, [], Some, IsTrue, length, refl, sym, ◌∙◌, ap, subst, arith}
 use Rattle.oa_disk.specs.declared.disk.Disk.{Ghosts}
-use Rattle.oa_group_commit.specs.Runs.{AllHoldState, HoldsState}
-use Rattle.oa_printer.specs.Canonical.{canonical}
-use Rattle.oa_idl.specs.IsTree.{IsTree}
-use Rattle.oa_idl.specs.Trees.{TreeValue}
-use Rattle.oa_journal.specs.Shapes.{body_bytes}
+use Rattle.oa_group_commit.specs.promise.Groups.{AllHoldState, HoldsState}
+use Rattle.oa_printer.specs.promise.Canonical.{canonical}
+use Rattle.oa_idl.specs.promise.IsTree.{IsTree}
+use Rattle.oa_idl.specs.promise.Trees.{TreeValue}
+use Rattle.oa_journal.specs.promise.Bank.{body_bytes}
 use Rattle.oa_journal.specs.declared.shape.BankFormat.{BankFormat}
 use Rattle.oa_journal.specs.declared.shape.BankFormat.TheVariants.{Two}
 use Rattle.oa_server.proofs.FoundIsKept.{same_library}
 use Rattle.oa_server.proofs.Opened.{can_begin}
 use Rattle.oa_server.specs.Laws.{FoundIsKept, OpenedJoins}
-use Rattle.oa_turn.specs.Beginnings.{CanBegin}
-use Rattle.oa_server.specs.Openings.{IsNotOpened, IsOpened}
-use Rattle.oa_turn.specs.Events.{held_of}
-use Rattle.oa_server.specs.ServerMachine.{opened, server_machine}
-use Rattle.oa_decision.specs.States.{State, state_of}
-use Rattle.oa_server.specs.Storages.{OverStore, bank_bytes_of}
+use Rattle.oa_turn.specs.promise.Beginnings.{CanBegin}
+use Rattle.oa_server.specs.promise.ServerMachine.{IsNotOpened, IsOpened, opened, server_machine}
+use Rattle.oa_turn.specs.promise.Events.{held_of}
+use Rattle.oa_decision.specs.promise.States.{State, state_of}
+use Rattle.oa_server.specs.promise.Storages.{OverStore}
+use Rattle.oa_server.specs.Storages.{bank_bytes_of}
 use Rattle.oa_server.specs.declared.storage.Storage.{Storage}
 use Rattle.oa_server.specs.declared.storage.Storage.TheVariants.{Disk, Memory}
-use Rattle.oa_store.specs.Faults.{SpeaksOfContents, RefusalSays}
-use Rattle.oa_store.specs.Stores.{IsStoreIn}
+use Rattle.oa_store.specs.promise.Faults.{SpeaksOfContents, RefusalSays}
+use Rattle.oa_store.specs.promise.Stores.{IsStoreIn}
 use Rattle.oa_store.specs.declared.fault.OpenFault.{OpenFault}
 use Rattle.oa_store.specs.declared.store.Store.{Store}
-use Rattle.oa_table.specs.Tables.{TableValue}
-use Rattle.oa_typelib.specs.Checked.{IsChecked}
+use Rattle.oa_table.specs.promise.Tables.{TableValue}
+use Rattle.oa_typelib.specs.promise.Checked.{IsChecked}
 use Rattle.oa_history.proofs.Found.{same_state}
 use Rattle.oa_history.proofs.Reading.{opened_by_its_own}
 

@@ -3,31 +3,29 @@ use Rattle.std.proofs.Common.{◌≡◌, ◌⊎◌, inl, inr, ⊎_elim, ℕ, ◌
 use Rattle.std.proofs.lemmas.List.{append-nil}
 use Rattle.oa_disk.specs.declared.disk.Disk.{Ghosts}
 use Rattle.oa_group_commit.specs.Invariants.{GroupInvariant}
-use Rattle.oa_group_commit.specs.GroupStates.{GroupState, IsAdmitted, IsApart, IsEnded}
-use Rattle.oa_group_commit.specs.Served.{IsServed}
+use Rattle.oa_group_commit.specs.promise.Groups.{GroupState, IsAdmitted, IsApart, IsEnded, IsServed}
 use Rattle.oa_group_commit.proofs.Ends.{underway_ended}
 use Rattle.oa_group_commit.proofs.Entries.{either}
 use Rattle.oa_group_commit.proofs.Stores.{goes_nowhere}
 use Rattle.oa_group_commit.proofs.Takes.{underway_start, underway_taken}
-use Rattle.oa_record.specs.Replies.{ReplyValue}
+use Rattle.oa_record.specs.promise.Replies.{ReplyValue}
 use Rattle.oa_store.specs.declared.store.Store.{Store}
-use Rattle.oa_server.specs.SharedGroups.{all_frames, shared_group_state_of, told_to}
-use Rattle.oa_server.specs.SharedMachine.{shared_machine}
-use Rattle.oa_server.specs.SharedTalks.{AsksIn, asked_written}
-use Rattle.oa_server.specs.Sharing.{ClientReply, Shared, failed_client_reply, shared, tagged_body}
-use Rattle.oa_server.specs.Storages.{disk_of}
-use Rattle.oa_server.specs.Stretches.{IsLateFor, ServesStretch}
+use Rattle.oa_server.specs.promise.SharedSessions.{all_frames, shared_group_state_of, told_to, AsksIn, asked_written}
+use Rattle.oa_server.specs.promise.SharedMachine.{shared_machine, ClientReply, Shared, failed_client_reply, shared}
+use Rattle.oa_server.specs.promise.SharedMachine.{tagged_body, IsLateFor, ServesStretch}
+use Rattle.oa_server.specs.promise.Storages.{disk_of}
 use Rattle.oa_server.specs.declared.desk.ReplyTo.{ReplyTo}
 use Rattle.oa_server.specs.declared.desk.SharedGroup.{SharedGroup}
 use Rattle.oa_server.specs.declared.engine.ServerState.{ServerState}
 use Rattle.oa_server.specs.declared.storage.Storage.{Storage}
 use Rattle.oa_server.specs.declared.storage.Storage.TheVariants.{Disk, Memory}
-use Rattle.oa_mux.specs.Marks.{Tagged, Of, Flush}
-use Rattle.oa_mux.specs.Readers.{Brought}
-use Rattle.oa_mux.specs.Talking.{AllTurned}
-use Rattle.oa_decision.specs.States.{State}
-use Rattle.oa_history.specs.Framed.{AreTurnsOf, ServesShared, TurnsAreCalls, at_last_turn, ends_of_turns, requests_in}
-use Rattle.oa_history.specs.KeepsDurablePrefix.{CallSequence, CompletedCall}
+use Rattle.oa_mux.specs.promise.Marks.{Tagged, Of, Flush}
+use Rattle.oa_mux.specs.promise.Readers.{Brought}
+use Rattle.oa_mux.specs.promise.Talking.{AllTurned}
+use Rattle.oa_decision.specs.promise.States.{State}
+use Rattle.oa_history.specs.promise.Framed.{AreTurnsOf, ServesShared, at_last_turn, ends_of_turns, requests_in}
+use Rattle.oa_history.specs.Framed.{TurnsAreCalls}
+use Rattle.oa_history.specs.promise.DurablePrefixes.{CallSequence, CompletedCall}
 
 no_frames : all_frames [] ≡ []
 unfolding all_frames

@@ -2,7 +2,7 @@
 use Rattle.std.proofs.Common.{◌≡◌, ◌<◌, ℕ, List, Bool, false, true, true≢false, Err, IsErrOf, Result, refl, sym, ◌∙◌, ap}
 use Rattle.oa_disk.specs.declared.disk.DeviceFault.{DeviceFault}
 use Rattle.oa_disk.specs.declared.disk.DeviceFault.TheVariants.{Write}
-use Rattle.oa_journal.specs.Shapes.{disk_bytes}
+use Rattle.oa_journal.specs.promise.Bank.{disk_bytes}
 use Rattle.oa_journal.specs.declared.shape.BankFormat.TheVariants.{Two}
 use Rattle.oa_store.specs.Faults.{UpgradeSays}
 use Rattle.oa_store.specs.declared.fault.UpgradeFault.{UpgradeFault}

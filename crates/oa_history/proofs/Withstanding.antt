@@ -3,21 +3,18 @@ use Rattle.std.proofs.Common.{◌≡◌, ℕ, ◌+◌, ◌<◌, ◌≤◌, lengt
 use Rattle.std.proofs.lemmas.List.{append-nil, take_more}
 use Rattle.oa_disk.specs.declared.disk.Disk.{Ghosts}
 use Rattle.oa_group_commit.specs.Laws.{CallCounts, CallGoesOn, CrashKeepsAcknowledged, EndCountsAll, LateCallCounts}
-use Rattle.oa_group_commit.specs.Runs.{HoldsPrefix}
-use Rattle.oa_group_commit.specs.Sessions.{AnsweredCall, IsSessionOn, OpenSession}
-use Rattle.oa_group_commit.specs.StateMachines.{StateMachine}
-use Rattle.oa_record.specs.Replies.{ReplyValue}
-use Rattle.oa_server.specs.ServerMachine.{server_machine}
-use Rattle.oa_decision.specs.States.{State}
-use Rattle.oa_server.specs.Storages.{OverStore, Serves, disk_of}
+use Rattle.oa_group_commit.specs.promise.Groups.{HoldsPrefix, AnsweredCall, IsSessionOn, OpenSession, StateMachine}
+use Rattle.oa_record.specs.promise.Replies.{ReplyValue}
+use Rattle.oa_server.specs.promise.ServerMachine.{server_machine}
+use Rattle.oa_decision.specs.promise.States.{State}
+use Rattle.oa_server.specs.promise.Storages.{OverStore, Serves, disk_of}
 use Rattle.oa_server.specs.declared.storage.Storage.{Storage}
 use Rattle.oa_server.specs.declared.storage.Storage.TheVariants.{Disk, Memory}
 use Rattle.oa_store.specs.declared.store.Store.{Store}
-use Rattle.oa_history.specs.Kept.{SessionStart}
-use Rattle.oa_history.specs.KeepsDurablePrefix.{Serving}
+use Rattle.oa_history.specs.promise.CrashHistories.{SessionStart, call_bodies}
+use Rattle.oa_history.specs.promise.DurablePrefixes.{Serving}
 use Rattle.oa_history.proofs.CallsOverStore.{IsServing, ServesOver, requests_are_served}
-use Rattle.oa_history.specs.CrashHistories.{call_bodies}
-use Rattle.oa_history.specs.FaultHistories.{Answered, told_call, told_calls}
+use Rattle.oa_history.specs.promise.FaultHistories.{Answered, told_call, told_calls}
 use Rattle.oa_history.specs.declared.failing.CallOutcome.{CallOutcome}
 use Rattle.oa_history.specs.declared.session.ServerCall.{ServerCall}
 

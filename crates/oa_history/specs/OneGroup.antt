@@ -1,9 +1,8 @@
 -- When a call is one group.
 use Rattle.std.specs.Prelude.{◌<◌, ◌≤◌, ℕ, Bool, List, length}
-use Rattle.oa_model.specs.Limits.{group_bytes}
-use Rattle.oa_group_commit.specs.Groups.{HasNoBarrier, concat_groups, events_in}
-use Rattle.oa_group_commit.specs.Sessions.{AnsweredCall, IsCalled}
-use Rattle.oa_group_commit.specs.StateMachines.{Exchange, StateMachine}
+use Rattle.oa_model.specs.promise.Limits.{group_bytes}
+use Rattle.oa_group_commit.specs.promise.Groups.{HasNoBarrier, concat_groups, events_in, AnsweredCall, IsCalled}
+use Rattle.oa_group_commit.specs.promise.Groups.{Exchange, StateMachine}
 
 -- A call with at most a group's number of bodies, none of which is a group of its own, is one group, unless its
 -- events fill one before its end.

@@ -1,11 +1,12 @@
 //! A checkpoint between two sessions, and its crash.
 ghost use Rattle.std.specs.Prelude.{◌≡◌, false, IfOk, IfErr};
-ghost use Rattle.oa_disk.specs.Memory.{memory_contents};
-ghost use Rattle.oa_journal.specs.Shapes.{body_bytes};
-ghost use Rattle.oa_image.specs.Tables.{FitsBank};
-ghost use Rattle.oa_decision.specs.States.{State};
-ghost use Rattle.oa_history.specs.Kept.{IsRecoverable, IsFreshDisk, IsWanting};
-ghost use Rattle.oa_history.specs.Between.{IsCheckpointed, IsFoundStore};
+ghost use Rattle.oa_disk.specs.promise.Memory.{memory_contents};
+ghost use Rattle.oa_journal.specs.promise.Bank.{body_bytes};
+ghost use Rattle.oa_image.specs.promise.Tables.{FitsBank};
+ghost use Rattle.oa_decision.specs.promise.States.{State};
+ghost use Rattle.oa_history.specs.Kept.{IsRecoverable, IsWanting};
+ghost use Rattle.oa_history.specs.promise.CrashHistories.{IsFreshDisk, IsCheckpointed};
+ghost use Rattle.oa_history.specs.Between.{IsFoundStore};
 
 use crate::reopening::library_on;
 use crate::{HistoryFault, Stop};

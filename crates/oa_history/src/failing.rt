@@ -1,8 +1,9 @@
 //! Calls of a server over a disk that fails from some call on.
 ghost use Rattle.std.specs.Prelude.{◌≡◌, IfOk, IfErr};
-ghost use Rattle.oa_decision.specs.States.{State};
-ghost use Rattle.oa_history.specs.Kept.{IsRecoverable, IsFreshDisk, IsWanting};
-ghost use Rattle.oa_history.specs.FaultHistories.{AnsweredBy, BeginsOver, HoldsAlone, IsUnopened, IsWithstood};
+ghost use Rattle.oa_decision.specs.promise.States.{State};
+ghost use Rattle.oa_history.specs.Kept.{IsRecoverable, IsWanting};
+ghost use Rattle.oa_history.specs.promise.CrashHistories.{IsFreshDisk};
+ghost use Rattle.oa_history.specs.promise.FaultHistories.{AnsweredBy, BeginsOver, HoldsAlone, IsUnopened, IsWithstood};
 ghost use Rattle.oa_history.specs.declared.fault.HistoryFault.TheVariants.{Memory};
 
 use crate::reopening::library_on;

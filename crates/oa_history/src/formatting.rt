@@ -1,11 +1,12 @@
 //! A new store whose formatting crashes.
 ghost use Rattle.std.specs.Prelude.{◌≤◌, IfOk, IfErr};
-ghost use Rattle.oa_disk.specs.Memory.{memory_contents, moments_of};
-ghost use Rattle.oa_journal.specs.Shapes.{least_bank_bytes, most_bank_bytes};
-ghost use Rattle.oa_decision.specs.States.{state_of};
+ghost use Rattle.oa_disk.specs.promise.Memory.{memory_contents, moments_of};
+ghost use Rattle.oa_journal.specs.promise.Bank.{least_bank_bytes, most_bank_bytes};
+ghost use Rattle.oa_decision.specs.promise.States.{state_of};
 ghost use Rattle.oa_table.specs.Tables.{first_table};
 ghost use Rattle.oa_history.specs.Between.{IsStoppedFormatting};
-ghost use Rattle.oa_history.specs.Kept.{IsRecoverable, IsFreshDisk, IsUnmade};
+ghost use Rattle.oa_history.specs.Kept.{IsRecoverable, IsUnmade};
+ghost use Rattle.oa_history.specs.promise.CrashHistories.{IsFreshDisk};
 
 use crate::HistoryFault;
 use oa_disk::{MemoryDisk, Tear};

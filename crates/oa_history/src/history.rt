@@ -1,11 +1,11 @@
 //! Sessions, and checkpoints between them, one after another.
 ghost use Rattle.std.specs.Prelude.{◌≤◌, IfOk, IfErr};
-ghost use Rattle.oa_disk.specs.Memory.{memory_contents};
-ghost use Rattle.oa_journal.specs.Shapes.{least_bank_bytes, most_bank_bytes};
-ghost use Rattle.oa_decision.specs.States.{State, state_of};
+ghost use Rattle.oa_disk.specs.promise.Memory.{memory_contents};
+ghost use Rattle.oa_journal.specs.promise.Bank.{least_bank_bytes, most_bank_bytes};
+ghost use Rattle.oa_decision.specs.promise.States.{State, state_of};
 ghost use Rattle.oa_table.specs.Tables.{first_table};
-ghost use Rattle.oa_history.specs.Kept.{IsRecoverable, IsFreshDisk, IsUnmade, IsWanting};
-ghost use Rattle.oa_history.specs.CrashHistories.{IsCrashHistory, IsCrashHistoryOn, IsStepped};
+ghost use Rattle.oa_history.specs.Kept.{IsRecoverable, IsUnmade, IsWanting};
+ghost use Rattle.oa_history.specs.promise.CrashHistories.{IsFreshDisk, IsCrashHistory, IsCrashHistoryOn, IsStepped};
 
 use crate::reopening::{begun, reopened, shown};
 use crate::{HistoryFault, Opened, Replies, Step, Transcript, checkpointed, stopped};

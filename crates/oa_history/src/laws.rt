@@ -1,7 +1,7 @@
 //! Theorems that relate calls with groups, and with the turns of many clients.
 ghost use Rattle.oa_history.specs.Framed.{RepliesGoToClients, TurnsAreCalls};
 ghost use Rattle.oa_history.specs.OneGroup.{FewAreOneGroup};
-ghost use Rattle.oa_server.specs.ServerMachine.{server_machine};
+ghost use Rattle.oa_server.specs.promise.ServerMachine.{server_machine};
 
 use oa_disk::Disk;
 

@@ -1,14 +1,15 @@
 //! A new store, and the opening of one with its own library.
 ghost use Rattle.std.specs.Prelude.{◌≡◌, ◌≤◌, IfOk, IfErr};
-ghost use Rattle.oa_disk.specs.Memory.{memory_contents};
-ghost use Rattle.oa_group_commit.specs.Runs.{HoldsState};
-ghost use Rattle.oa_journal.specs.Shapes.{least_bank_bytes, most_bank_bytes};
-ghost use Rattle.oa_server.specs.ServerMachine.{server_machine};
-ghost use Rattle.oa_decision.specs.States.{State, state_of};
-ghost use Rattle.oa_store.specs.Stores.{IsStore};
+ghost use Rattle.oa_disk.specs.promise.Memory.{memory_contents};
+ghost use Rattle.oa_group_commit.specs.promise.Groups.{HoldsState};
+ghost use Rattle.oa_journal.specs.promise.Bank.{least_bank_bytes, most_bank_bytes};
+ghost use Rattle.oa_server.specs.promise.ServerMachine.{server_machine};
+ghost use Rattle.oa_decision.specs.promise.States.{State, state_of};
+ghost use Rattle.oa_store.specs.promise.Stores.{IsStore};
 ghost use Rattle.oa_table.specs.Tables.{first_table};
-ghost use Rattle.oa_typelib.specs.Checked.{IsChecked};
-ghost use Rattle.oa_history.specs.Kept.{IsRecovered, IsRecoverable, IsFreshDisk, IsUnmade, IsWanting};
+ghost use Rattle.oa_typelib.specs.promise.Checked.{IsChecked};
+ghost use Rattle.oa_history.specs.promise.CrashHistories.{IsRecovered, IsFreshDisk};
+ghost use Rattle.oa_history.specs.Kept.{IsRecoverable, IsUnmade, IsWanting};
 ghost use Rattle.oa_history.specs.declared.fault.HistoryFault.TheVariants.{Memory};
 
 use crate::{HistoryFault, Opened};

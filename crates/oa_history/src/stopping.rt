@@ -1,11 +1,11 @@
 //! One session, and its crash.
 ghost use Rattle.std.specs.Prelude.{◌≡◌, min, IfOk, IfErr, length};
-ghost use Rattle.oa_disk.specs.Memory.{IsTornAt, memory_contents, moments_of};
-ghost use Rattle.oa_decision.specs.States.{State};
-ghost use Rattle.oa_history.specs.Kept.{IsRecoverable, IsFreshDisk, IsWanting};
-ghost use Rattle.oa_history.specs.CrashHistories.{IsTranscriptUntilCrash, made_calls};
-ghost use Rattle.oa_history.specs.KeepsDurablePrefix.{CallSequence};
-ghost use Rattle.oa_server.specs.Storages.{Serves};
+ghost use Rattle.oa_disk.specs.promise.Memory.{IsTornAt, memory_contents, moments_of};
+ghost use Rattle.oa_decision.specs.promise.States.{State};
+ghost use Rattle.oa_history.specs.Kept.{IsRecoverable, IsWanting};
+ghost use Rattle.oa_history.specs.promise.CrashHistories.{IsFreshDisk, IsTranscriptUntilCrash, made_calls};
+ghost use Rattle.oa_history.specs.promise.DurablePrefixes.{CallSequence};
+ghost use Rattle.oa_server.specs.promise.Storages.{Serves};
 ghost use Rattle.oa_history.specs.declared.fault.HistoryFault.TheVariants.{Memory};
 
 use crate::reopening::reopened;

@@ -1,10 +1,9 @@
 //! Sessions over streams in memory, of one client and of many.
 ghost use Rattle.std.specs.Prelude.{◌≡◌, List, IfOk, IfErr};
 ghost use Rattle.oa_history.specs.Framed.{MakesCalls};
-ghost use Rattle.oa_history.specs.KeepsDurablePrefix.{CallSequence, CompletedCall};
-ghost use Rattle.oa_record.specs.Replies.{ReplyValue};
-ghost use Rattle.oa_server.specs.Storages.{Serves};
-ghost use Rattle.oa_history.specs.StreamedSessions.{HasWritten};
+ghost use Rattle.oa_history.specs.promise.DurablePrefixes.{CallSequence, CompletedCall, HasWritten};
+ghost use Rattle.oa_record.specs.promise.Replies.{ReplyValue};
+ghost use Rattle.oa_server.specs.promise.Storages.{Serves};
 ghost use Rattle.oa_history.specs.declared.fault.HistoryFault.TheVariants.{Memory};
 
 use crate::laws::turns_are_calls;

@@ -1,14 +1,15 @@
 //! A session over a disk that fails, and what is found after it.
 ghost use Rattle.std.specs.Prelude.{◌≤◌, IfOk, IfErr};
-ghost use Rattle.oa_disk.specs.Memory.{memory_contents};
-ghost use Rattle.oa_group_commit.specs.Runs.{HoldsState};
-ghost use Rattle.oa_journal.specs.Shapes.{least_bank_bytes, most_bank_bytes};
-ghost use Rattle.oa_turn.specs.Beginnings.{CanBegin};
-ghost use Rattle.oa_server.specs.ServerMachine.{opened, server_machine};
-ghost use Rattle.oa_decision.specs.States.{State, state_of};
+ghost use Rattle.oa_disk.specs.promise.Memory.{memory_contents};
+ghost use Rattle.oa_group_commit.specs.promise.Groups.{HoldsState};
+ghost use Rattle.oa_journal.specs.promise.Bank.{least_bank_bytes, most_bank_bytes};
+ghost use Rattle.oa_turn.specs.promise.Beginnings.{CanBegin};
+ghost use Rattle.oa_server.specs.promise.ServerMachine.{opened, server_machine};
+ghost use Rattle.oa_decision.specs.promise.States.{State, state_of};
 ghost use Rattle.oa_table.specs.Tables.{first_table};
-ghost use Rattle.oa_history.specs.Kept.{IsFreshDisk, IsRecoverable, IsUnmade, IsWanting};
-ghost use Rattle.oa_history.specs.FaultHistories.{IsFaultHistory, IsSurvivedOn, IsTakenUp};
+ghost use Rattle.oa_history.specs.promise.CrashHistories.{IsFreshDisk};
+ghost use Rattle.oa_history.specs.Kept.{IsRecoverable, IsUnmade, IsWanting};
+ghost use Rattle.oa_history.specs.promise.FaultHistories.{IsFaultHistory, IsSurvivedOn, IsTakenUp};
 
 use crate::reopening::{begun, library_on, shown};
 use crate::{CallOutcome, HistoryFault, Opened, ServerCall, session_with_faults};

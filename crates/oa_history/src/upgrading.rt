@@ -1,10 +1,11 @@
 //! An upgrade of a store from format 1 to format 2, and its crash.
 ghost use Rattle.std.specs.Prelude.{◌≤◌, IfOk, IfErr};
-ghost use Rattle.oa_disk.specs.Memory.{memory_contents, moments_of};
-ghost use Rattle.oa_journal.specs.Shapes.{least_bank_bytes, most_bank_bytes};
-ghost use Rattle.oa_decision.specs.States.{State};
+ghost use Rattle.oa_disk.specs.promise.Memory.{memory_contents, moments_of};
+ghost use Rattle.oa_journal.specs.promise.Bank.{least_bank_bytes, most_bank_bytes};
+ghost use Rattle.oa_decision.specs.promise.States.{State};
 ghost use Rattle.oa_history.specs.Between.{IsStoppedUpgrading};
-ghost use Rattle.oa_history.specs.Kept.{CanBecome, IsFreshDisk, IsRecoverable, IsUnbrought};
+ghost use Rattle.oa_history.specs.Kept.{CanBecome, IsRecoverable, IsUnbrought};
+ghost use Rattle.oa_history.specs.promise.CrashHistories.{IsFreshDisk};
 
 use crate::{HistoryFault, Stop};
 use oa_disk::MemoryDisk;

@@ -1,6 +1,6 @@
 //! Histories with larger banks than the smallest, and histories of a store of format 1.
 ghost use Rattle.std.specs.Prelude.{IfSome};
-ghost use Rattle.oa_history.specs.Kept.{IsFreshDisk};
+ghost use Rattle.oa_history.specs.promise.CrashHistories.{IsFreshDisk};
 
 use crate::script::{
     BANK, END, are_told, calls_of, first, left_by, library, place_in, read_by, reads,

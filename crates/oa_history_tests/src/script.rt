@@ -1,7 +1,7 @@
 //! A script of two sessions with a checkpoint between them: the requests, the replies, the values
 //! that are read after each prefix of the requests, and functions that run the script.
 ghost use Rattle.std.specs.Prelude.{◌≤◌, IfSome};
-ghost use Rattle.oa_history.specs.Kept.{IsFreshDisk};
+ghost use Rattle.oa_history.specs.promise.CrashHistories.{IsFreshDisk};
 
 use oa_disk::{MemoryDisk, Tear};
 use oa_history::{

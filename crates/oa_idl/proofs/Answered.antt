@@ -10,17 +10,19 @@ use Rattle.oa_idl.specs.declared.stop.TreeLimit.TheVariants as limits
 use Rattle.oa_idl.specs.declared.stop.Limit.TheVariants as texts
 use Rattle.oa_idl.specs.declared.stop.ParseError.{ParseError}
 use Rattle.oa_idl.specs.declared.stop.ParseError.TheVariants as errors
-use Rattle.oa_idl.specs.Trees.{TreeValue}
-use Rattle.oa_tokens.specs.Tokens.{AreTokens}
-use Rattle.oa_idl.specs.Forms.{Word, Then, ◌▸◌, nothing, BeginsWithWords}
-use Rattle.oa_idl.specs.Words.{passes, word_of, words_of}
+use Rattle.oa_idl.specs.promise.Trees.{TreeValue}
+use Rattle.oa_tokens.specs.promise.Tokens.{AreTokens}
+use Rattle.oa_idl.specs.promise.Forms.{Word, Then, ◌▸◌, nothing}
+use Rattle.oa_idl.specs.Forms.{BeginsWithWords}
+use Rattle.oa_idl.specs.promise.Words.{passes, word_of, words_of}
 use Rattle.oa_idl.specs.Reading.ReadStep.{Got, Stuck}
-use Rattle.oa_idl.specs.Grammar.{symbol, library}
+use Rattle.oa_idl.specs.promise.Grammar.{symbol, library}
 use Rattle.oa_idl.specs.GrammarReading.{library_at}
-use Rattle.oa_idl.specs.Limits.{KeepsLimit}
+use Rattle.oa_idl.specs.promise.Limits.{KeepsLimit}
 use Rattle.oa_idl.specs.TextLimits.{limit_of}
 use Rattle.oa_idl.specs.Parsed.{IsParsed}
-use Rattle.oa_idl.specs.IsTree.{MayBeText, IsTree, place_after, Refused, AnyTree, BrokenAt, BreaksLimit, AnswersText, AnswersTree}
+use Rattle.oa_idl.specs.promise.IsTree.{MayBeText, IsTree}
+use Rattle.oa_idl.specs.IsTree.{place_after, Refused, AnyTree, BrokenAt, BreaksLimit, AnswersText, AnswersTree}
 use Rattle.oa_idl.proofs.ChoiceParses.{clash}
 use Rattle.oa_idl.proofs.FurtherParses.{begins_itself}
 use Rattle.oa_tokens.proofs.OneList.{one_list}

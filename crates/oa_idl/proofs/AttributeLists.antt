@@ -1,11 +1,11 @@
 -- The reading of a list of attributes reads it.
 use Rattle.std.proofs.Common.{◌≡◌, ℕ, Bool, true, List, Option, refl, sym}
 use Rattle.std.specs.Prelude.{not, codes}
-use Rattle.oa_idl.specs.Forms.{Word, ◌▸◌, gathered, nowhere}
-use Rattle.oa_idl.specs.Words.{passes}
+use Rattle.oa_idl.specs.promise.Forms.{Word, ◌▸◌, gathered, nowhere}
+use Rattle.oa_idl.specs.promise.Words.{passes}
 use Rattle.oa_idl.specs.Reading.{ReadStep, Parser, and_then, bind, give, gather_at}
 use Rattle.oa_idl.specs.Reading.ReadStep.{Got, Stuck}
-use Rattle.oa_idl.specs.Grammar.{symbol, next_attribute, last_attribute, attributes}
+use Rattle.oa_idl.specs.promise.Grammar.{symbol, next_attribute, last_attribute, attributes}
 use Rattle.oa_idl.specs.GrammarReading.{grown_at, next_at, next_grown_at, last_at, attributes_at}
 use Rattle.oa_idl.proofs.Parses.{Parses, Always, NoLimit}
 use Rattle.oa_idl.proofs.PartParses.{enough, said_parses, with_parses, skip_parses}

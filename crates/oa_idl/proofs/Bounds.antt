@@ -4,22 +4,23 @@ use Rattle.std.proofs.Common.{leb-false}
 use Rattle.std.specs.Prelude.{nat_lt, nat_le, if◌then◌else◌}
 use Rattle.std.specs.List.{AllByRecursion}
 use Rattle.std.proofs.Math.Logic.{⊎_elim}
-use Rattle.oa_model.specs.Limits.{max_coclasses, max_interfaces, max_members, max_name_characters, max_parameters}
+use Rattle.oa_model.specs.promise.Limits.{max_coclasses, max_interfaces, max_members, max_name_characters}
+use Rattle.oa_model.specs.promise.Limits.{max_parameters}
 use Rattle.oa_idl.specs.declared.stop.TreeLimit.{TreeLimit}
 use Rattle.oa_idl.specs.declared.stop.TreeLimit.TheVariants as limits
 use Rattle.oa_idl.specs.declared.parts.Property.{Property}
 use Rattle.oa_idl.specs.declared.parts.Entry.{Entry}
 use Rattle.oa_idl.specs.declared.parts.Parameter.{Parameter}
-use Rattle.oa_idl.specs.MethodValues.{MethodValue}
+use Rattle.oa_idl.specs.promise.MethodValues.{MethodValue}
 use Rattle.oa_idl.specs.declared.items.Item.{Item}
 use Rattle.oa_idl.specs.declared.items.Item.TheVariants as items
 use Rattle.oa_idl.specs.declared.seen.EntriesSeen.{EntriesSeen}
 use Rattle.oa_idl.specs.declared.seen.ItemsSeen.{ItemsSeen}
-use Rattle.oa_idl.specs.Trees.{TreeValue}
+use Rattle.oa_idl.specs.promise.Trees.{TreeValue}
 use Rattle.oa_idl.specs.Words.{over, too_long}
-use Rattle.oa_idl.specs.Grammar.{one_more, no_entry, entry_grow, no_items, items_grow}
-use Rattle.oa_idl.specs.Limits.{IsShort, HasShortParameters, HasShortNames, one_interface, one_coclass, how_many, HasFewMembers}
-use Rattle.oa_idl.specs.Limits.{HasFewParameters, KeepsLimit}
+use Rattle.oa_idl.specs.promise.Grammar.{one_more, no_entry, entry_grow, no_items, items_grow}
+use Rattle.oa_idl.specs.promise.Limits.{IsShort, HasShortParameters, HasShortNames, one_interface, one_coclass}
+use Rattle.oa_idl.specs.promise.Limits.{how_many, HasFewMembers, HasFewParameters, KeepsLimit}
 use Rattle.oa_idl.proofs.Lists.{KeepsFrom}
 use Rattle.oa_idl.proofs.NameLimits.{over_is}
 use Rattle.oa_idl.proofs.ParameterTexts.{ParameterKeeps, ParameterKept, NoEndLimit}

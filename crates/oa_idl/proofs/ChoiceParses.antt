@@ -5,7 +5,7 @@ use Rattle.std.proofs.Math.Logic.{⊎_elim, inl, inr}
 use Rattle.oa_idl.specs.declared.stop.TreeLimit.{TreeLimit}
 use Rattle.oa_idl.specs.declared.stop.Stop.{Stop}
 use Rattle.oa_idl.specs.declared.stop.Stop.TheVariants.{Syntax}
-use Rattle.oa_idl.specs.Forms.{Word, Then, ◌▸◌, given, this, optional}
+use Rattle.oa_idl.specs.promise.Forms.{Word, Then, ◌▸◌, given, this, optional}
 use Rattle.oa_idl.specs.Reading.{Parser, and_then, bind, give, heads, done, choose, later_words, this_at}
 use Rattle.oa_idl.specs.Reading.{perhaps_at}
 use Rattle.oa_idl.specs.Reading.ReadStep.{Got, Stuck}

@@ -1,7 +1,7 @@
 -- Choices between the constructors of a value.
 use Rattle.std.proofs.Common.{◌≡◌, ℕ, Bool, true, false, List, ◌++◌, sym, ap, subst, ◌∙◌}
 use Rattle.oa_idl.specs.declared.stop.TreeLimit.{TreeLimit}
-use Rattle.oa_idl.specs.Forms.{Word, Then, this}
+use Rattle.oa_idl.specs.promise.Forms.{Word, Then, this}
 use Rattle.oa_idl.specs.Reading.{Parser, bind, give, heads, choose}
 use Rattle.oa_idl.proofs.Parses.{Parses, Always, NoLimit}
 use Rattle.oa_idl.proofs.PartParses.{fact_parses, said_parses}

@@ -11,11 +11,11 @@ use Rattle.oa_tokens.specs.declared.lexer.Piece.{Piece}
 use Rattle.oa_tokens.specs.declared.lexer.Piece.TheVariants.{Word, Gap, Broken}
 use Rattle.oa_tokens.specs.declared.scan.Class.TheVariants as classes
 use Rattle.oa_tokens.specs.declared.scan.Close.TheVariants.{Quote, Comment}
-use Rattle.oa_tokens.specs.Bytes.{is_in, run, end_from, is_guid}
-use Rattle.oa_tokens.specs.Tokens.{front, closed, token, AreTokens}
-use Rattle.oa_tokens.specs.Tokens.AreTokens.{End, Apart, Next, Rest}
-use Rattle.oa_idl.specs.Forms as forms
-use Rattle.oa_idl.specs.Words.{same_kind, passes, word_of, end_word, words_of}
+use Rattle.oa_tokens.specs.promise.Bytes.{is_in, run, end_from, is_guid}
+use Rattle.oa_tokens.specs.promise.Tokens.{front, closed, token, AreTokens}
+use Rattle.oa_tokens.specs.promise.Tokens.AreTokens.{End, Apart, Next, Rest}
+use Rattle.oa_idl.specs.promise.Forms as forms
+use Rattle.oa_idl.specs.promise.Words.{same_kind, passes, word_of, end_word, words_of}
 use Rattle.oa_idl.specs.IsTree.{token_place, place_after}
 
 -- the last word is the end, and no other

@@ -6,7 +6,8 @@ use Rattle.oa_idl.specs.declared.stop.TreeLimit.{TreeLimit}
 use Rattle.oa_idl.specs.declared.stop.Stop.{Stop}
 use Rattle.oa_idl.specs.declared.stop.Stop.TheVariants.{Syntax, Memory}
 use Rattle.oa_idl.specs.declared.stop.Stop.TheVariants as stops
-use Rattle.oa_idl.specs.Forms.{Word, Then, ◌▸◌, nothing, given, this, one, BeginsWithWords}
+use Rattle.oa_idl.specs.promise.Forms.{Word, Then, ◌▸◌, nothing, given, this, one}
+use Rattle.oa_idl.specs.Forms.{BeginsWithWords}
 use Rattle.oa_idl.specs.Reading.{Parser, bind, give, this_at}
 use Rattle.oa_idl.specs.Reading.{one_at, require, demand}
 use Rattle.oa_idl.specs.Words.{never_over}

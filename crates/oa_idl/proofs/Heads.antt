@@ -9,10 +9,11 @@ use Rattle.std.proofs.lemmas.List.{length-append}
 use Rattle.oa_model.specs.declared.var_type.VarType.{VarType}
 use Rattle.oa_tokens.specs.declared.lexer.TokenKind.{TokenKind}
 use Rattle.oa_tokens.specs.declared.lexer.TokenKind.TheVariants as kinds
-use Rattle.oa_idl.specs.Forms.{Word, Then, this, one}
-use Rattle.oa_idl.specs.Words.{same_kind, kind_of, passes, is_text, id_of, word_type, plain_type, if_cell, amount_of, characters_of}
+use Rattle.oa_idl.specs.promise.Forms.{Word, Then, this, one}
+use Rattle.oa_idl.specs.promise.Words.{same_kind, kind_of, passes, is_text, id_of, word_type, plain_type, if_cell}
+use Rattle.oa_idl.specs.promise.Words.{amount_of, characters_of}
 use Rattle.oa_idl.specs.Reading.{heads}
-use Rattle.oa_idl.specs.Grammar.{symbol}
+use Rattle.oa_idl.specs.promise.Grammar.{symbol}
 use Rattle.oa_idl.proofs.Parses.{test_cases}
 use Rattle.oa_idl.proofs.ChoiceParses.{clash, then_heads, this_heads}
 

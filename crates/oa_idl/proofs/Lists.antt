@@ -6,7 +6,8 @@ use Rattle.std.proofs.Math.Logic.{⊎_elim}
 use Rattle.oa_idl.specs.declared.stop.TreeLimit.{TreeLimit}
 use Rattle.oa_idl.specs.declared.stop.Stop.{Stop}
 use Rattle.oa_idl.specs.declared.stop.Stop.TheVariants.{Syntax}
-use Rattle.oa_idl.specs.Forms.{Word, ◌▸◌, given, this, optional, with, listed, gathered, nowhere, BeginsWithWords}
+use Rattle.oa_idl.specs.promise.Forms.{Word, ◌▸◌, given, this, optional, with, listed, gathered, nowhere}
+use Rattle.oa_idl.specs.Forms.{BeginsWithWords}
 use Rattle.oa_idl.specs.Reading.{ReadStep, Parser, and_then, bind, give, fail, heads, done, choose, later_words, perhaps_at, until, list_at}
 use Rattle.oa_idl.specs.Reading.{gather, gather_at}
 use Rattle.oa_idl.specs.Reading.ReadStep.{Got, Stuck}

@@ -11,11 +11,12 @@ use Rattle.oa_idl.specs.declared.items.Item.{Item}
 use Rattle.oa_idl.specs.declared.items.Item.TheVariants as items
 use Rattle.oa_idl.specs.declared.seen.EntriesSeen.{EntriesSeen}
 use Rattle.oa_idl.specs.declared.seen.ItemsSeen.{ItemsSeen}
-use Rattle.oa_idl.specs.Forms.{Word, nowhere}
-use Rattle.oa_idl.specs.Words.{passes}
+use Rattle.oa_idl.specs.promise.Forms.{Word, nowhere}
+use Rattle.oa_idl.specs.promise.Words.{passes}
 use Rattle.oa_idl.specs.declared.parts.MethodKind.{MethodKind}
-use Rattle.oa_idl.specs.Grammar.{no_items, items_grow, may_end, LibraryContent, semicolon_after, elements_grow, items_in}
-use Rattle.oa_idl.specs.Grammar.LibraryContent.{Import, OfItem}
+use Rattle.oa_idl.specs.promise.Grammar.{no_items, items_grow, may_end, LibraryContent, semicolon_after, elements_grow}
+use Rattle.oa_idl.specs.promise.Grammar.{items_in}
+use Rattle.oa_idl.specs.promise.Grammar.LibraryContent.{Import, OfItem}
 use Rattle.oa_idl.specs.GrammarReading.{last_entry_at, last_parameter_at, closing_at, import_at, item_at, content_at, elements_within}
 use Rattle.oa_idl.specs.Reading.{ReadStep, Parser, and_then, bind, give, fail, done, heads, choose, require, later_words, this_at, perhaps_at}
 use Rattle.oa_idl.specs.Reading.{until, gather, ReadsWords}

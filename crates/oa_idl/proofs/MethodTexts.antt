@@ -7,21 +7,22 @@ use Rattle.std.proofs.lemmas.List.{length-append}
 use Rattle.oa_model.specs.declared.var_type.VarType.TheVariants as types
 use Rattle.oa_model.specs.declared.var_type.ValueType.{ValueType}
 use Rattle.oa_model.specs.declared.var_type.ValueType.TheVariants as values
-use Rattle.oa_model.specs.Limits.{max_members}
+use Rattle.oa_model.specs.promise.Limits.{max_members}
 use Rattle.oa_idl.specs.declared.stop.TreeLimit.{TreeLimit}
 use Rattle.oa_idl.specs.declared.stop.TreeLimit.TheVariants as limits
 use Rattle.oa_idl.specs.declared.parts.MethodKind.{MethodKind}
 use Rattle.oa_idl.specs.declared.parts.Parameter.{Parameter}
 use Rattle.oa_idl.specs.declared.seen.MethodSeen.{MethodSeen}
 use Rattle.oa_idl.specs.declared.seen.MethodHead.{MethodHead}
-use Rattle.oa_idl.specs.MethodValues.{MethodValue}
-use Rattle.oa_idl.specs.Forms.{Word, ◌▸◌, where_is, listed, nowhere}
-use Rattle.oa_idl.specs.Words.{passes, plain_type, name_of, over}
+use Rattle.oa_idl.specs.promise.MethodValues.{MethodValue}
+use Rattle.oa_idl.specs.promise.Forms.{Word, ◌▸◌, where_is, listed, nowhere}
+use Rattle.oa_idl.specs.promise.Words.{passes, plain_type, name_of}
+use Rattle.oa_idl.specs.Words.{over}
 use Rattle.oa_idl.specs.Reading.{heads, done, list_at}
-use Rattle.oa_idl.specs.Grammar.{symbol, one_more, closing, MethodAttribute, method_attribute, no_method, is_form, method_may}
-use Rattle.oa_idl.specs.Grammar.{method_grow, method_finish, method_head, may_be_void, may_have_type, result_type, method_body, method}
-use Rattle.oa_idl.specs.Grammar.{methods}
-use Rattle.oa_idl.specs.Grammar.MethodAttribute.{MethodId, Propget, Propput, MethodHelp}
+use Rattle.oa_idl.specs.promise.Grammar.{symbol, one_more, closing, MethodAttribute, method_attribute, no_method}
+use Rattle.oa_idl.specs.promise.Grammar.{is_form, method_may, method_grow, method_finish, method_head, may_be_void}
+use Rattle.oa_idl.specs.promise.Grammar.{may_have_type, result_type, method_body, method, methods}
+use Rattle.oa_idl.specs.promise.Grammar.MethodAttribute.{MethodId, Propget, Propput, MethodHelp}
 use Rattle.oa_idl.specs.GrammarReading.{closing_at, method_attribute_at, method_full, method_head_at, result_type_at}
 use Rattle.oa_idl.specs.GrammarReading.{method_body_at, method_at, methods_at, ends_properties}
 use Rattle.oa_idl.proofs.NameLimits.{over_named}

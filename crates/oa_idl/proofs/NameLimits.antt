@@ -3,11 +3,12 @@ use Rattle.std.proofs.Common.{◌≡◌, ℕ, ◌<◌, ◌≤◌, Bool, true, fa
 use Rattle.std.proofs.Common.{leb-true}
 use Rattle.std.specs.Prelude.{nat_lt, nat_le, if◌then◌else◌}
 use Rattle.std.proofs.Math.Logic.{⊎_elim, inl, inr}
-use Rattle.oa_model.specs.Limits.{max_name_characters}
+use Rattle.oa_model.specs.promise.Limits.{max_name_characters}
 use Rattle.oa_idl.specs.declared.stop.TreeLimit.{TreeLimit}
 use Rattle.oa_idl.specs.declared.stop.TreeLimit.TheVariants as limits
-use Rattle.oa_idl.specs.Forms.{Word}
-use Rattle.oa_idl.specs.Words.{name_of, over, TooLong, NamedAt}
+use Rattle.oa_idl.specs.promise.Forms.{Word}
+use Rattle.oa_idl.specs.promise.Words.{name_of}
+use Rattle.oa_idl.specs.Words.{over, TooLong, NamedAt}
 
 abbrev some : TreeLimit → Option TreeLimit
 some m = Some m

@@ -3,7 +3,7 @@ use Rattle.std.proofs.Common.{◌≡◌, ℕ, ◌<◌, Bool, true, false, List, 
 use Rattle.std.specs.Prelude.{ℤ, pos, not, is_some, ◌&&◌, ◌==◌, codes}
 use Rattle.std.proofs.Math.Logic.{⊎_elim, inl, inr}
 use Rattle.std.proofs.lemmas.List.{length-append}
-use Rattle.oa_model.specs.Limits.{max_parameters}
+use Rattle.oa_model.specs.promise.Limits.{max_parameters}
 use Rattle.oa_idl.specs.declared.stop.TreeLimit.{TreeLimit}
 use Rattle.oa_idl.specs.declared.stop.TreeLimit.TheVariants as limits
 use Rattle.oa_idl.specs.declared.parts.Literal.{Literal}
@@ -11,13 +11,15 @@ use Rattle.oa_idl.specs.declared.parts.Literal.TheVariants as literals
 use Rattle.oa_idl.specs.declared.parts.MethodKind.{MethodKind}
 use Rattle.oa_idl.specs.declared.parts.Parameter.{Parameter}
 use Rattle.oa_idl.specs.declared.seen.ParameterSeen.{ParameterSeen}
-use Rattle.oa_idl.specs.Forms.{Word, Then, ◌▸◌, one, where_is, listed, nowhere}
-use Rattle.oa_idl.specs.Words.{passes, plain_type, is_text, name_of, over, amount_of, characters_of}
+use Rattle.oa_idl.specs.promise.Forms.{Word, Then, ◌▸◌, one, where_is, listed, nowhere}
+use Rattle.oa_idl.specs.promise.Words.{passes, plain_type, is_text, name_of, amount_of, characters_of}
+use Rattle.oa_idl.specs.Words.{over}
 use Rattle.oa_idl.specs.Reading.{heads, done}
-use Rattle.oa_idl.specs.Grammar.{symbol, one_more, amount, literal, ParameterAttribute, parameter_attribute, no_parameter, parameter_may}
-use Rattle.oa_idl.specs.Grammar.{parameter_grow, parameter_finish, parameter_head, head_of_parameter, typed, parameter, separated}
-use Rattle.oa_idl.specs.Grammar.{next_parameter, may_end, last_parameter}
-use Rattle.oa_idl.specs.Grammar.ParameterAttribute.{IsIn, IsOptional, HasDefault}
+use Rattle.oa_idl.specs.promise.Grammar.{symbol, one_more, amount, literal, ParameterAttribute, parameter_attribute}
+use Rattle.oa_idl.specs.promise.Grammar.{no_parameter, parameter_may, parameter_grow, parameter_finish, parameter_head}
+use Rattle.oa_idl.specs.promise.Grammar.{head_of_parameter, typed, parameter, separated, next_parameter, may_end}
+use Rattle.oa_idl.specs.promise.Grammar.{last_parameter}
+use Rattle.oa_idl.specs.promise.Grammar.ParameterAttribute.{IsIn, IsOptional, HasDefault}
 use Rattle.oa_idl.specs.GrammarReading.{amount_at, literal_at, default_at, parameter_attribute_at, parameter_full, parameter_head_at}
 use Rattle.oa_idl.specs.GrammarReading.{typed_at, parameter_at, separated_at, parameters_at}
 use Rattle.oa_idl.proofs.NameLimits.{over_named}

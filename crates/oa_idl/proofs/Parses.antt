@@ -8,7 +8,8 @@ use Rattle.oa_idl.specs.declared.stop.TreeLimit.{TreeLimit}
 use Rattle.oa_idl.specs.declared.stop.Stop.{Stop}
 use Rattle.oa_idl.specs.declared.stop.Stop.TheVariants.{Syntax, Memory}
 use Rattle.oa_idl.specs.declared.stop.Stop.TheVariants as stops
-use Rattle.oa_idl.specs.Forms.{Word, this, BeginsWithWords}
+use Rattle.oa_idl.specs.promise.Forms.{Word, this}
+use Rattle.oa_idl.specs.Forms.{BeginsWithWords}
 use Rattle.oa_idl.specs.Reading.{ReadStep, Parser, and_then, heads, done, later_words, this_at}
 use Rattle.oa_idl.specs.Words.{NamedAt}
 use Rattle.oa_idl.specs.Reading.ReadStep.{Got, Stuck}

@@ -7,7 +7,8 @@ use Rattle.oa_idl.specs.declared.stop.TreeLimit.{TreeLimit}
 use Rattle.oa_idl.specs.declared.stop.Stop.{Stop}
 use Rattle.oa_idl.specs.declared.stop.Stop.TheVariants.{Syntax, Memory}
 use Rattle.oa_idl.specs.declared.stop.Stop.TheVariants as stops
-use Rattle.oa_idl.specs.Forms.{Word, ◌▸◌, nothing, this, one, with, BeginsWithWords}
+use Rattle.oa_idl.specs.promise.Forms.{Word, ◌▸◌, nothing, this, one, with}
+use Rattle.oa_idl.specs.Forms.{BeginsWithWords}
 use Rattle.oa_idl.specs.Reading.{Parser, bind, give, done, this_at, meaning_of, unless_over}
 use Rattle.oa_idl.specs.Reading.{if_meant, one_at}
 use Rattle.oa_idl.specs.Words.{NamedAt}

@@ -3,7 +3,7 @@ use Rattle.std.proofs.Common.{◌≡◌, ℕ, ◌+◌, ◌<◌, ◌≤◌, Bool,
 use Rattle.std.proofs.Common.{sym, ap, ◌∙◌, append_assoc}
 use Rattle.std.specs.Prelude.{◌==◌}
 use Rattle.std.proofs.lemmas.List.{drop_more, drop_all, append-nil}
-use Rattle.oa_idl.specs.Words.{is_printable, is_escaped, with_character, characters_from}
+use Rattle.oa_idl.specs.promise.Words.{is_printable, is_escaped, with_character, characters_from}
 
 -- The characters read so far, and the following ones.
 abbrev pub after_front : List ℕ → Option (List ℕ) → Option (List ℕ)

@@ -6,21 +6,23 @@ use Rattle.oa_model.specs.declared.var_type.VarType.{VarType}
 use Rattle.oa_model.specs.declared.var_type.ValueType.{ValueType}
 use Rattle.oa_model.specs.declared.var_type.ValueType.TheVariants as values
 use Rattle.std.specs.Str.{bytes_eq}
-use Rattle.oa_model.specs.Limits.{max_members}
+use Rattle.oa_model.specs.promise.Limits.{max_members}
 use Rattle.oa_idl.specs.declared.stop.TreeLimit.TheVariants as limits
 use Rattle.oa_idl.specs.declared.parts.Version.{Version}
 use Rattle.oa_idl.specs.declared.parts.Property.{Property}
 use Rattle.oa_idl.specs.declared.seen.HeadSeen.{HeadSeen}
 use Rattle.oa_idl.specs.declared.seen.PropertySeen.{PropertySeen}
 use Rattle.oa_idl.specs.declared.seen.PropertyHead.{PropertyHead}
-use Rattle.oa_idl.specs.Forms.{Word, ◌▸◌, one, either_of, where_is}
-use Rattle.oa_idl.specs.Words.{passes, plain_type, is_text, name_of, over, guid_of, part_of, id_of, word_type}
+use Rattle.oa_idl.specs.promise.Forms.{Word, ◌▸◌, one, either_of, where_is}
+use Rattle.oa_idl.specs.promise.Words.{passes, plain_type, is_text, name_of, guid_of, part_of, id_of, word_type}
+use Rattle.oa_idl.specs.Words.{over}
 use Rattle.oa_idl.specs.Reading.{bind, give, heads, done}
-use Rattle.oa_idl.specs.Grammar.{symbol, help, HeadAttribute, head_attribute, no_head, head_may, head_grow, head_finish, head, type_word}
-use Rattle.oa_idl.specs.Grammar.{value_type, PropertyAttribute, id_form, numbered, property_attribute, no_property, property_may, property_grow}
-use Rattle.oa_idl.specs.Grammar.{property_finish, property_head, property}
-use Rattle.oa_idl.specs.Grammar.HeadAttribute.{Guid, Numbered, HeadHelp}
-use Rattle.oa_idl.specs.Grammar.PropertyAttribute.{Id, Readonly, PropertyHelp}
+use Rattle.oa_idl.specs.promise.Grammar.{symbol, help, HeadAttribute, head_attribute, no_head, head_may, head_grow}
+use Rattle.oa_idl.specs.promise.Grammar.{head_finish, head, type_word, value_type, PropertyAttribute, id_form, numbered}
+use Rattle.oa_idl.specs.promise.Grammar.{property_attribute, no_property, property_may, property_grow, property_finish}
+use Rattle.oa_idl.specs.promise.Grammar.{property_head, property}
+use Rattle.oa_idl.specs.promise.Grammar.HeadAttribute.{Guid, Numbered, HeadHelp}
+use Rattle.oa_idl.specs.promise.Grammar.PropertyAttribute.{Id, Readonly, PropertyHelp}
 use Rattle.oa_idl.specs.GrammarReading.{symbol_at, help_at, minor_at, uuid_at, version_at, head_attribute_at, head_full, head_at}
 use Rattle.oa_idl.specs.GrammarReading.{type_word_at, value_type_at, signed_number_at, numbered_at, id_at, property_attribute_at, property_full}
 use Rattle.oa_idl.specs.GrammarReading.{property_head_at, property_at}

@@ -4,7 +4,7 @@ use Rattle.std.specs.Prelude.{not, ◌&&◌, ◌||◌, codes}
 use Rattle.std.proofs.Math.Logic.{⊎_elim, inl, inr}
 use Rattle.std.specs.Str.{bytes_eq}
 use Rattle.std.proofs.lemmas.List.{length-append}
-use Rattle.oa_model.specs.Limits.{max_coclasses, max_interfaces, max_members}
+use Rattle.oa_model.specs.promise.Limits.{max_coclasses, max_interfaces, max_members}
 use Rattle.oa_idl.specs.declared.stop.TreeLimit.{TreeLimit}
 use Rattle.oa_idl.specs.declared.stop.TreeLimit.TheVariants as limits
 use Rattle.oa_idl.specs.declared.parts.Property.{Property}
@@ -14,15 +14,17 @@ use Rattle.oa_idl.specs.declared.items.Item.TheVariants as items
 use Rattle.oa_idl.specs.declared.seen.HeadValues.{HeadValues}
 use Rattle.oa_idl.specs.declared.seen.EntriesSeen.{EntriesSeen}
 use Rattle.oa_idl.specs.declared.seen.ItemsSeen.{ItemsSeen}
-use Rattle.oa_idl.specs.Trees.{TreeValue}
-use Rattle.oa_idl.specs.Forms.{Word, ◌▸◌, given, where_is, with, listed, nowhere}
-use Rattle.oa_idl.specs.MethodValues.{MethodValue}
-use Rattle.oa_idl.specs.Words.{passes, is_text, name_of, over, too_long}
+use Rattle.oa_idl.specs.promise.Trees.{TreeValue}
+use Rattle.oa_idl.specs.promise.Forms.{Word, ◌▸◌, given, where_is, with, listed, nowhere}
+use Rattle.oa_idl.specs.promise.MethodValues.{MethodValue}
+use Rattle.oa_idl.specs.promise.Words.{passes, is_text, name_of}
+use Rattle.oa_idl.specs.Words.{over, too_long}
 use Rattle.oa_idl.specs.Reading.{bind, give, heads, done, list_at}
-use Rattle.oa_idl.specs.Grammar.{symbol, head, property, one_more, closing, methods, members, interface, entry_word, named, entry_by}
-use Rattle.oa_idl.specs.Grammar.{no_entry, entry_grow, entry, last_entry, coclass, guid_of_item, item_body, item, no_items}
-use Rattle.oa_idl.specs.Grammar.{items_grow, LibraryContent, importing, element, semicolon_after, elements_grow, items_in, library_contents, library}
-use Rattle.oa_idl.specs.Grammar.LibraryContent.{Import, OfItem}
+use Rattle.oa_idl.specs.promise.Grammar.{symbol, head, property, one_more, closing, methods, members, interface}
+use Rattle.oa_idl.specs.promise.Grammar.{entry_word, named, entry_by, no_entry, entry_grow, entry, last_entry, coclass}
+use Rattle.oa_idl.specs.promise.Grammar.{guid_of_item, item_body, item, no_items, items_grow, LibraryContent, importing}
+use Rattle.oa_idl.specs.promise.Grammar.{element, semicolon_after, elements_grow, items_in, library_contents, library}
+use Rattle.oa_idl.specs.promise.Grammar.LibraryContent.{Import, OfItem}
 use Rattle.oa_idl.specs.GrammarReading.{property_at, closing_at, methods_at, ends_properties, members_at, interface_at, named_entry_at, entry_at}
 use Rattle.oa_idl.specs.GrammarReading.{last_entry_at, entries_at, coclass_at, item_at, import_at, content_at, elements_within, library_contents_at}
 use Rattle.oa_idl.specs.GrammarReading.{library_at}

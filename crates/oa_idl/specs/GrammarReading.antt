@@ -1,7 +1,7 @@
 -- The grammar as parsing functions.
 use Rattle.std.specs.Prelude.{ℕ, ◌&&◌, ◌||◌, ◌==◌, Bool, true, false, not, List, [], length, Option, Some, None, ℤ}
 use Rattle.std.specs.Prelude.{is_some, codes}
-use Rattle.oa_model.specs.Limits.{max_interfaces, max_coclasses, max_members, max_parameters}
+use Rattle.oa_model.specs.promise.Limits.{max_interfaces, max_coclasses, max_members, max_parameters}
 use Rattle.oa_model.specs.declared.var_type.VarType.{VarType}
 use Rattle.oa_model.specs.declared.var_type.ValueType.{ValueType}
 use Rattle.oa_model.specs.declared.var_type.ValueType.TheVariants as values
@@ -12,7 +12,7 @@ use Rattle.oa_idl.specs.declared.parts.Literal.{Literal}
 use Rattle.oa_idl.specs.declared.parts.Literal.TheVariants as literals
 use Rattle.oa_idl.specs.declared.parts.MethodKind.{MethodKind}
 use Rattle.oa_idl.specs.declared.parts.Parameter.{Parameter}
-use Rattle.oa_idl.specs.MethodValues.{MethodValue}
+use Rattle.oa_idl.specs.promise.MethodValues.{MethodValue}
 use Rattle.oa_idl.specs.declared.seen.MethodSeen.{MethodSeen}
 use Rattle.oa_idl.specs.declared.seen.MethodHead.{MethodHead}
 use Rattle.oa_idl.specs.declared.seen.ParameterSeen.{ParameterSeen}
@@ -24,22 +24,24 @@ use Rattle.oa_idl.specs.declared.seen.PropertySeen.{PropertySeen}
 use Rattle.oa_idl.specs.declared.seen.PropertyHead.{PropertyHead}
 use Rattle.oa_idl.specs.declared.seen.EntriesSeen.{EntriesSeen}
 use Rattle.oa_idl.specs.declared.seen.ItemsSeen.{ItemsSeen}
-use Rattle.oa_idl.specs.Trees.{TreeValue}
-use Rattle.oa_idl.specs.Forms.{Word, nowhere}
-use Rattle.oa_idl.specs.Words.{passes, is_text, name_of, over, too_long, guid_of, part_of, id_of, word_type, amount_of}
-use Rattle.oa_idl.specs.Words.{characters_of, never_over}
+use Rattle.oa_idl.specs.promise.Trees.{TreeValue}
+use Rattle.oa_idl.specs.promise.Forms.{Word, nowhere}
+use Rattle.oa_idl.specs.promise.Words.{passes, is_text, name_of, guid_of, part_of, id_of, word_type, amount_of}
+use Rattle.oa_idl.specs.promise.Words.{characters_of}
+use Rattle.oa_idl.specs.Words.{over, too_long, never_over}
 use Rattle.oa_idl.specs.Reading.{Parser, ◌>>=◌, give, choose, require, demand, this_at, one_at, perhaps_at, until}
 use Rattle.oa_idl.specs.Reading.{list_at, gather_at}
-use Rattle.oa_idl.specs.Grammar.{HeadAttribute, no_head, head_grow, head_finish, PropertyAttribute, no_property}
-use Rattle.oa_idl.specs.Grammar.{property_grow, property_finish, one_more, entry_word, no_entry, entry_grow, no_items}
-use Rattle.oa_idl.specs.Grammar.{semicolon_after, LibraryContent, elements_grow, items_in, ParameterAttribute}
-use Rattle.oa_idl.specs.Grammar.{no_parameter, parameter_grow, parameter_finish, MethodAttribute, no_method}
-use Rattle.oa_idl.specs.Grammar.{method_grow, method_finish, is_form, may_be_void, may_have_type, may_end}
-use Rattle.oa_idl.specs.Grammar.HeadAttribute.{Guid, Numbered, HeadHelp}
-use Rattle.oa_idl.specs.Grammar.PropertyAttribute.{Id, Readonly, PropertyHelp}
-use Rattle.oa_idl.specs.Grammar.ParameterAttribute.{IsIn, IsOptional, HasDefault}
-use Rattle.oa_idl.specs.Grammar.MethodAttribute.{MethodId, Propget, Propput, MethodHelp}
-use Rattle.oa_idl.specs.Grammar.LibraryContent.{Import, OfItem}
+use Rattle.oa_idl.specs.promise.Grammar.{HeadAttribute, no_head, head_grow, head_finish, PropertyAttribute, no_property}
+use Rattle.oa_idl.specs.promise.Grammar.{property_grow, property_finish, one_more, entry_word, no_entry, entry_grow}
+use Rattle.oa_idl.specs.promise.Grammar.{no_items, semicolon_after, LibraryContent, elements_grow, items_in}
+use Rattle.oa_idl.specs.promise.Grammar.{ParameterAttribute, no_parameter, parameter_grow, parameter_finish}
+use Rattle.oa_idl.specs.promise.Grammar.{MethodAttribute, no_method, method_grow, method_finish, is_form, may_be_void}
+use Rattle.oa_idl.specs.promise.Grammar.{may_have_type, may_end}
+use Rattle.oa_idl.specs.promise.Grammar.HeadAttribute.{Guid, Numbered, HeadHelp}
+use Rattle.oa_idl.specs.promise.Grammar.PropertyAttribute.{Id, Readonly, PropertyHelp}
+use Rattle.oa_idl.specs.promise.Grammar.ParameterAttribute.{IsIn, IsOptional, HasDefault}
+use Rattle.oa_idl.specs.promise.Grammar.MethodAttribute.{MethodId, Propget, Propput, MethodHelp}
+use Rattle.oa_idl.specs.promise.Grammar.LibraryContent.{Import, OfItem}
 
 abbrev pub symbol_at : List ℕ → Parser (Unit {0})
 symbol_at s = this_at (passes s)

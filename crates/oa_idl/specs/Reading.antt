@@ -8,7 +8,7 @@ use Rattle.oa_idl.specs.declared.stop.Stop.{Stop}
 use Rattle.oa_idl.specs.declared.stop.Stop.TheVariants.{Syntax, Memory}
 use Rattle.oa_idl.specs.declared.stop.Stop.TheVariants as stops
 use Rattle.oa_tokens.specs.declared.lexer.TokenKind.{TokenKind}
-use Rattle.oa_idl.specs.Forms.{Word}
+use Rattle.oa_idl.specs.promise.Forms.{Word}
 
 -- The result of a parser: a value and the words that are left, or an error and the words from the refused one on.
 pub data ReadStep (A : Type 0) : Type 0 where

@@ -2,10 +2,10 @@
 ghost use Rattle.std.specs.Prelude.{codes};
 ghost use Rattle.oa_idl.specs.declared.seen.HeadSeen.{HeadSeen};
 ghost use Rattle.oa_idl.specs.declared.seen.PropertySeen.{PropertySeen};
-ghost use Rattle.oa_idl.specs.Words.{passes};
+ghost use Rattle.oa_idl.specs.promise.Words.{passes};
 ghost use Rattle.oa_idl.specs.Reading.{ReadsWords, done, gather};
-ghost use Rattle.oa_idl.specs.Grammar.{head_grow, head_finish, property_grow, property_finish};
-ghost use Rattle.oa_idl.specs.Grammar.HeadAttribute.{Guid, Numbered};
+ghost use Rattle.oa_idl.specs.promise.Grammar.{head_grow, head_finish, property_grow, property_finish};
+ghost use Rattle.oa_idl.specs.promise.Grammar.HeadAttribute.{Guid, Numbered};
 ghost use Rattle.oa_idl.specs.GrammarReading.{grown_at, next_grown_at, last_at, help_at, minor_at, head_attribute_at, head_full, head_at};
 ghost use Rattle.oa_idl.specs.GrammarReading.{uuid_at, version_at, signed_number_at, numbered_at, property_attribute_at, property_full, property_head_at};
 

@@ -1,10 +1,11 @@
 //! Parses the section `methods:`.
 ghost use Rattle.std.specs.Prelude.{◌≡◌, ◌<◌, IfOk, codes};
-ghost use Rattle.oa_model.specs.Limits.{max_members};
-ghost use Rattle.oa_idl.specs.Forms.{nowhere};
-ghost use Rattle.oa_idl.specs.Words.{passes};
+ghost use Rattle.oa_model.specs.promise.Limits.{max_members};
+ghost use Rattle.oa_idl.specs.promise.Forms.{nowhere};
+ghost use Rattle.oa_idl.specs.promise.Words.{passes};
 ghost use Rattle.oa_idl.specs.Reading.{ReadsWords, done, gather, until};
-ghost use Rattle.oa_idl.specs.Grammar.{one_more, is_form, method_grow, method_finish, may_be_void, may_have_type};
+ghost use Rattle.oa_idl.specs.promise.Grammar.{one_more, is_form, method_grow, method_finish, may_be_void};
+ghost use Rattle.oa_idl.specs.promise.Grammar.{may_have_type};
 ghost use Rattle.oa_idl.specs.GrammarReading.{grown_at, next_grown_at, last_at, method_attribute_at, method_full};
 ghost use Rattle.oa_idl.specs.GrammarReading.{method_head_at, result_type_at, method_body_at, method_at, closing_at, methods_at};
 

@@ -1,10 +1,10 @@
 //! Parses the parameters of a member.
 ghost use Rattle.std.specs.Prelude.{◌≡◌, ◌<◌, IfOk, codes};
-ghost use Rattle.oa_model.specs.Limits.{max_parameters};
-ghost use Rattle.oa_idl.specs.Forms.{nowhere};
-ghost use Rattle.oa_idl.specs.Words.{passes};
+ghost use Rattle.oa_model.specs.promise.Limits.{max_parameters};
+ghost use Rattle.oa_idl.specs.promise.Forms.{nowhere};
+ghost use Rattle.oa_idl.specs.promise.Words.{passes};
 ghost use Rattle.oa_idl.specs.Reading.{ReadsWords, done, gather, until};
-ghost use Rattle.oa_idl.specs.Grammar.{one_more, no_parameter, parameter_grow, parameter_finish, may_end};
+ghost use Rattle.oa_idl.specs.promise.Grammar.{one_more, no_parameter, parameter_grow, parameter_finish, may_end};
 ghost use Rattle.oa_idl.specs.GrammarReading.{grown_at, next_grown_at, last_at, amount_at, literal_at, default_at, parameter_attribute_at};
 ghost use Rattle.oa_idl.specs.GrammarReading.{parameter_full, parameter_head_at, typed_at, parameter_at, next_parameter_at};
 ghost use Rattle.oa_idl.specs.GrammarReading.{last_parameter_at};

@@ -1,15 +1,16 @@
 //! Parses a library text.
 ghost use Rattle.std.specs.Prelude.{◌≡◌, ◌-◌, ◌+◌, ◌<◌, ◌^◌, length, map, IfOk, codes};
-ghost use Rattle.oa_model.specs.Limits.{max_members};
-ghost use Rattle.oa_idl.specs.Forms.{nowhere};
-ghost use Rattle.oa_idl.specs.Words.{word_of, passes};
+ghost use Rattle.oa_model.specs.promise.Limits.{max_members};
+ghost use Rattle.oa_idl.specs.promise.Forms.{nowhere};
+ghost use Rattle.oa_idl.specs.promise.Words.{word_of, passes};
 ghost use Rattle.oa_idl.specs.Reading.{ReadsWords, done, heads, until};
-ghost use Rattle.oa_idl.specs.IsTree.{IsTree, AnswersText, AnswersTree, place_after};
-ghost use Rattle.oa_idl.specs.Grammar.{one_more, entry_grow, no_entry, items_grow};
+ghost use Rattle.oa_idl.specs.promise.IsTree.{IsTree};
+ghost use Rattle.oa_idl.specs.IsTree.{AnswersText, AnswersTree, place_after};
+ghost use Rattle.oa_idl.specs.promise.Grammar.{one_more, entry_grow, no_entry, items_grow};
 ghost use Rattle.oa_idl.specs.GrammarReading.{type_word_at, value_type_at, property_at, methods_at, ends_properties, members_at};
 ghost use Rattle.oa_idl.specs.GrammarReading.{interface_at, named_entry_at, entry_at, last_entry_at, coclass_at, import_at, item_at};
 ghost use Rattle.oa_idl.specs.GrammarReading.{elements_within, library_at};
-ghost use Rattle.oa_idl.specs.Trees.{TreeValue};
+ghost use Rattle.oa_idl.specs.promise.Trees.{TreeValue};
 ghost use Rattle.oa_idl.specs.Parsed.{IsParsed};
 
 use crate::attributes::{head, property_head};

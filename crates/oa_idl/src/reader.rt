@@ -1,9 +1,11 @@
 //! Reads the words of a text one after another.
 ghost use Rattle.std.specs.Prelude.{◌≡◌, ◌-◌, ◌+◌, ◌*◌, ◌<◌, ◌^◌, ◌&&◌, if◌then◌else◌, length, take, drop, map, false, IfOk, IfErr, IfSome};
-ghost use Rattle.oa_idl.specs.Words.{word_of, passes, is_text, name_of, over, guid_of, digit_of, number_from, number_of};
-ghost use Rattle.oa_idl.specs.Words.{is_hexadecimal, below, part_from, part_of, id_number, id_from, id_of, word_type, same_kind};
-ghost use Rattle.oa_idl.specs.Words.{never_over, amount_from, amount_of, is_printable, is_escaped, characters_from, characters_of};
-ghost use Rattle.oa_idl.specs.Grammar.{entry_word};
+ghost use Rattle.oa_idl.specs.promise.Words.{word_of, passes, is_text, name_of, guid_of, digit_of, number_from};
+ghost use Rattle.oa_idl.specs.promise.Words.{number_of, is_hexadecimal, below, part_from, part_of, id_number, id_from};
+ghost use Rattle.oa_idl.specs.promise.Words.{id_of, word_type, same_kind, amount_from, amount_of, is_printable};
+ghost use Rattle.oa_idl.specs.promise.Words.{is_escaped, characters_from, characters_of};
+ghost use Rattle.oa_idl.specs.Words.{over, never_over};
+ghost use Rattle.oa_idl.specs.promise.Grammar.{entry_word};
 ghost use Rattle.oa_idl.specs.Reading.{ReadsWords, heads, later_words, this_at, one_at, if_meant, done, seen_first, first_word};
 ghost use Rattle.oa_idl.specs.NextWords.{token_text, seen_text};
 ghost use Rattle.oa_idl.specs.declared.stop.Stop.TheVariants.{Syntax};
@@ -33,8 +35,8 @@ pub(crate) struct Reader<'a> {
 
 impl<'a> Model for Reader<'a> {
     ghost use Rattle.std.specs.Prelude.{List, map};
-    ghost use Rattle.oa_idl.specs.Forms.{Word};
-    ghost use Rattle.oa_idl.specs.Words.{word_of};
+    ghost use Rattle.oa_idl.specs.promise.Forms.{Word};
+    ghost use Rattle.oa_idl.specs.promise.Words.{word_of};
 
     ghost Value = { List Word };
 
@@ -72,7 +74,7 @@ fn digit_of(byte: u8) -> u8
 }
 
 /// Returns the number with these digits; None if it is not below 2^96.
-#[tactic(auto, unfolding(crate::specs::Words::number_from), using(crate::proofs::Digits::digit_steps))]
+#[tactic(auto, unfolding(crate::specs::promise::Words::number_from), using(crate::proofs::Digits::digit_steps))]
 fn digits(hexadecimal: bool, text: &[u8]) -> Option<u128>
     ensures small { IfSome result (λ n. n < 2 ^ 96) }
     ensures value { result ≡ below (2 ^ 96) (number_from (if hexadecimal then 16 else 10) 0 text.now) }
@@ -99,7 +101,7 @@ fn is_hexadecimal(text: &[u8]) -> bool
 }
 
 /// Returns the value of a number; None if it is not below 2^96.
-#[tactic(auto, unfolding(crate::specs::Words::number_of))]
+#[tactic(auto, unfolding(crate::specs::promise::Words::number_of))]
 fn number_of(text: &[u8]) -> Option<u128>
     ensures value { result ≡ number_of text.now }
     ensures small { IfSome result (λ n. n < 2 ^ 96) }
@@ -287,7 +289,7 @@ impl<'a> Reader<'a> {
     }
 
     /// Returns whether the next word is this keyword or mark.
-    #[tactic(auto, unfolding(crate::specs::Words::passes))]
+    #[tactic(auto, unfolding(crate::specs::promise::Words::passes))]
     pub(crate) fn is(&self, sign: &[u8]) -> bool
         ensures { result ≡ heads (passes sign.now) self.now }
     {
@@ -310,7 +312,7 @@ impl<'a> Reader<'a> {
     }
 
     /// Reads `dispinterface` or `interface`. Err: `Syntax` if the next word is another one.
-    #[tactic(auto, unfolding(crate::specs::Reading::this_at, crate::specs::Words::passes))]
+    #[tactic(auto, unfolding(crate::specs::Reading::this_at, crate::specs::promise::Words::passes))]
     pub(crate) fn entry_word(&mut self) -> Result<(), Stop>
         ensures { ReadsWords (λ _. done) result self.new (this_at entry_word self.old) }
     {
@@ -323,7 +325,7 @@ impl<'a> Reader<'a> {
     }
 
     /// Reads a string and drops it. Err: `Syntax` if the next word is no string.
-    #[tactic(auto, unfolding(crate::specs::Reading::this_at, crate::specs::Words::is_text))]
+    #[tactic(auto, unfolding(crate::specs::Reading::this_at, crate::specs::promise::Words::is_text))]
     pub(crate) fn text(&mut self) -> Result<(), Stop>
         ensures { ReadsWords (λ _. done) result self.new (this_at is_text self.old) }
     {
@@ -345,7 +347,7 @@ impl<'a> Reader<'a> {
     /// Reads a name, that of an item after `count` others. Err: `Syntax` if the next word is no
     /// name or a keyword; `Limit(Name)` if the name is too long; `Limit(limit)` if `count` is
     /// `bound` or more; `Memory`.
-    #[tactic(auto, unfolding(crate::specs::Reading::one_at, crate::specs::Words::name_of))]
+    #[tactic(auto, unfolding(crate::specs::Reading::one_at, crate::specs::promise::Words::name_of))]
     pub(crate) fn name(
         &mut self,
         alloc: Global,
@@ -372,7 +374,7 @@ impl<'a> Reader<'a> {
     }
 
     /// Reads a GUID. Err: `Syntax` if the next word is none.
-    #[tactic(auto, unfolding(crate::specs::Reading::one_at, crate::specs::Words::guid_of))]
+    #[tactic(auto, unfolding(crate::specs::Reading::one_at, crate::specs::promise::Words::guid_of))]
     pub(crate) fn guid(&mut self) -> Result<Uuid, Stop>
         ensures { ReadsWords (λ g. g) result self.new (one_at guid_of never_over self.old) }
     {
@@ -382,7 +384,7 @@ impl<'a> Reader<'a> {
 
     /// Reads a part of a version. If `counts` is false, any number is read as 0. Err: `Syntax` if
     /// the next word is no number, or it counts and is above 65,535.
-    #[tactic(auto, unfolding(crate::specs::Reading::one_at, crate::specs::Words::part_of))]
+    #[tactic(auto, unfolding(crate::specs::Reading::one_at, crate::specs::promise::Words::part_of))]
     pub(crate) fn part(&mut self, counts: bool) -> Result<u16, Stop>
         ensures { ReadsWords (λ n. n) result self.new (one_at (part_of counts) never_over self.old) }
     {
@@ -392,7 +394,7 @@ impl<'a> Reader<'a> {
 
     /// Reads the number of an `id`; `negative` is whether a minus precedes it. Err: `Syntax` if the
     /// next word is no number, or no DISPID.
-    #[tactic(auto, unfolding(crate::specs::Reading::one_at, crate::specs::Words::id_of))]
+    #[tactic(auto, unfolding(crate::specs::Reading::one_at, crate::specs::promise::Words::id_of))]
     pub(crate) fn id(&mut self, negative: bool) -> Result<i32, Stop>
         ensures { ReadsWords (λ n. n) result self.new (one_at (id_of negative) never_over self.old) }
     {
@@ -402,7 +404,7 @@ impl<'a> Reader<'a> {
 
     /// Reads a word of a type; `unsigned` is whether `unsigned` precedes it, `in_array` whether it
     /// is the type of an array's elements. Err: `Syntax` if the next word is no such type.
-    #[tactic(auto, unfolding(crate::specs::Reading::one_at, crate::specs::Words::word_type))]
+    #[tactic(auto, unfolding(crate::specs::Reading::one_at, crate::specs::promise::Words::word_type))]
     pub(crate) fn type_word(&mut self, in_array: bool, unsigned: bool) -> Result<VarType, Stop>
         ensures { ReadsWords (λ t. t) result self.new (one_at (word_type in_array unsigned) never_over self.old) }
     {
@@ -411,7 +413,7 @@ impl<'a> Reader<'a> {
     }
 
     /// Returns whether the next word is a string.
-    #[tactic(auto, unfolding(crate::specs::Words::is_text))]
+    #[tactic(auto, unfolding(crate::specs::promise::Words::is_text))]
     pub(crate) fn is_string(&self) -> bool
         ensures { result ≡ heads is_text self.now }
     {
@@ -420,7 +422,7 @@ impl<'a> Reader<'a> {
 
     /// Reads the number of a default; `negative` is whether a minus precedes it. Err: `Syntax` if
     /// the next word is no number below 2^96.
-    #[tactic(auto, unfolding(crate::specs::Reading::one_at, crate::specs::Words::amount_of))]
+    #[tactic(auto, unfolding(crate::specs::Reading::one_at, crate::specs::promise::Words::amount_of))]
     pub(crate) fn amount(&mut self, negative: bool) -> Result<i128, Stop>
         ensures { ReadsWords (λ n. n) result self.new (one_at (amount_of negative) never_over self.old) }
     {
@@ -430,7 +432,7 @@ impl<'a> Reader<'a> {
 
     /// Reads a default string. Err: `Syntax` if the next word is no string, or has a character that
     /// is not allowed; `Memory`.
-    #[tactic(auto, unfolding(crate::specs::Reading::one_at, crate::specs::Words::characters_of))]
+    #[tactic(auto, unfolding(crate::specs::Reading::one_at, crate::specs::promise::Words::characters_of))]
     pub(crate) fn characters(&mut self, alloc: Global) -> Result<Characters, Stop>
         ensures { ReadsWords (λ n. n) result self.new (one_at characters_of never_over self.old) }
     {

@@ -1,7 +1,8 @@
 //! Keywords, marks and the names of types.
 ghost use Rattle.std.specs.Prelude.{◌≡◌};
 ghost use Rattle.std.specs.Str.{bytes_eq};
-ghost use Rattle.oa_idl.specs.Words.{kind_of, is_structure, is_type_mark, is_reserved, plain_type, unsigned_type, type_named, if_cell};
+ghost use Rattle.oa_idl.specs.promise.Words.{kind_of, is_structure, is_type_mark, is_reserved, plain_type};
+ghost use Rattle.oa_idl.specs.promise.Words.{unsigned_type, type_named, if_cell};
 
 use oa_model::VarType;
 use oa_tokens::TokenKind;
@@ -53,7 +54,7 @@ fn is_type_mark(text: &[u8]) -> bool
 }
 
 /// Returns whether a name is a keyword or the name of a type.
-#[tactic(auto, unfolding(crate::specs::Words::is_reserved))]
+#[tactic(auto, unfolding(crate::specs::promise::Words::is_reserved))]
 pub(crate) fn is_reserved(text: &[u8]) -> bool
     ensures { result ≡ is_reserved text.now }
 {
@@ -61,7 +62,7 @@ pub(crate) fn is_reserved(text: &[u8]) -> bool
 }
 
 /// Returns the type with this name; None if there is none.
-#[tactic(auto, unfolding(crate::specs::Words::plain_type))]
+#[tactic(auto, unfolding(crate::specs::promise::Words::plain_type))]
 fn plain_type(text: &[u8]) -> Option<VarType>
     ensures { result ≡ plain_type text.now }
 {
@@ -102,7 +103,7 @@ fn plain_type(text: &[u8]) -> Option<VarType>
 }
 
 /// Returns the type with this name after `unsigned`; None if there is none.
-#[tactic(auto, unfolding(crate::specs::Words::unsigned_type))]
+#[tactic(auto, unfolding(crate::specs::promise::Words::unsigned_type))]
 fn unsigned_type(text: &[u8]) -> Option<VarType>
     ensures { result ≡ unsigned_type text.now }
 {

@@ -10,12 +10,12 @@ use Rattle.std.proofs.lemmas.Bool.{and_parts, lt-ltb, ltb-true}
 use Rattle.std.proofs.lemmas.Cmp.{nat_cmp_total, ranked}
 use Rattle.std.proofs.lemmas.List.{length-append}
 use Rattle.oa_variant.specs.declared.variant.Variant.{Variant}
-use Rattle.oa_table.specs.Places.{PlaceValue}
-use Rattle.oa_table.specs.Tables.{ObjectValue, TableValue}
-use Rattle.oa_formats.specs.Formats.{Format, counted, coded, made_where, next_by, only, raw, rising, times}
-use Rattle.oa_formats.specs.Numbers.{u32, guid_format}
+use Rattle.oa_table.specs.promise.Places.{PlaceValue}
+use Rattle.oa_table.specs.promise.Tables.{ObjectValue, TableValue}
+use Rattle.oa_formats.specs.promise.Formats.{Format, counted, coded, made_where, next_by, only, raw, rising, times}
+use Rattle.oa_formats.specs.promise.Numbers.{u32, guid_format}
 use Rattle.oa_formats.proofs.Exact.{no_prefix}
-use Rattle.oa_image.specs.Tables.{cell, cells, is_used, object, older, place_before, table, table_image}
+use Rattle.oa_image.specs.promise.Tables.{cell, cells, is_used, object, older, place_before, table, table_image}
 use Rattle.oa_image.specs.declared.reader.OpenObject.{OpenObject}
 use Rattle.oa_image.specs.declared.reader.OpenTable.{OpenTable}
 use Rattle.oa_image.specs.Reader.{IsOpenTable, TakesEnd, all_objects, object_so_far, with_at_hand, count_at_hand, is_behind, last_number, object_head, object_taken, table_head, table_taken, taken_at_hand}

@@ -6,14 +6,15 @@ use Rattle.std.specs.Map.{keys_of}
 use Rattle.std.specs.Ordering.{nat_cmp}
 use Rattle.std.proofs.lemmas.List.{length-append, length-map}
 use Rattle.oa_variant.specs.declared.variant.Variant.{Variant}
-use Rattle.oa_variant.specs.Variants.{unlocked}
-use Rattle.oa_table.specs.Places.{PlaceValue, place_cmp}
-use Rattle.oa_table.specs.Tables.{ObjectValue, TableValue, unlocked_cell, unlocked_entry, unlocked_object, unlocked_table}
-use Rattle.oa_formats.specs.Formats.{raw, next_by, made_where, coded, counted, only, times}
-use Rattle.oa_formats.specs.Numbers.{u32, i32, guid_format}
-use Rattle.oa_formats.specs.Variants.{value}
-use Rattle.oa_image.specs.Names.{key, place}
-use Rattle.oa_image.specs.Tables.{cell, cells, is_numbered, object, objects, table}
+use Rattle.oa_variant.specs.promise.Variants.{unlocked}
+use Rattle.oa_table.specs.promise.Places.{PlaceValue, place_cmp}
+use Rattle.oa_table.specs.promise.Tables.{ObjectValue, TableValue, unlocked_cell, unlocked_entry, unlocked_object}
+use Rattle.oa_table.specs.promise.Tables.{unlocked_table}
+use Rattle.oa_formats.specs.promise.Formats.{raw, next_by, made_where, coded, counted, only, times}
+use Rattle.oa_formats.specs.promise.Numbers.{u32, i32, guid_format}
+use Rattle.oa_formats.specs.promise.Variants.{value}
+use Rattle.oa_image.specs.promise.Names.{key, place}
+use Rattle.oa_image.specs.promise.Tables.{cell, cells, is_numbered, object, objects, table}
 use Rattle.oa_image.proofs.Rising.{rises}
 use Rattle.oa_image.proofs.Numbered.{unlocked_numbers}
 

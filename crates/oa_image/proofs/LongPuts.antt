@@ -1,10 +1,11 @@
 -- The image of a put of a long into a member without arguments, byte by byte.
 use Rattle.std.proofs.Common.{◌≡◌, ℕ, ℤ, ◌+◌, ◌≤◌, List, [], ◌∷◌, ◌++◌, length, take, drop, slice_index_or, refl, sym}
 use Rattle.std.specs.Int.{w32, to_le_bytes, cast_unsigned}
-use Rattle.oa_model.specs.Guids.{wire_order}
+use Rattle.oa_model.specs.promise.Guids.{wire_order}
 use Rattle.oa_formats.specs.Formats.{combinators}
 use Rattle.oa_formats.specs.Numbers.{numbers}
-use Rattle.oa_formats.specs.Values.{scalar_parts, of_type}
+use Rattle.oa_formats.specs.Values.{scalar_parts}
+use Rattle.oa_formats.specs.promise.Values.{of_type}
 use Rattle.oa_formats.specs.Variants.{contents}
 use Rattle.oa_table.specs.declared.name.CellName.{CellName}
 use Rattle.oa_table.specs.declared.event.Event.{Event}
@@ -12,7 +13,8 @@ use Rattle.oa_table.specs.declared.event.Event.TheVariants.{Put}
 use Rattle.oa_variant.specs.declared.scalar.Scalar.TheVariants.{I4}
 use Rattle.oa_variant.specs.declared.variant.Variant.TheVariants.{One}
 use Rattle.oa_image.specs.Names.{names}
-use Rattle.oa_image.specs.Events.{events, event_image}
+use Rattle.oa_image.specs.Events.{events}
+use Rattle.oa_image.specs.promise.Events.{event_image}
 
 -- the bytes of these parts
 abbrev pub laid : (object guid dispid number : List ℕ) → List ℕ

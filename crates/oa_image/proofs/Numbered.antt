@@ -10,19 +10,19 @@ use Rattle.std.specs.declared.cmp.Ordering.{Ordering}
 use Rattle.std.specs.declared.cmp.Ordering.TheVariants.{Less, Equal, Greater}
 use Rattle.std.proofs.lemmas.Bool.{and_parts, eqb-true, ltb-true, lt-ltb}
 use Rattle.std.proofs.lemmas.List.Folds.{list_all-append, list_all-map}
-use Rattle.oa_model.specs.Limits.{greatest_object_number}
+use Rattle.oa_model.specs.promise.Limits.{greatest_object_number}
 use Rattle.oa_array.specs.declared.fault.ArrayFault.TheVariants as arrays
 use Rattle.oa_table.specs.declared.event.Event.{Event}
 use Rattle.oa_table.specs.declared.event.Event.TheVariants.{Create, Release, Put, PutElement, Redim}
 use Rattle.oa_table.specs.declared.fault.TableFault.{TableFault}
 use Rattle.oa_table.specs.declared.fault.TableFault.TheVariants.{Array, WrongNumber}
-use Rattle.oa_table.specs.Elements.{with_element_put, redimensioned_value}
-use Rattle.oa_table.specs.Events.{applied, changed_if_live, created, on_object, released_if_live, with_object}
-use Rattle.oa_table.specs.Objects.{any_locked, with_change, with_put}
-use Rattle.oa_table.specs.Outcomes.{mapped}
+use Rattle.oa_table.specs.promise.Elements.{with_element_put, redimensioned_value}
+use Rattle.oa_table.specs.promise.Events.{applied, changed_if_live, created, on_object, released_if_live, with_object}
+use Rattle.oa_table.specs.promise.Objects.{any_locked, with_change, with_put}
+use Rattle.oa_table.specs.promise.Outcomes.{mapped}
 use Rattle.oa_table.specs.Parts.{CanBeLast, with_last}
-use Rattle.oa_table.specs.Tables.{ObjectValue, TableValue, object_at, unlocked_entry, unlocked_table}
-use Rattle.oa_image.specs.Tables.{is_numbered, is_used}
+use Rattle.oa_table.specs.promise.Tables.{ObjectValue, TableValue, object_at, unlocked_entry, unlocked_table}
+use Rattle.oa_image.specs.promise.Tables.{is_numbered, is_used}
 
 module _ {K X : Type 0} (p : K → Bool) where
   abbrev good : List (K × X) → Bool

@@ -5,25 +5,26 @@ use Rattle.std.specs.Map.{values_of}
 use Rattle.std.proofs.lemmas.List.{length-append}
 use Rattle.std.proofs.lemmas.List.Sums.{sum_by-cons}
 use Rattle.oa_variant.specs.declared.variant.Variant.{Variant}
-use Rattle.oa_formats.specs.Formats.{raw, next_by, made_where, coded, counted, only, times}
-use Rattle.oa_formats.specs.Lengths.{scalar_size, value_size}
-use Rattle.oa_formats.specs.Numbers.{u16, u32, i32, guid_format}
-use Rattle.oa_formats.specs.Values.{scalar_format}
-use Rattle.oa_formats.specs.Variants.{value}
+use Rattle.oa_formats.specs.promise.Formats.{raw, next_by, made_where, coded, counted, only, times}
+use Rattle.oa_formats.specs.promise.Lengths.{scalar_size, value_size}
+use Rattle.oa_formats.specs.promise.Numbers.{u16, u32, i32, guid_format}
+use Rattle.oa_formats.specs.promise.Values.{scalar_format}
+use Rattle.oa_formats.specs.promise.Variants.{value}
 use Rattle.oa_formats.proofs.Lengths.{all_sized, scalar_sized, value_sized}
 use Rattle.oa_table.specs.declared.event.Event.{Event}
 use Rattle.oa_table.specs.declared.event.Event.TheVariants.{Create, Release, Put, PutElement, Redim}
 use Rattle.oa_table.specs.declared.name.CellName.{CellName}
-use Rattle.oa_table.specs.Events.{applied}
-use Rattle.oa_table.specs.Objects.{with_put}
-use Rattle.oa_table.specs.Places.{PlaceValue}
-use Rattle.oa_table.specs.Sizes.{cell_size, object_size, place_size, size_after, table_size}
-use Rattle.oa_table.specs.Tables.{ObjectValue, TableValue}
+use Rattle.oa_table.specs.promise.Events.{applied}
+use Rattle.oa_table.specs.promise.Objects.{with_put}
+use Rattle.oa_table.specs.promise.Places.{PlaceValue}
+use Rattle.oa_table.specs.promise.Sizes.{cell_size, object_size, place_size, table_size}
+use Rattle.oa_table.specs.Sizes.{size_after}
+use Rattle.oa_table.specs.promise.Tables.{ObjectValue, TableValue}
 use Rattle.oa_table.proofs.Sums.{object_most, put_most}
-use Rattle.oa_image.specs.Events.{event_image, indices_format}
-use Rattle.oa_image.specs.Names.{key, name, place}
-use Rattle.oa_image.specs.Sizes.{event_size}
-use Rattle.oa_image.specs.Tables.{cell, cells, object, objects, table}
+use Rattle.oa_image.specs.promise.Events.{event_image, indices_format}
+use Rattle.oa_image.specs.promise.Names.{key, name, place}
+use Rattle.oa_image.specs.promise.Sizes.{event_size}
+use Rattle.oa_image.specs.promise.Tables.{cell, cells, object, objects, table}
 use Rattle.oa_image.proofs.Lengths.{indices_len}
 use Rattle.oa_image.proofs.Parts.{create_len, put_element_len, put_len, redim_len, release_len}
 

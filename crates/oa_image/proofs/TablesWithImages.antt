@@ -5,16 +5,17 @@ use Rattle.std.specs.Map.{values_of}
 use Rattle.std.proofs.lemmas.List.{length-map}
 use Rattle.oa_variant.specs.declared.variant.Variant.{Variant}
 use Rattle.oa_variant.specs.declared.variant.Variant.TheVariants as variants
-use Rattle.oa_table.specs.Elements.{locks_of}
-use Rattle.oa_table.specs.Places.{PlaceValue}
-use Rattle.oa_table.specs.Tables.{ObjectValue, TableValue, unlocked_cell, unlocked_entry, unlocked_table}
-use Rattle.oa_formats.specs.Formats.{raw, next_by, made_where, coded, counted, only, rising, times, tagged, case}
-use Rattle.oa_formats.specs.Arrays.{array_format}
-use Rattle.oa_formats.specs.Numbers.{u32, guid_format}
-use Rattle.oa_formats.specs.Variants.{content, value}
+use Rattle.oa_table.specs.promise.Elements.{locks_of}
+use Rattle.oa_table.specs.promise.Places.{PlaceValue}
+use Rattle.oa_table.specs.promise.Tables.{ObjectValue, TableValue, unlocked_cell, unlocked_entry, unlocked_table}
+use Rattle.oa_formats.specs.promise.Formats.{raw, next_by, made_where, coded, counted, only, rising, times, tagged}
+use Rattle.oa_formats.specs.promise.Formats.{case}
+use Rattle.oa_formats.specs.promise.Arrays.{array_format}
+use Rattle.oa_formats.specs.promise.Numbers.{u32, guid_format}
+use Rattle.oa_formats.specs.promise.Variants.{content, value}
 use Rattle.oa_formats.proofs.Conditions.{same_unlocked}
 use Rattle.oa_formats.proofs.Exact.{one_value}
-use Rattle.oa_image.specs.Tables.{cell, cells, is_numbered, object, objects, older, place_before, table}
+use Rattle.oa_image.specs.promise.Tables.{cell, cells, is_numbered, object, objects, older, place_before, table}
 
 -- a value that has an image has no locks
 pub no_locks : (v : Variant) → value.Is v → locks_of v ≡ 0

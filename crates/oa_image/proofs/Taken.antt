@@ -12,15 +12,16 @@ use Rattle.std.proofs.Math.Seq.{take-add}
 use Rattle.std.proofs.lemmas.List.Concat.{flat_map-append}
 use Rattle.std.proofs.lemmas.List.Elements.{All-from_recursion}
 use Rattle.oa_variant.specs.declared.variant.Variant.{Variant}
-use Rattle.oa_table.specs.Elements.{locks_of}
+use Rattle.oa_table.specs.promise.Elements.{locks_of}
 use Rattle.oa_table.specs.Parts.{CanBeLast, table_with_next, with_last}
-use Rattle.oa_table.specs.Places.{PlaceValue, place_cmp, places_total}
-use Rattle.oa_table.specs.Sizes.{table_size}
-use Rattle.oa_table.specs.Tables.{ObjectValue, TableValue}
-use Rattle.oa_ndr.specs.Reading.{Cursor, at}
-use Rattle.oa_formats.specs.Formats.{Format, IsBytes, rising}
+use Rattle.oa_table.specs.promise.Places.{PlaceValue, place_cmp}
+use Rattle.oa_table.specs.Places.{places_total}
+use Rattle.oa_table.specs.promise.Sizes.{table_size}
+use Rattle.oa_table.specs.promise.Tables.{ObjectValue, TableValue}
+use Rattle.oa_ndr.specs.promise.Reading.{Cursor, at}
+use Rattle.oa_formats.specs.promise.Formats.{Format, IsBytes, rising}
 use Rattle.oa_formats.proofs.Exact.{no_prefix}
-use Rattle.oa_image.specs.Tables.{place_before, cell, object, older, table, table_image, is_used}
+use Rattle.oa_image.specs.promise.Tables.{place_before, cell, object, older, table, table_image, is_used}
 use Rattle.oa_image.specs.declared.reader.OpenObject.{OpenObject}
 use Rattle.oa_image.specs.declared.reader.OpenTable.{OpenTable}
 use Rattle.oa_image.specs.Reader.{BeginsWith, IsBetweenParts, IsOpenTable, TakesEnd, TakesPart, all_objects, is_behind, object_head, object_so_far, object_taken, table_head, table_taken, with_at_hand}

@@ -3,12 +3,12 @@ use Rattle.std.proofs.Common.{◌≡◌, ℕ, ◌+◌, ◌^◌, ◌<◌, ◌≤�
 use Rattle.std.specs.List.{flat_map, sum_by}
 use Rattle.oa_variant.specs.declared.variant.Variant.{Variant}
 use Rattle.oa_variant.specs.declared.variant.Variant.TheVariants as variants
-use Rattle.oa_table.specs.Places.{PlaceValue}
-use Rattle.oa_table.specs.Tables.{ObjectValue}
+use Rattle.oa_table.specs.promise.Places.{PlaceValue}
+use Rattle.oa_table.specs.promise.Tables.{ObjectValue}
 use Rattle.oa_formats.specs.Elements.{array_head, element_image}
-use Rattle.oa_image.specs.Names.{place}
-use Rattle.oa_formats.specs.Numbers.{u32, guid_format}
-use Rattle.oa_image.specs.Tables.{cell, object}
+use Rattle.oa_image.specs.promise.Names.{place}
+use Rattle.oa_formats.specs.promise.Numbers.{u32, guid_format}
+use Rattle.oa_image.specs.promise.Tables.{cell, object}
 use Rattle.oa_image.specs.declared.pieces.Part.{Part}
 use Rattle.oa_image.specs.declared.pieces.Part.TheVariants.{Head, Object, Cell, Array, Element}
 use Rattle.oa_image.specs.declared.pieces.Rest.{Rest}

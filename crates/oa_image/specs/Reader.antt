@@ -2,10 +2,10 @@
 use Rattle.std.specs.Prelude.{◌≡◌, ◌<◌, ◌≤◌, ◌+◌, ◌^◌, ℕ, Bool, true, List, [], ◌∷◌, ◌++◌, length, take, Option, Some}
 use Rattle.std.specs.Prelude.{None}
 use Rattle.std.specs.List.{flat_map}
-use Rattle.oa_table.specs.Tables.{ObjectValue, TableValue}
-use Rattle.oa_formats.specs.Formats.{Format, ◌▸◌}
-use Rattle.oa_formats.specs.Numbers.{u32, guid_format}
-use Rattle.oa_image.specs.Tables.{cell, object, table, table_image}
+use Rattle.oa_table.specs.promise.Tables.{ObjectValue, TableValue}
+use Rattle.oa_formats.specs.promise.Formats.{Format, ◌▸◌}
+use Rattle.oa_formats.specs.promise.Numbers.{u32, guid_format}
+use Rattle.oa_image.specs.promise.Tables.{cell, object, table, table_image}
 use Rattle.oa_image.specs.declared.reader.OpenObject.{OpenObject}
 use Rattle.oa_image.specs.declared.reader.OpenTable.{OpenTable}
 

@@ -1,10 +1,10 @@
 //! Reading the image of a table in stretches.
 ghost use Rattle.std.specs.Prelude.{◌≡◌, ◌<◌, ◌≤◌, ◌++◌, [], length, take, true, ⊤, IfOk, OnOk, MatchOption, None};
-ghost use Rattle.oa_table.specs.Tables.{TableValue};
+ghost use Rattle.oa_table.specs.promise.Tables.{TableValue};
 ghost use Rattle.oa_image.specs.Reader.{BeginsTable, BeginsWith, ConsumesNext, IsBetweenParts, IsOpenTable, TakesEnd, TakesPart, is_behind};
 ghost use Rattle.oa_image.specs.Reader.{object_head, table_head, table_taken, with_at_hand};
-ghost use Rattle.oa_image.specs.Tables as tables;
-ghost use Rattle.oa_image.specs.Tables.{table as a_table, table_image};
+ghost use Rattle.oa_image.specs.promise.Tables as tables;
+ghost use Rattle.oa_image.specs.promise.Tables.{table as a_table, table_image};
 
 use crate::name::PlaceFormat;
 use oa_formats::{ReadFault, ReadImage, VariantFormat, read_guid, read_u32};
@@ -25,7 +25,7 @@ impl ReadImage for TableHead {
 
     ghost format = { table_head };
 
-    #[tactic(auto, unfolding(oa_ndr::specs::Reading::steps, oa_formats::specs::Formats::next_by, crate::specs::Reader::table_head))]
+    #[tactic(auto, unfolding(oa_ndr::specs::Reading::steps, oa_formats::specs::promise::Formats::next_by, crate::specs::Reader::table_head))]
     fn read(_alloc: Global, r: &mut Ndr<'_>) -> Result<(u32, u32), ReadFault> {
         let next = read_u32(r)?;
         let count = read_u32(r)?;
@@ -42,7 +42,7 @@ impl ReadImage for ObjectHead {
 
     ghost format = { object_head };
 
-    #[tactic(auto, unfolding(oa_ndr::specs::Reading::steps, oa_formats::specs::Formats::next_by, crate::specs::Reader::object_head))]
+    #[tactic(auto, unfolding(oa_ndr::specs::Reading::steps, oa_formats::specs::promise::Formats::next_by, crate::specs::Reader::object_head))]
     fn read(_alloc: Global, r: &mut Ndr<'_>) -> Result<(u32, (Uuid, u32)), ReadFault> {
         let number = read_u32(r)?;
         let class = read_guid(r)?;
@@ -59,7 +59,7 @@ impl ReadImage for CellFormat {
 
     ghost format = { tables.cell };
 
-    #[tactic(auto, unfolding(oa_ndr::specs::Reading::steps, oa_formats::specs::Formats::next_by, crate::specs::Tables::cell))]
+    #[tactic(auto, unfolding(oa_ndr::specs::Reading::steps, oa_formats::specs::promise::Formats::next_by, crate::specs::promise::Tables::cell))]
     fn read(alloc: Global, r: &mut Ndr<'_>) -> Result<(Place, Variant), ReadFault> {
         let place = PlaceFormat::read(alloc, r)?;
         let value = VariantFormat::read(alloc, r)?;

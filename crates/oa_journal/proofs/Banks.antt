@@ -3,26 +3,27 @@ use Rattle.std.proofs.Common.{◌≡◌, ◌≢◌, ℕ, ◌+◌, ◌<◌, ◌�
 use Rattle.oa_disk.specs.Disk.{HasBytesAt}
 use Rattle.oa_table.specs.declared.event.Event.{Event}
 use Rattle.oa_table.specs.declared.fault.TableFault.{TableFault}
-use Rattle.oa_table.specs.Events.{applied}
-use Rattle.oa_table.specs.Tables.{TableValue, first_table, unlocked_table}
-use Rattle.oa_formats.specs.Formats.{raw, next_by, made_where, times, coded, counted, only}
-use Rattle.oa_formats.specs.Numbers.{u32}
+use Rattle.oa_table.specs.promise.Events.{applied}
+use Rattle.oa_table.specs.promise.Tables.{TableValue, unlocked_table}
+use Rattle.oa_table.specs.Tables.{first_table}
+use Rattle.oa_formats.specs.promise.Formats.{raw, next_by, made_where, times, coded, counted, only}
+use Rattle.oa_formats.specs.promise.Numbers.{u32}
 use Rattle.oa_formats.proofs.Exact.{one_list, one_value}
-use Rattle.oa_image.specs.Events.{event}
-use Rattle.oa_image.specs.Tables.{is_numbered, objects, table, table_image}
+use Rattle.oa_image.specs.promise.Events.{event}
+use Rattle.oa_image.specs.promise.Tables.{is_numbered, objects, table, table_image}
 use Rattle.oa_image.proofs.Lengths.{event_bytes}
 use Rattle.oa_image.proofs.Numbered.{numbers_stay}
 use Rattle.oa_image.proofs.TablesWithImages.{same_table}
-use Rattle.oa_journal.specs.Replays.{applied_all, followed, Replays, ReplaysAll}
+use Rattle.oa_journal.specs.promise.Bank.{applied_all, followed, Replays, ReplaysAll, body_bytes, format_of, told_size}
+use Rattle.oa_journal.specs.promise.Bank.{IsShape, from_place, header_of, IsGroupAt, IsBank, HasHeader, start_of}
+use Rattle.oa_journal.specs.promise.Bank.{first_gate}
 use Rattle.oa_journal.specs.declared.shape.BankFormat.{BankFormat}
-use Rattle.oa_journal.specs.Shapes.{body_bytes, format_of, told_size, IsShape}
 use Rattle.oa_journal.proofs.Shapes.{body_small}
-use Rattle.oa_journal.specs.Bank.{from_place, header_of, IsGroupAt, IsBank, HasHeader}
 use Rattle.oa_journal.proofs.LaidOut.{gate_behind, same_head, shut_parts, same_parts, parts_with}
-use Rattle.oa_journal.specs.Fronts.{start_of, front_of}
+use Rattle.oa_journal.specs.Fronts.{front_of}
 use Rattle.oa_journal.proofs.Fronts.{front_parts, held}
 use Rattle.oa_journal.proofs.Unique.{one_head, one_layout}
-use Rattle.oa_journal.specs.Banks.{first_gate, IsSameBank}
+use Rattle.oa_journal.specs.Banks.{IsSameBank}
 
 abbrev made : TableValue → Result TableValue TableFault
 made t = Ok t

@@ -1,17 +1,17 @@
 -- A bank is not damaged.
 use Rattle.std.proofs.Common.{◌≡◌, ◌≢◌, ⊎_elim, ℕ, ◌+◌, ◌^◌, ◌<◌, ◌≤◌, List, [], ◌∷◌, ◌++◌, length, sym, ◌∙◌, ap, subst, arith}
-use Rattle.oa_table.specs.Tables.{TableValue}
+use Rattle.oa_table.specs.promise.Tables.{TableValue}
 use Rattle.oa_formats.proofs.Exact.{one_value}
-use Rattle.oa_image.specs.Tables.{table, table_image}
+use Rattle.oa_image.specs.promise.Tables.{table, table_image}
 use Rattle.oa_journal.specs.declared.shape.BankFormat.{BankFormat}
-use Rattle.oa_journal.specs.Bank.{from_place, header_of, Shows, IsGroupAt, AreGroups, IsBank, HasHeader, HasLibrary}
+use Rattle.oa_journal.specs.promise.Bank.{from_place, header_of, Shows, IsGroupAt, AreGroups, IsBank, HasHeader}
+use Rattle.oa_journal.specs.promise.Bank.{HasLibrary, Replays, ReplaysAll, body_bytes}
 use Rattle.oa_journal.proofs.Banks.{bank_header, one_replay}
 use Rattle.oa_journal.proofs.LaidOut.{gate_behind}
-use Rattle.oa_journal.specs.Replays.{Replays, ReplaysAll}
-use Rattle.oa_journal.specs.Shapes.{body_bytes}
 use Rattle.oa_journal.proofs.Shapes.{body_small}
 use Rattle.oa_journal.proofs.Unique.{at_open, one_head, same_bytes}
-use Rattle.oa_journal.specs.Damages.{AreGroupsTo, HasSnapshot, IsDamagedBank, IsDamagedBody, IsNoGroup}
+use Rattle.oa_journal.specs.promise.Damages.{AreGroupsTo, HasSnapshot, IsDamagedBody, IsNoGroup}
+use Rattle.oa_journal.specs.Damages.{IsDamagedBank}
 
 -- ---- groups up to a place
 

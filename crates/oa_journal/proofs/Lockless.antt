@@ -2,24 +2,23 @@
 use Rattle.std.proofs.Common.{◌≡◌, ℕ, List, [], ◌∷◌, map, Result, Ok, Err, refl, sym, ap, subst, ◌∙◌}
 use Rattle.std.specs.List.{AllByRecursion}
 use Rattle.std.specs.Map.{values_of}
-use Rattle.oa_array.specs.Arrays.{with_locks}
-use Rattle.oa_variant.specs.Variants.{unlocked}
+use Rattle.oa_array.specs.promise.Arrays.{with_locks}
+use Rattle.oa_variant.specs.promise.Variants.{unlocked}
 use Rattle.oa_variant.specs.declared.variant.Variant.{Variant}
 use Rattle.oa_variant.specs.declared.variant.Variant.TheVariants.{One, Array}
 use Rattle.oa_table.specs.declared.event.Event.{Event}
 use Rattle.oa_table.specs.declared.fault.TableFault.{TableFault}
-use Rattle.oa_table.specs.Elements.{locks_of}
-use Rattle.oa_table.specs.Events.{applied}
-use Rattle.oa_table.specs.Places.{PlaceValue}
-use Rattle.oa_table.specs.Tables.{ObjectValue, TableValue, unlocked_cell, unlocked_entry, unlocked_table}
+use Rattle.oa_table.specs.promise.Elements.{locks_of}
+use Rattle.oa_table.specs.promise.Events.{applied}
+use Rattle.oa_table.specs.promise.Places.{PlaceValue}
+use Rattle.oa_table.specs.promise.Tables.{ObjectValue, TableValue, unlocked_cell, unlocked_entry, unlocked_table}
 use Rattle.oa_table.proofs.Unlocked.{event_follows}
-use Rattle.oa_image.specs.Events.{event}
-use Rattle.oa_image.specs.Tables.{object, table}
+use Rattle.oa_image.specs.promise.Events.{event}
+use Rattle.oa_image.specs.promise.Tables.{object, table}
 use Rattle.oa_image.proofs.Unlocked.{brings_none}
 use Rattle.oa_image.proofs.TablesWithImages.{each_value, object_parts, table_parts}
-use Rattle.oa_journal.specs.Replays.{Replays, ReplaysAll, applied_all, followed}
+use Rattle.oa_journal.specs.promise.Bank.{Replays, ReplaysAll, applied_all, followed, IsBank}
 use Rattle.oa_journal.specs.declared.shape.BankFormat.{BankFormat}
-use Rattle.oa_journal.specs.Bank.{IsBank}
 
 value_stays : (value : Variant) → locks_of value ≡ 0 → unlocked value ≡ value
 value_stays (One s) h = refl

@@ -2,7 +2,7 @@
 use Rattle.std.proofs.Common.{◌≡◌, ◌≤◌, refl, ap, arith}
 use Rattle.oa_journal.specs.declared.shape.BankFormat.{BankFormat}
 use Rattle.oa_journal.specs.declared.shape.BankFormat.TheVariants.{One, Two}
-use Rattle.oa_journal.specs.Shapes.{IsShape, body_bytes, format_of, most_bank_bytes, told_size}
+use Rattle.oa_journal.specs.promise.Bank.{IsShape, body_bytes, format_of, most_bank_bytes, told_size}
 
 pub body_small : (shape : BankFormat) → IsShape shape → body_bytes shape ≤ most_bank_bytes
 body_small One is = omega arith

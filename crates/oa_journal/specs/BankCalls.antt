@@ -5,20 +5,19 @@ use Rattle.oa_disk.specs.Disk.{HasBytesAt, LeavesStep}
 use Rattle.oa_disk.specs.declared.disk.DeviceFault.{DeviceFault}
 use Rattle.oa_disk.specs.declared.disk.DeviceFault.TheVariants.{Read}
 use Rattle.oa_disk.specs.declared.disk.Disk.{Ghosts}
-use Rattle.oa_image.specs.Tables.{is_numbered}
+use Rattle.oa_image.specs.promise.Tables.{is_numbered}
 use Rattle.oa_journal.specs.Append.{IsAt, TornBank}
-use Rattle.oa_journal.specs.Bank.{from_place, HasHead, HasLibrary, IsBank}
-use Rattle.oa_journal.specs.Banks.{first_gate}
-use Rattle.oa_journal.specs.Damages.{IsDamagedHead}
+use Rattle.oa_journal.specs.promise.Bank.{from_place, HasHead, HasLibrary, IsBank, first_gate, body_bytes, disk_bytes}
+use Rattle.oa_journal.specs.promise.Bank.{IsShape}
+use Rattle.oa_journal.specs.promise.Damages.{IsDamagedHead}
 use Rattle.oa_journal.specs.Replies.{IsCausedBankFault}
-use Rattle.oa_journal.specs.Shapes.{body_bytes, disk_bytes, IsShape}
 use Rattle.oa_journal.specs.declared.bank.AppendFault.{AppendFault}
 use Rattle.oa_journal.specs.declared.bank.AppendFault.TheVariants as appends
 use Rattle.oa_journal.specs.declared.bank.Bank.{Bank}
 use Rattle.oa_journal.specs.declared.bank.BankFault.{BankFault}
 use Rattle.oa_journal.specs.declared.bank.BankFault.TheVariants.{Damaged, Device, Memory}
 use Rattle.oa_journal.specs.declared.head.BankHead.{BankHead}
-use Rattle.oa_table.specs.Tables.{TableValue, unlocked_table}
+use Rattle.oa_table.specs.promise.Tables.{TableValue, unlocked_table}
 
 -- head and body lie on a disk of this size
 pub record LiesWithin (size : ℕ) (bank : Bank) : Type 0 where

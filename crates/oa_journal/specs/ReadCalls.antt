@@ -2,13 +2,12 @@
 use Rattle.std.specs.Prelude.{◌≡◌, ℕ, ◌+◌, ◌<◌, ◌≤◌, true, IsTrue, List, length, take, slice_index}
 use Rattle.oa_disk.specs.Disk.{HasBytesAt}
 use Rattle.oa_disk.specs.declared.disk.Disk.{Ghosts}
-use Rattle.oa_image.specs.Tables.{is_numbered}
-use Rattle.oa_table.specs.Tables.{TableValue, unlocked_table}
+use Rattle.oa_image.specs.promise.Tables.{is_numbered}
+use Rattle.oa_table.specs.promise.Tables.{TableValue, unlocked_table}
 use Rattle.oa_journal.specs.declared.ahead.DiskAhead.{DiskAhead}
 use Rattle.oa_journal.specs.declared.shape.BankFormat.{BankFormat}
-use Rattle.oa_journal.specs.Bank.{from_place, AreGroups, HasLibrary, IsBank, IsGroupAt}
-use Rattle.oa_journal.specs.Replays.{Replays, ReplaysAll}
-use Rattle.oa_journal.specs.Shapes.{body_bytes}
+use Rattle.oa_journal.specs.promise.Bank.{from_place, AreGroups, HasLibrary, IsBank, IsGroupAt, Replays, ReplaysAll}
+use Rattle.oa_journal.specs.promise.Bank.{body_bytes}
 
 -- ---- what is required
 

@@ -1,8 +1,7 @@
--- Calls that write nothing. (This project's choice.)
+-- Definitions for contracts and proofs, beside promise/Bank.
 use Rattle.std.proofs.Common.{◌≡◌, ℕ, ◌+◌, ◌≤◌, IsTrue, List, Result, IfErr, ◌∙◌}
 use Rattle.std.specs.Prelude.{IsErrOf}
 use Rattle.oa_disk.specs.After.{AfterCalls}
-use Rattle.oa_disk.specs.Disk.{CrashInvariant}
 use Rattle.oa_disk.specs.Moments.{chained}
 use Rattle.oa_disk.specs.declared.disk.DeviceFault.{DeviceFault}
 use Rattle.oa_disk.specs.declared.disk.DeviceFault.TheVariants.{Read}
@@ -10,13 +9,7 @@ use Rattle.oa_disk.specs.declared.disk.Disk.{Ghosts}
 use Rattle.oa_journal.specs.declared.bank.BankFault.{BankFault}
 use Rattle.oa_journal.specs.declared.bank.BankFault.TheVariants.{Device}
 use Rattle.oa_journal.specs.Replies.{IsCausedBankFault}
-
--- At each point in time of the calls, each image is one of those at their start.
-pub record WritesNothing {D : Type 0} (image : D → List ℕ → Type 0) (moment : D → ℕ)
-    (image_since : D → ℕ → List ℕ → Type 0)
-    (old new : D) : Type 0 where
-  pub images : (c : List ℕ) → image new c → image old c
-  pub moments : CrashInvariant moment image_since old new (image old)
+use Rattle.oa_journal.specs.promise.Bank.{WritesNothing}
 
 -- Besides, the contents do not change; after a failed sync they are not known.
 pub record OnlyReads {D : Type 0} (contents : D → List ℕ) (image : D → List ℕ → Type 0) (moment : D → ℕ)

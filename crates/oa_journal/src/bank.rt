@@ -3,12 +3,11 @@ ghost use Rattle.std.specs.Prelude.{◌≡◌, ◌+◌, ◌-◌, ◌^◌, ◌<�
 ghost use Rattle.std.specs.Int.{div_ceil};
 ghost use Rattle.oa_disk.specs.After.{AfterAttempt, AfterCalls, AfterWrites, Leaves};
 ghost use Rattle.oa_disk.specs.declared.disk.DeviceFault.{DeviceFault};
-ghost use Rattle.oa_image.specs.Tables.{is_numbered};
-ghost use Rattle.oa_journal.specs.Bank.{from_place, Apart, HasLibrary};
-ghost use Rattle.oa_journal.specs.Banks.{first_gate};
+ghost use Rattle.oa_image.specs.promise.Tables.{is_numbered};
+ghost use Rattle.oa_journal.specs.promise.Bank.{from_place, HasLibrary, first_gate, body_bytes, IsShape};
+ghost use Rattle.oa_journal.specs.Bank.{Apart};
 ghost use Rattle.oa_journal.specs.Damages.{HasNoHeader, IsDamagedBank};
 ghost use Rattle.oa_journal.specs.Reads.{OnlyReads};
-ghost use Rattle.oa_journal.specs.Shapes.{body_bytes, IsShape};
 
 use crate::BankFormat;
 use crate::batch::{append_group, lay_out};

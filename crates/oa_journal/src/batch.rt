@@ -2,7 +2,8 @@
 ghost use Rattle.std.specs.Prelude.{◌≡◌, ◌+◌, ◌^◌, ◌<◌, ◌≤◌, IsTrue, length, OnOk, IfOk};
 ghost use Rattle.std.specs.Int.{div_ceil};
 ghost use Rattle.oa_disk.specs.After.{AfterWrites};
-ghost use Rattle.oa_disk.specs.Disk.{LeavesStep, Follows};
+ghost use Rattle.oa_disk.specs.Disk.{LeavesStep};
+ghost use Rattle.oa_disk.specs.promise.Disk.{Follows};
 ghost use Rattle.oa_disk.specs.Switch.{MaySwitch, HasSwitched};
 ghost use Rattle.oa_journal.specs.Append.{group_of, sealed};
 ghost use Rattle.oa_journal.specs.Bank.{Apart};

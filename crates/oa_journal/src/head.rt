@@ -4,10 +4,9 @@ ghost use Rattle.oa_disk.specs.After.{AfterCalls};
 ghost use Rattle.oa_journal.specs.BankCalls.{FindsHead, RefusesHead};
 ghost use Rattle.oa_journal.specs.declared.bank.BankFault.{BankFault};
 ghost use Rattle.oa_journal.specs.declared.shape.BankFormat.{BankFormat as AShape};
-ghost use Rattle.oa_journal.specs.Bank.{from_place, HasHeader};
+ghost use Rattle.oa_journal.specs.promise.Bank.{from_place, HasHeader, body_bytes, format_of, told_size, IsShape};
 ghost use Rattle.oa_journal.specs.Damages.{HasNoHeader};
 ghost use Rattle.oa_journal.specs.Reads.{AfterReads, OnlyReads};
-ghost use Rattle.oa_journal.specs.Shapes.{body_bytes, format_of, told_size, IsShape};
 
 use crate::layout::head_bytes;
 use crate::{BankFault, BankFormat, LEAST_BANK_BYTES, MOST_BANK_BYTES};

@@ -4,13 +4,13 @@ ghost use Rattle.std.specs.Prelude.{◌≡◌, ◌↔◌, ◌+◌, ◌-◌, ◌<
 ghost use Rattle.std.specs.Int.{to_le_bytes, w32};
 ghost use Rattle.oa_disk.specs.Disk.{HasBytesAt};
 ghost use Rattle.oa_journal.specs.declared.bank.BankFault.{BankFault};
-ghost use Rattle.oa_journal.specs.Bank.{from_place, IsGroupAt, HasHeader, HasLibrary};
-ghost use Rattle.oa_journal.specs.Damages.{HasNoHeader, HasSnapshot, IsDamagedBank, IsNoGroup, StopsAt};
+ghost use Rattle.oa_journal.specs.promise.Bank.{from_place, IsGroupAt, HasHeader, HasLibrary, body_bytes, IsShape};
+ghost use Rattle.oa_journal.specs.Damages.{HasNoHeader, IsDamagedBank};
+ghost use Rattle.oa_journal.specs.promise.Damages.{HasSnapshot, IsNoGroup, StopsAt};
 ghost use Rattle.oa_journal.specs.BankCalls.{BodyWithin, PartsWithin};
 ghost use Rattle.oa_journal.specs.ReadCalls.{FindsGroup, FindsGroups, FindsTable, IsAhead, IsStored};
 ghost use Rattle.oa_journal.specs.ReadCalls.{PassesGroup, StaysAhead, StaysStored};
 ghost use Rattle.oa_journal.specs.Reads.{AfterReads};
-ghost use Rattle.oa_journal.specs.Shapes.{body_bytes, IsShape};
 
 use crate::ahead::DiskAhead;
 use crate::groups::replay;

@@ -1,5 +1,5 @@
 //! The two formats of a bank.
-ghost use Rattle.oa_journal.specs.Shapes.{body_bytes, disk_bytes};
+ghost use Rattle.oa_journal.specs.promise.Bank.{body_bytes, disk_bytes};
 
 use oa_model::{GROUP_BYTES, MAX_EVENT_BYTES};
 

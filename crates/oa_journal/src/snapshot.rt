@@ -3,11 +3,11 @@
 ghost use Rattle.std.specs.Prelude.{◌≡◌, ◌+◌, ◌*◌, ◌^◌, ◌<◌, ◌≤◌, ◌++◌, ℕ, IsTrue, [], length, OnOk, IfOk, IsErrOf};
 ghost use Rattle.std.specs.Int.{div_ceil};
 ghost use Rattle.oa_journal.specs.declared.bank.BankFault.{BankFault};
-ghost use Rattle.oa_image.specs.Tables.{table, table_image};
+ghost use Rattle.oa_image.specs.promise.Tables.{table, table_image};
 ghost use Rattle.oa_journal.specs.BankCalls.{BodyWithin};
 ghost use Rattle.oa_journal.specs.Reads.{AfterReads};
 ghost use Rattle.oa_journal.specs.Snapshots.{stretch_bytes, FindsSnapshot, HasNoImage, PassesStretch, ReadsBehind};
-ghost use Rattle.oa_table.specs.Tables.{TableValue};
+ghost use Rattle.oa_table.specs.promise.Tables.{TableValue};
 
 use crate::BankFault;
 use oa_disk::Disk;

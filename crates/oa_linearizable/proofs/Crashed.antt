@@ -5,31 +5,28 @@ use Rattle.oa_disk.specs.declared.disk.Disk.{Ghosts}
 use Rattle.oa_group_commit.proofs.Called.{calls_none}
 use Rattle.oa_group_commit.proofs.Calling.{session_called, session_ended, session_stands, session_stopped}
 use Rattle.oa_group_commit.proofs.Entries.{either, joined_two, no_entry}
-use Rattle.oa_group_commit.specs.Groups.{concat_groups}
-use Rattle.oa_group_commit.specs.History.{MayBeLeft}
-use Rattle.oa_group_commit.specs.Runs.{CallsFor, HoldsPrefix, HoldsState, Trace}
+use Rattle.oa_group_commit.specs.promise.Groups.{concat_groups, MayBeLeft, CallsFor, HoldsPrefix, HoldsState, Trace}
+use Rattle.oa_group_commit.specs.promise.Groups.{Exchange, body_of, reply_of}
 use Rattle.oa_group_commit.specs.Sessions.{by_then}
-use Rattle.oa_group_commit.specs.StateMachines.{Exchange, body_of, reply_of}
 use Rattle.oa_store.specs.declared.store.Store.{Store}
-use Rattle.oa_server.specs.SharedMachine.{shared_machine}
-use Rattle.oa_server.specs.SharedTalks.{asked_written}
-use Rattle.oa_server.specs.Sharing.{ClientReply, Shared, failed_client_reply, shared}
-use Rattle.oa_server.specs.Storages.{OverStore, disk_of}
-use Rattle.oa_server.specs.Stretches.{ServesStretch, all_told}
+use Rattle.oa_server.specs.promise.SharedMachine.{shared_machine, ClientReply, Shared, failed_client_reply, shared}
+use Rattle.oa_server.specs.promise.SharedMachine.{ServesStretch, all_told}
+use Rattle.oa_server.specs.promise.SharedSessions.{asked_written}
+use Rattle.oa_server.specs.promise.Storages.{OverStore, disk_of}
 use Rattle.oa_server.specs.declared.desk.SharedGroup.{SharedGroup}
 use Rattle.oa_server.specs.declared.engine.ServerState.{ServerState}
 use Rattle.oa_server.specs.declared.storage.Storage.{Storage}
 use Rattle.oa_server.specs.declared.storage.Storage.TheVariants.{Disk, Memory}
-use Rattle.oa_mux.specs.Marks.{Flush, Of, Tagged}
-use Rattle.oa_mux.specs.Readers.{Brought}
-use Rattle.oa_mux.specs.Talking.{AllTurned}
-use Rattle.oa_decision.specs.States.{State}
-use Rattle.oa_history.specs.Framed.{requests_in}
+use Rattle.oa_mux.specs.promise.Marks.{Flush, Of, Tagged}
+use Rattle.oa_mux.specs.promise.Readers.{Brought}
+use Rattle.oa_mux.specs.promise.Talking.{AllTurned}
+use Rattle.oa_decision.specs.promise.States.{State}
+use Rattle.oa_history.specs.promise.Framed.{requests_in}
 use Rattle.oa_history.proofs.Turns.{CallIn, SoFarIn, turned, turned_now}
 use Rattle.oa_linearizable.specs.Clients.{input_of, result_of}
 use Rattle.oa_linearizable.specs.Crashes.{EachEraIsLinearizable}
-use Rattle.oa_linearizable.specs.Histories.{IsFirstPart, IsLegal, Operation}
-use Rattle.oa_linearizable.specs.Tables.{inputs_in, result_for, the_table}
+use Rattle.oa_linearizable.specs.promise.Histories.{IsFirstPart, IsLegal, Operation}
+use Rattle.oa_linearizable.specs.promise.Tables.{inputs_in, result_for, the_table}
 use Rattle.oa_linearizable.proofs.EachClient.{client_served}
 use Rattle.oa_linearizable.proofs.Fronts.{Front, front_all, front_none}
 use Rattle.oa_linearizable.proofs.Orders.{linearized, shorter}

@@ -1,23 +1,25 @@
 -- One era after another.
 use Rattle.std.proofs.Common.{◌≡◌, ◌⊎◌, inl, inr, ℕ, Bool, true, List, [], ◌∷◌, sym, refl, ap, ◌∙◌, subst, arith}
 use Rattle.oa_disk.specs.declared.disk.Disk.{Ghosts}
-use Rattle.oa_group_commit.specs.Runs.{HoldsState}
+use Rattle.oa_group_commit.specs.promise.Groups.{HoldsState}
 use Rattle.oa_journal.specs.declared.shape.BankFormat.TheVariants.{Two}
-use Rattle.oa_record.specs.Replies.{ReplyValue}
-use Rattle.oa_store.specs.Stores.{IsStoreIn}
-use Rattle.oa_table.specs.Tables.{TableValue}
-use Rattle.oa_turn.specs.Beginnings.{CanBegin}
-use Rattle.oa_turn.specs.Turns.{Turn}
+use Rattle.oa_record.specs.promise.Replies.{ReplyValue}
+use Rattle.oa_store.specs.promise.Stores.{IsStoreIn}
+use Rattle.oa_table.specs.promise.Tables.{TableValue}
+use Rattle.oa_turn.specs.promise.Beginnings.{CanBegin}
+use Rattle.oa_turn.specs.promise.Turns.{Turn}
 use Rattle.oa_server.specs.Laws.{FoundIsKept}
-use Rattle.oa_server.specs.ServerMachine as one_client
-use Rattle.oa_server.specs.SharedMachine.{opened_shared, shared_machine}
-use Rattle.oa_server.specs.Sharing.{ClientReply, Shared, SharedTurnOf, shared}
-use Rattle.oa_mux.specs.Readers.{Brought}
-use Rattle.oa_decision.specs.States.{State}
+use Rattle.oa_server.specs.promise.ServerMachine as one_client
+use Rattle.oa_server.specs.promise.SharedMachine.{opened_shared, shared_machine, ClientReply, Shared, SharedTurnOf}
+use Rattle.oa_server.specs.promise.SharedMachine.{shared}
+use Rattle.oa_mux.specs.promise.Readers.{Brought}
+use Rattle.oa_decision.specs.promise.States.{State}
 use Rattle.oa_history.proofs.ForMany.{turn_of}
-use Rattle.oa_linearizable.specs.Crashes.{AreHistoriesOf, EachEraIsLinearizable, EraIsLinearizable, IsDurable, RecoversState, ServersAreDurable, failed_in}
-use Rattle.oa_linearizable.specs.Histories.{History, IsDurablyLinearizable, IsLegal, Operation}
-use Rattle.oa_linearizable.specs.Tables.{FailsFor, the_table}
+use Rattle.oa_linearizable.specs.promise.Crashes.{AreHistoriesOf, IsDurable, RecoversState, ServersAreDurable}
+use Rattle.oa_linearizable.specs.promise.Crashes.{failed_in}
+use Rattle.oa_linearizable.specs.Crashes.{EachEraIsLinearizable, EraIsLinearizable}
+use Rattle.oa_linearizable.specs.promise.Histories.{History, IsDurablyLinearizable, IsLegal, Operation}
+use Rattle.oa_linearizable.specs.promise.Tables.{FailsFor, the_table}
 
 -- an image holds a state without its locks
 holds_opened : (state : Shared) (c : List ℕ) → HoldsState shared_machine state c → HoldsState shared_machine (opened_shared state) c

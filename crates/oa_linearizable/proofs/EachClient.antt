@@ -1,16 +1,17 @@
 -- What one of many clients receives.
 use Rattle.std.proofs.Common.{◌≡◌, ◌==◌, ℕ, Bool, true, false, if◌then◌else◌, List, [], ◌∷◌, ◌++◌, map, refl, sym, ap, ◌∙◌}
-use Rattle.oa_frame.specs.Sessions.{last_reply}
-use Rattle.oa_record.specs.Replies.{reply_record}
-use Rattle.oa_server.specs.SharedGroups.{all_frames, frames_of, frames_with}
-use Rattle.oa_server.specs.Serving.{last_written}
-use Rattle.oa_server.specs.Sharing.{ClientReply, Leaves, Replies}
-use Rattle.oa_mux.specs.Marks.{Flush, Of, Tagged, own}
-use Rattle.oa_mux.specs.Readers.{Brought}
-use Rattle.oa_history.specs.Framed.{client_of}
+use Rattle.oa_frame.specs.promise.Sessions.{last_reply}
+use Rattle.oa_record.specs.promise.Replies.{reply_record}
+use Rattle.oa_server.specs.promise.SharedSessions.{all_frames, frames_of, frames_with}
+use Rattle.oa_server.specs.promise.ServerMachine.{last_written}
+use Rattle.oa_server.specs.promise.SharedMachine.{ClientReply, Leaves, Replies}
+use Rattle.oa_mux.specs.promise.Marks.{Flush, Of, Tagged}
+use Rattle.oa_mux.specs.Marks.{own}
+use Rattle.oa_mux.specs.promise.Readers.{Brought}
+use Rattle.oa_history.specs.promise.Framed.{client_of}
 use Rattle.oa_linearizable.specs.Clients.{ClientIsServed, bytes_told, frame_bytes, input_of, result_of}
-use Rattle.oa_linearizable.specs.Histories.{Operation, of_client}
-use Rattle.oa_linearizable.specs.Tables.{inputs_in, result_for}
+use Rattle.oa_linearizable.specs.promise.Histories.{Operation, of_client}
+use Rattle.oa_linearizable.specs.promise.Tables.{inputs_in, result_for}
 use Rattle.oa_linearizable.proofs.Orders.{of_both, of_first}
 
 -- its own requests

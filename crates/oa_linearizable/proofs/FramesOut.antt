@@ -3,8 +3,8 @@ use Rattle.std.proofs.Common.{◌≡◌, ◌<◌, ◌^◌, ℕ, List, [], ◌∷
 use Rattle.std.specs.Int.{w32, from_le_bytes, to_le_bytes}
 use Rattle.std.proofs.lemmas.List.{take_at, drop_at}
 use Rattle.std.proofs.lemmas.Nat.{from_le_bytes-to_le_bytes_4}
-use Rattle.oa_mux.specs.Frames.{frame_head, frame_of}
-use Rattle.oa_mux.specs.Outgoing.{framed_reply, spelled_frame, spelled_frames}
+use Rattle.oa_mux.specs.promise.Frames.{frame_head, frame_of}
+use Rattle.oa_mux.specs.promise.Outgoing.{framed_reply, spelled_frame, spelled_frames}
 use Rattle.oa_linearizable.specs.Clients.{FramesOutAreFrames}
 
 four_bytes : (n : ℕ) → length (to_le_bytes w32 n) ≡ 4

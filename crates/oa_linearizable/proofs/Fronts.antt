@@ -3,22 +3,19 @@ use Rattle.std.proofs.Common.{◌≡◌, ⊎_elim, ℕ, IsTrue, List, [], ◌∷
 use Rattle.std.proofs.lemmas.List.{append-nil}
 use Rattle.oa_disk.specs.declared.disk.Disk.{Ghosts}
 use Rattle.oa_store.specs.declared.store.Store.{Store}
-use Rattle.oa_record.specs.Replies.{ReplyValue}
-use Rattle.oa_server.specs.SharedGroups.{all_frames, shared_group_state_of, told_to}
-use Rattle.oa_server.specs.SharedMachine.{shared_machine}
-use Rattle.oa_server.specs.SharedTalks.{asked_written}
-use Rattle.oa_server.specs.Sharing.{ClientReply, Shared, shared, tagged_body}
-use Rattle.oa_server.specs.Stretches.{all_told}
+use Rattle.oa_record.specs.promise.Replies.{ReplyValue}
+use Rattle.oa_server.specs.promise.SharedSessions.{all_frames, shared_group_state_of, told_to, asked_written}
+use Rattle.oa_server.specs.promise.SharedMachine.{shared_machine, ClientReply, Shared, shared, tagged_body, all_told}
 use Rattle.oa_server.specs.declared.desk.SharedGroup.{SharedGroup}
 use Rattle.oa_server.specs.declared.engine.ServerState.{ServerState}
 use Rattle.oa_server.specs.declared.storage.Storage.{Storage}
 use Rattle.oa_server.specs.declared.storage.Storage.TheVariants.{Disk}
-use Rattle.oa_mux.specs.Marks.{Flush, Of, Tagged}
-use Rattle.oa_mux.specs.Readers.{Brought}
-use Rattle.oa_mux.specs.Talking.{AllTurned}
-use Rattle.oa_decision.specs.States.{State}
-use Rattle.oa_history.specs.Framed.{requests_in}
-use Rattle.oa_history.specs.Kept.{SessionStart}
+use Rattle.oa_mux.specs.promise.Marks.{Flush, Of, Tagged}
+use Rattle.oa_mux.specs.promise.Readers.{Brought}
+use Rattle.oa_mux.specs.promise.Talking.{AllTurned}
+use Rattle.oa_decision.specs.promise.States.{State}
+use Rattle.oa_history.specs.promise.Framed.{requests_in}
+use Rattle.oa_history.specs.promise.CrashHistories.{SessionStart}
 use Rattle.oa_history.proofs.Turns.{CallIn, SoFar, SoFarIn, begins, requests_more, requests_same, told_none, turned, turned_now}
 use Rattle.oa_linearizable.proofs.Parts.{frames_two, requests_two}
 use Rattle.oa_linearizable.proofs.Told.{Told, told_more, told_nothing}

@@ -2,23 +2,21 @@
 use Rattle.std.proofs.Common.{◌≡◌, inl, ℕ, false, List, [], ◌∷◌, ◌++◌, map, refl, sym, ap, ◌∙◌, subst}
 use Rattle.std.proofs.lemmas.List.{append-nil}
 use Rattle.oa_disk.specs.declared.disk.Disk.{Ghosts}
-use Rattle.oa_server.specs.SharedGroups.{all_frames, frames_of}
-use Rattle.oa_server.specs.SharedTalks.{AnswersInMemory, AsksIn, asked_written}
-use Rattle.oa_server.specs.Sharing.{ClientReply, Shared, SharedTurnOf, shared}
-use Rattle.oa_server.specs.Stretches.{all_told}
+use Rattle.oa_server.specs.promise.SharedSessions.{all_frames, frames_of, AnswersInMemory, AsksIn, asked_written}
+use Rattle.oa_server.specs.promise.SharedMachine.{ClientReply, Shared, SharedTurnOf, shared, all_told}
 use Rattle.oa_server.specs.declared.desk.SharedGroup.{SharedGroup}
 use Rattle.oa_server.specs.declared.engine.ServerState.{ServerState}
 use Rattle.oa_server.specs.declared.storage.Storage.{Storage}
 use Rattle.oa_server.specs.declared.storage.Storage.TheVariants.{Disk, Memory}
-use Rattle.oa_mux.specs.Marks.{Flush, Of, Tagged}
-use Rattle.oa_mux.specs.Readers.{Body, Brought, Ends}
-use Rattle.oa_mux.specs.Talking.{AllTurned}
-use Rattle.oa_decision.specs.States.{State}
-use Rattle.oa_history.specs.Framed.{client_of}
+use Rattle.oa_mux.specs.promise.Marks.{Flush, Of, Tagged}
+use Rattle.oa_mux.specs.promise.Readers.{Body, Brought, Ends}
+use Rattle.oa_mux.specs.promise.Talking.{AllTurned}
+use Rattle.oa_decision.specs.promise.States.{State}
+use Rattle.oa_history.specs.promise.Framed.{client_of}
 use Rattle.oa_linearizable.specs.Clients.{input_of, result_of}
-use Rattle.oa_linearizable.specs.Histories.{IsLegal, Operation}
+use Rattle.oa_linearizable.specs.promise.Histories.{IsLegal, Operation}
 use Rattle.oa_linearizable.specs.Sessions.{EachRunInMemoryIsLinearizable}
-use Rattle.oa_linearizable.specs.Tables.{inputs_in, result_for, the_table}
+use Rattle.oa_linearizable.specs.promise.Tables.{inputs_in, result_for, the_table}
 use Rattle.oa_linearizable.proofs.EachClient.{client_served}
 use Rattle.oa_linearizable.proofs.Orders.{linearized}
 

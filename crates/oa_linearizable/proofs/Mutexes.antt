@@ -13,21 +13,23 @@ use Rattle.std.specs.declared.cmp.Ordering.TheVariants.{Less, Equal, Greater}
 use Rattle.oa_array.specs.declared.fault.ArrayFault.{ArrayFault}
 use Rattle.oa_array.specs.declared.fault.ArrayFault.TheVariants as arrays
 use Rattle.oa_turn.proofs.Counted.{count_first, itself, same_cells, same_locks_at}
-use Rattle.oa_turn.specs.ClientLocks.{ClientLock, cell_cmp, is_cell, is_lock_of, lock_cmp, of_others, owns, with_more, with_one, without_first}
+use Rattle.oa_turn.specs.promise.ClientLocks.{ClientLock, cell_cmp, is_cell, is_lock_of, lock_cmp, of_others, owns}
+use Rattle.oa_turn.specs.promise.ClientLocks.{with_more, with_one, without_first}
 use Rattle.oa_turn.specs.Counts.{count_in, locked_name}
-use Rattle.oa_record.specs.Asks.{Asks, IsStub, tag_at}
-use Rattle.oa_record.specs.Replacement.{is_replacement}
-use Rattle.oa_record.specs.Replies.{ReplyValue, number_field, word}
+use Rattle.oa_record.specs.promise.Asks.{Asks, IsStub, tag_at}
+use Rattle.oa_record.specs.promise.Replacement.{is_replacement}
+use Rattle.oa_record.specs.promise.Replies.{ReplyValue, number_field, word}
 use Rattle.oa_record.specs.declared.request.Request.{Request}
 use Rattle.oa_record.specs.declared.request.Request.TheVariants as requests
 use Rattle.oa_record.specs.declared.opcode.ByCall.TheVariants as by_call
 use Rattle.oa_server.specs.Ledgers.{ClientsKeepLedger, HasLedger}
-use Rattle.oa_server.specs.Sharing.{ClientReply, HasOwners, Replies, Shared, SharedTurnOf, TakesTurn, TurnsFor, relocked_by}
-use Rattle.oa_mux.specs.Readers.{Body, Brought, Ends}
-use Rattle.oa_table.specs.Elements.{locks_in}
+use Rattle.oa_server.specs.promise.SharedMachine.{ClientReply, HasOwners, Replies, Shared, SharedTurnOf, TakesTurn}
+use Rattle.oa_server.specs.promise.SharedMachine.{TurnsFor, relocked_by}
+use Rattle.oa_mux.specs.promise.Readers.{Body, Brought, Ends}
+use Rattle.oa_table.specs.promise.Elements.{locks_in}
 use Rattle.oa_table.specs.Locks.{locks_at}
-use Rattle.oa_table.specs.Places.{place_cmp}
-use Rattle.oa_table.specs.Tables.{TableValue}
+use Rattle.oa_table.specs.promise.Places.{place_cmp}
+use Rattle.oa_table.specs.promise.Tables.{TableValue}
 use Rattle.oa_table.specs.declared.fault.TableFault.{TableFault}
 use Rattle.oa_table.specs.declared.fault.TableFault.TheVariants as faults
 use Rattle.oa_table.specs.declared.name.CellName.{CellName}
@@ -36,26 +38,26 @@ use Rattle.oa_variant.specs.declared.variant.Variant.TheVariants.{One, Array as 
 use Rattle.oa_model.specs.declared.var_type.ValueType.{ValueType}
 use Rattle.oa_model.specs.declared.var_type.ValueType.TheVariants as kinds
 use Rattle.oa_typelib.specs.declared.access.Access.TheVariants.{Get}
-use Rattle.oa_decision.specs.ArrayCells.{array_locks, locks_found, put_in}
-use Rattle.oa_decision.specs.Cells.{cell_called}
-use Rattle.oa_decision.specs.Decided.{decided}
-use Rattle.oa_decision.specs.Lock.{adding}
-use Rattle.oa_decision.specs.Refusals.{◌>>=◌}
-use Rattle.oa_decision.specs.States.{State}
-use Rattle.oa_decision.specs.Unlock.{unlock_decision}
+use Rattle.oa_decision.specs.promise.ArrayCells.{array_locks, locks_found, put_in}
+use Rattle.oa_decision.specs.promise.Cells.{cell_called}
+use Rattle.oa_decision.specs.promise.Decided.{decided}
+use Rattle.oa_decision.specs.promise.Lock.{adding}
+use Rattle.oa_decision.specs.promise.Refusals.{◌>>=◌}
+use Rattle.oa_decision.specs.promise.States.{State}
+use Rattle.oa_decision.specs.promise.Unlock.{unlock_decision}
 use Rattle.oa_decision.specs.declared.decider.cell.BoundCell.{BoundCell}
 use Rattle.oa_decision.specs.declared.decision.Decision.{Decision}
 use Rattle.oa_decision.specs.declared.decision.Decision.TheVariants.{Answer, Change, Relock}
 use Rattle.oa_decision.specs.declared.decision.LockChange.{LockChange}
 use Rattle.oa_decision.specs.declared.decision.LockChange.TheVariants.{Lock, Unlock}
 use Rattle.oa_decision.specs.declared.refusal.Refusal.{Refusal}
-use Rattle.oa_turn.specs.Events.{is_done}
-use Rattle.oa_turn.specs.Locking.{AsksLock, changes_lock, lock_asked_by, lock_decided}
-use Rattle.oa_turn.specs.Steps.{outcome_of, relocked, relocking, reply_with}
-use Rattle.oa_turn.specs.Turns.{Ordinary, Steps, Turn}
-use Rattle.oa_linearizable.specs.Histories.{IsLegal, Operation}
+use Rattle.oa_turn.specs.promise.Events.{is_done}
+use Rattle.oa_turn.specs.promise.Locking.{AsksLock, changes_lock, lock_asked_by, lock_decided}
+use Rattle.oa_turn.specs.promise.Steps.{outcome_of, relocked, relocking, reply_with}
+use Rattle.oa_turn.specs.promise.Turns.{Ordinary, Steps, Turn}
+use Rattle.oa_linearizable.specs.promise.Histories.{IsLegal, Operation}
 use Rattle.oa_linearizable.specs.Mutexes.{ChangesLock, GivesBack, KeepsLock, LockIsAMutex}
-use Rattle.oa_linearizable.specs.Tables.{FailsFor, the_table}
+use Rattle.oa_linearizable.specs.promise.Tables.{FailsFor, the_table}
 
 -- ---- one of a list passes
 or_same : (b c d : Bool) → (b || c) ≡ true → (c ≡ true → d ≡ true) → (b || d) ≡ true

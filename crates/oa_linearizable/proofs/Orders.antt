@@ -1,7 +1,9 @@
 -- An order linearizes a history.
 use Rattle.std.proofs.Common.{◌≡◌, ◌==◌, ℕ, ◌<◌, ◌≤◌, Bool, true, false, if◌then◌else◌, List, [], ◌∷◌, ◌++◌, length, map, suc, refl, sym, ◌∙◌, ap, subst, arith, append_assoc, length-append}
 use Rattle.oa_linearizable.specs.Clients.{input_of, result_of}
-use Rattle.oa_linearizable.specs.Histories.{ComesInOrder, Invocation, Response, History, IsFirstPart, IsLinearizedBy, Operation, Precedes, invoked, of_client, responded, sequential}
+use Rattle.oa_linearizable.specs.promise.Histories.{ComesInOrder, Invocation, Response, History, IsFirstPart}
+use Rattle.oa_linearizable.specs.promise.Histories.{IsLinearizedBy, Operation, Precedes, invoked, of_client, responded}
+use Rattle.oa_linearizable.specs.promise.Histories.{sequential}
 
 -- ---- lists
 

@@ -1,19 +1,19 @@
 -- Requests and replies as operations of the table.
 use Rattle.std.proofs.Common.{◌≡◌, inl, inr, ℕ, Bool, true, List, [], ◌∷◌, ◌++◌, map, refl, sym, ap, ◌∙◌, subst, append_assoc}
 use Rattle.oa_frame.specs.declared.ends.End.TheVariants.{Closed, Cut, TooLong, BadHex, ReadFault, WriteFault}
-use Rattle.oa_group_commit.specs.Runs.{Trace}
-use Rattle.oa_group_commit.specs.StateMachines.{Exchange, body_of, reply_of}
-use Rattle.oa_record.specs.Replies.{ReplyValue}
-use Rattle.oa_server.specs.SharedGroups.{all_frames, frames_of}
-use Rattle.oa_server.specs.ServerMachine as one_client
-use Rattle.oa_server.specs.SharedMachine.{shared_machine}
-use Rattle.oa_server.specs.Sharing.{ClientReply, IsSharedTurn, Shared, SharedTurnOf, brought_by, client_in, failed_client_reply, fault_client_reply, told_by, tagged_body}
-use Rattle.oa_mux.specs.Marks.{Flush, Of, Tagged}
-use Rattle.oa_mux.specs.Readers.{Body, Brought, Ends}
-use Rattle.oa_history.specs.Framed.{client_of, requests_in}
+use Rattle.oa_group_commit.specs.promise.Groups.{Trace, Exchange, body_of, reply_of}
+use Rattle.oa_record.specs.promise.Replies.{ReplyValue}
+use Rattle.oa_server.specs.promise.SharedSessions.{all_frames, frames_of}
+use Rattle.oa_server.specs.promise.ServerMachine as one_client
+use Rattle.oa_server.specs.promise.SharedMachine.{shared_machine, ClientReply, IsSharedTurn, Shared, SharedTurnOf}
+use Rattle.oa_server.specs.promise.SharedMachine.{brought_by, client_in, failed_client_reply, fault_client_reply}
+use Rattle.oa_server.specs.promise.SharedMachine.{told_by, tagged_body}
+use Rattle.oa_mux.specs.promise.Marks.{Flush, Of, Tagged}
+use Rattle.oa_mux.specs.promise.Readers.{Body, Brought, Ends}
+use Rattle.oa_history.specs.promise.Framed.{client_of, requests_in}
 use Rattle.oa_linearizable.specs.Clients.{input_of, result_of}
-use Rattle.oa_linearizable.specs.Histories.{IsLegal, Operation}
-use Rattle.oa_linearizable.specs.Tables.{inputs_in, result_for, the_table}
+use Rattle.oa_linearizable.specs.promise.Histories.{IsLegal, Operation}
+use Rattle.oa_linearizable.specs.promise.Tables.{inputs_in, result_for, the_table}
 
 -- ---- requests
 

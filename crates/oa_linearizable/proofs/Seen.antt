@@ -1,10 +1,10 @@
 -- What clients see of a linearizable history is linearizable, by the same order.
 use Rattle.std.proofs.Common.{Bool, List, [], ◌∷◌, ◌++◌, ap, ◌∙◌, append_assoc}
-use Rattle.oa_server.specs.SharedMachine.{opened_shared}
-use Rattle.oa_server.specs.Sharing.{ClientReply, Shared}
-use Rattle.oa_mux.specs.Readers.{Brought}
-use Rattle.oa_linearizable.specs.Histories.{AreSeenAs, History, IsDurablyLinearizable, IsFirstPart, IsLinearizedBy, IsSeenAs, Operation}
-use Rattle.oa_linearizable.specs.Tables.{the_table}
+use Rattle.oa_server.specs.promise.SharedMachine.{opened_shared, ClientReply, Shared}
+use Rattle.oa_mux.specs.promise.Readers.{Brought}
+use Rattle.oa_linearizable.specs.promise.Histories.{AreSeenAs, History, IsDurablyLinearizable, IsFirstPart}
+use Rattle.oa_linearizable.specs.promise.Histories.{IsLinearizedBy, IsSeenAs, Operation}
+use Rattle.oa_linearizable.specs.promise.Tables.{the_table}
 
 first_of : {X : Type 0} (xs ys zs : List X) → IsFirstPart xs ys → IsFirstPart ys zs → IsFirstPart xs zs
 first_of {X = X} xs ys zs one two = (one.0 ++ two.0, two.1 ∙ ap (λ (l : List X). l ++ two.0) one.1 ∙ append_assoc xs one.0 two.0)

@@ -1,15 +1,15 @@
 -- Sessions over a store, cut behind any of their turns.
 use Rattle.std.proofs.Common.{◌≡◌, ℕ, List, [], ◌∷◌, ◌++◌, refl, ap, ◌∙◌, subst}
 use Rattle.oa_disk.specs.declared.disk.Disk.{Ghosts}
-use Rattle.oa_turn.specs.ClientLocks.{ClientLock}
-use Rattle.oa_server.specs.SharedTalks.{asked_written}
-use Rattle.oa_server.specs.Sharing.{shared}
-use Rattle.oa_mux.specs.Answering.{SharedTurn}
-use Rattle.oa_mux.specs.Marks.{Tagged}
-use Rattle.oa_mux.specs.Readers.{Brought}
-use Rattle.oa_mux.specs.Talking.{AllTurned}
-use Rattle.oa_decision.specs.States.{State}
-use Rattle.oa_history.specs.Framed.{turns_told}
+use Rattle.oa_turn.specs.promise.ClientLocks.{ClientLock}
+use Rattle.oa_server.specs.promise.SharedSessions.{asked_written}
+use Rattle.oa_server.specs.promise.SharedMachine.{shared}
+use Rattle.oa_mux.specs.promise.Answering.{SharedTurn}
+use Rattle.oa_mux.specs.promise.Marks.{Tagged}
+use Rattle.oa_mux.specs.promise.Readers.{Brought}
+use Rattle.oa_mux.specs.promise.Talking.{AllTurned}
+use Rattle.oa_decision.specs.promise.States.{State}
+use Rattle.oa_history.specs.promise.Framed.{turns_told}
 use Rattle.oa_history.proofs.Framed.{turns_made}
 use Rattle.oa_linearizable.specs.Sessions.{SessionsRunUntilCrash}
 

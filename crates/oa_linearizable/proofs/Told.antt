@@ -4,16 +4,12 @@ use Rattle.std.proofs.lemmas.List.{append-nil, map-append}
 use Rattle.oa_disk.specs.declared.disk.Disk.{Ghosts}
 use Rattle.oa_group_commit.proofs.Calling.{session_called}
 use Rattle.oa_group_commit.proofs.Entries.{either, joined_two, run_append}
-use Rattle.oa_group_commit.specs.Groups.{concat_groups}
-use Rattle.oa_group_commit.specs.Runs.{Trace}
-use Rattle.oa_group_commit.specs.Served.{IsServed}
-use Rattle.oa_group_commit.specs.Sessions.{AnsweredCall, IsSessionOn, OpenSession}
-use Rattle.oa_group_commit.specs.StateMachines.{Exchange, body_of, reply_of}
+use Rattle.oa_group_commit.specs.promise.Groups.{concat_groups, Trace, IsServed, AnsweredCall, IsSessionOn, OpenSession}
+use Rattle.oa_group_commit.specs.promise.Groups.{Exchange, body_of, reply_of}
 use Rattle.oa_store.specs.declared.store.Store.{Store}
-use Rattle.oa_server.specs.SharedMachine.{shared_machine}
-use Rattle.oa_server.specs.Sharing.{ClientReply, Shared, failed_client_reply}
-use Rattle.oa_server.specs.Stretches.{ServesStretch}
-use Rattle.oa_history.specs.Kept.{SessionStart}
+use Rattle.oa_server.specs.promise.SharedMachine.{shared_machine, ClientReply, Shared, failed_client_reply}
+use Rattle.oa_server.specs.promise.SharedMachine.{ServesStretch}
+use Rattle.oa_history.specs.promise.CrashHistories.{SessionStart}
 use Rattle.oa_linearizable.proofs.Parts.{faulted_for}
 
 abbrev pub Groups : Type 0

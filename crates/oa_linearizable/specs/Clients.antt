@@ -1,11 +1,12 @@
 -- What one of many clients receives, and which frames it does. (This project's choice.)
 use Rattle.std.specs.Prelude.{◌≡◌, ◌<◌, ◌^◌, ℕ, List, [], ◌∷◌, ◌++◌, length, map}
-use Rattle.oa_server.specs.SharedGroups.{frames_of}
-use Rattle.oa_server.specs.Sharing.{ClientReply}
-use Rattle.oa_mux.specs.Marks.{Tagged, own}
-use Rattle.oa_mux.specs.Outgoing.{framed_reply, spelled_frames}
-use Rattle.oa_mux.specs.Readers.{Brought}
-use Rattle.oa_linearizable.specs.Histories.{IsFirstPart, Operation, of_client}
+use Rattle.oa_server.specs.promise.SharedSessions.{frames_of}
+use Rattle.oa_server.specs.promise.SharedMachine.{ClientReply}
+use Rattle.oa_mux.specs.promise.Marks.{Tagged}
+use Rattle.oa_mux.specs.Marks.{own}
+use Rattle.oa_mux.specs.promise.Outgoing.{framed_reply, spelled_frames}
+use Rattle.oa_mux.specs.promise.Readers.{Brought}
+use Rattle.oa_linearizable.specs.promise.Histories.{IsFirstPart, Operation, of_client}
 
 -- the client and the input of an operation, and its client and its result
 abbrev pub input_of : {I R : Type 0} → Operation I R → ℕ × I

@@ -1,29 +1,25 @@
 -- Sessions of a server of many clients: in memory, and over a store up to a crash. (This project's choice.)
 use Rattle.std.specs.Prelude.{◌≡◌, ◌≤◌, ℕ, Bool, false, List, [], ◌++◌, length, map}
 use Rattle.oa_disk.specs.declared.disk.Disk.{Ghosts}
-use Rattle.oa_group_commit.specs.History.{MayBeLeft}
+use Rattle.oa_group_commit.specs.promise.Groups.{MayBeLeft}
 use Rattle.oa_store.specs.declared.store.Store.{Store}
-use Rattle.oa_stream.specs.Sink.{Output}
-use Rattle.oa_stream.specs.Source.{Input}
-use Rattle.oa_server.specs.SharedGroups.{all_frames}
-use Rattle.oa_server.specs.SharedMachine.{shared_machine}
-use Rattle.oa_server.specs.SharedSessions.{IsSharedSession}
-use Rattle.oa_server.specs.SharedTalks.{asked_written}
-use Rattle.oa_server.specs.Sharing.{ClientReply, Shared, shared}
-use Rattle.oa_server.specs.Storages.{OverStore, disk_of}
-use Rattle.oa_server.specs.Stretches.{all_told}
+use Rattle.oa_stream.specs.promise.Sink.{Output}
+use Rattle.oa_stream.specs.promise.Source.{Input}
+use Rattle.oa_server.specs.promise.SharedSessions.{all_frames, IsSharedSession, asked_written}
+use Rattle.oa_server.specs.promise.SharedMachine.{shared_machine, ClientReply, Shared, shared, all_told}
+use Rattle.oa_server.specs.promise.Storages.{OverStore, disk_of}
 use Rattle.oa_server.specs.declared.engine.ServerState.{ServerState}
 use Rattle.oa_server.specs.declared.storage.Storage.TheVariants.{Disk, Memory}
-use Rattle.oa_mux.specs.Marks.{Tagged}
-use Rattle.oa_mux.specs.Readers.{Brought}
-use Rattle.oa_mux.specs.Talking.{AllTurned}
+use Rattle.oa_mux.specs.promise.Marks.{Tagged}
+use Rattle.oa_mux.specs.promise.Readers.{Brought}
+use Rattle.oa_mux.specs.promise.Talking.{AllTurned}
 use Rattle.oa_mux.specs.declared.session_end.SessionEnd.{SessionEnd}
-use Rattle.oa_history.specs.Framed.{turns_asked, turns_told}
-use Rattle.oa_history.specs.Kept.{SessionStart}
+use Rattle.oa_history.specs.promise.Framed.{turns_asked, turns_told}
+use Rattle.oa_history.specs.promise.CrashHistories.{SessionStart}
 use Rattle.oa_linearizable.specs.Clients.{ClientIsServed}
-use Rattle.oa_linearizable.specs.Crashes.{Era, RunsUntilCrash}
-use Rattle.oa_linearizable.specs.Histories.{ComesInOrder, History, IsLegal, IsLinearizedBy, Operation}
-use Rattle.oa_linearizable.specs.Tables.{inputs_in, result_for, the_table}
+use Rattle.oa_linearizable.specs.promise.Crashes.{Era, RunsUntilCrash}
+use Rattle.oa_linearizable.specs.promise.Histories.{ComesInOrder, History, IsLegal, IsLinearizedBy, Operation}
+use Rattle.oa_linearizable.specs.promise.Tables.{inputs_in, result_for, the_table}
 
 -- ---- in memory
 

@@ -1,11 +1,12 @@
 //! Theorems about sessions of many clients, in terms of linearizability. Each is the contract of a
 //! function with an empty body.
 ghost use Rattle.oa_linearizable.specs.Clients.{FramesOutAreFrames};
-ghost use Rattle.oa_linearizable.specs.Crashes.{EachEraIsLinearizable, ServersAreDurable};
+ghost use Rattle.oa_linearizable.specs.Crashes.{EachEraIsLinearizable};
+ghost use Rattle.oa_linearizable.specs.promise.Crashes.{ServersAreDurable};
 ghost use Rattle.oa_linearizable.specs.Mutexes.{LockIsAMutex};
 ghost use Rattle.oa_linearizable.specs.Sessions.{EachIsServedInMemory, EachIsServedOverStore, EachRunInMemoryIsLinearizable, SessionsRunUntilCrash};
 ghost use Rattle.oa_linearizable.specs.Syncs.{OneSyncIsTooFew};
-ghost use Rattle.oa_linearizable.specs.Tables.{SeenHistoriesAreLinearizable};
+ghost use Rattle.oa_linearizable.specs.promise.Tables.{SeenHistoriesAreLinearizable};
 
 use oa_disk::Disk;
 use oa_record::laws::{a_replacement_is_no_request, one_request, refused_asks_nothing};

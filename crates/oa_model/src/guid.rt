@@ -1,6 +1,6 @@
 //! GUIDs on the wire.
 ghost use Rattle.std.specs.Prelude.{◌≡◌, length};
-ghost use Rattle.oa_model.specs.Guids.{wire_order};
+ghost use Rattle.oa_model.specs.promise.Guids.{wire_order};
 
 use uuid::Uuid;
 

@@ -1,6 +1,6 @@
 //! The integer types.
 ghost use Rattle.std.specs.Prelude.{◌≡◌};
-ghost use Rattle.oa_model.specs.Integers.{is_integer_type, is_signed_integer};
+ghost use Rattle.oa_model.specs.promise.Integers.{is_integer_type, is_signed_integer};
 
 use crate::VarType;
 

@@ -1,6 +1,7 @@
 //! The types of values.
 ghost use Rattle.std.specs.Prelude.{◌≡◌};
-ghost use Rattle.oa_model.specs.Types.{vt_of, type_at, vt_of_value, sf_type_of, element_size_of, is_signed_type};
+ghost use Rattle.oa_model.specs.promise.Types.{vt_of, type_at, vt_of_value, sf_type_of, element_size_of};
+ghost use Rattle.oa_model.specs.promise.Types.{is_signed_type};
 
 use crate::invoke::VT_ARRAY;
 

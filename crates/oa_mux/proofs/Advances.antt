@@ -3,8 +3,9 @@ use Rattle.std.proofs.Common.{◌≡◌, ◌<◌, ℕ, Bool, true, false, List, 
 use Rattle.std.proofs.lemmas.List.{length-take-le, take_all}
 use Rattle.oa_frame.specs.declared.ends.End.{End}
 use Rattle.oa_frame.specs.declared.ends.End.TheVariants.{Closed, Cut}
-use Rattle.oa_mux.specs.Marks.{Last}
-use Rattle.oa_mux.specs.Readers.{Body, ClientBrings, Ends, Held, IsEnd, IsPartRecord, IsWholeRecord, Over, ClientState, kept, records_of}
+use Rattle.oa_mux.specs.promise.Marks.{Last}
+use Rattle.oa_mux.specs.promise.Readers.{Body, Ends, Held, Over, ClientState, records_of}
+use Rattle.oa_mux.specs.Readers.{ClientBrings, IsEnd, IsPartRecord, IsWholeRecord, kept}
 use Rattle.oa_mux.specs.Steps.{FindsEnd, IsWholeBehind}
 use Rattle.oa_mux.specs.declared.found.Found.TheVariants as found
 use Rattle.oa_mux.proofs.Records.{brings_end, brings_over, brings_part, brings_whole}

@@ -3,9 +3,10 @@ use Rattle.std.proofs.Common.{◌≡◌, ◌⊎◌, ◌≤◌, ◌<◌, ℕ, ◌
 use Rattle.std.proofs.lemmas.Bool.{cases_lt}
 use Rattle.std.proofs.lemmas.List.{append_assoc, length-append, length-take-le, take-append-le, take-append-drop}
 use Rattle.std.specs.Int.{w32, from_le_bytes}
-use Rattle.oa_model.specs.Limits.{max_request_bytes}
+use Rattle.oa_model.specs.promise.Limits.{max_request_bytes}
 use Rattle.oa_frame.specs.declared.ends.End.TheVariants.{Closed}
-use Rattle.oa_mux.specs.Readers.{IsPartRecord, said}
+use Rattle.oa_mux.specs.Readers.{IsPartRecord}
+use Rattle.oa_mux.specs.promise.Readers.{said}
 use Rattle.oa_mux.specs.Steps.{FindsEnd}
 use Rattle.oa_mux.specs.declared.found.Found.TheVariants as found
 

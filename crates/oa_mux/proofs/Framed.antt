@@ -4,8 +4,10 @@ use Rattle.std.specs.Prelude.{nat_lt, ◌==◌}
 use Rattle.std.specs.Int.{w32, from_le_bytes, to_le_bytes}
 use Rattle.std.proofs.lemmas.List.{append_assoc, length-append, take_at, drop_at}
 use Rattle.std.proofs.lemmas.Nat.{from_le_bytes-to_le_bytes_4}
-use Rattle.oa_mux.specs.Marks.{StreamPiece, Byte, Last, Tagged, Of, Flush, tag_all, pieces}
-use Rattle.oa_mux.specs.Frames.{InHead, FramePlace, Within, all_clients, begun, frame_of, framed, frame_head, frame_head_of, headed, heading, pieces_in, max_frame_bytes, place_within}
+use Rattle.oa_mux.specs.promise.Marks.{StreamPiece, Byte, Last, Tagged, Of, Flush, tag_all}
+use Rattle.oa_mux.specs.Marks.{pieces}
+use Rattle.oa_mux.specs.promise.Frames.{InHead, FramePlace, Within, all_clients, begun, frame_of, framed, frame_head}
+use Rattle.oa_mux.specs.promise.Frames.{frame_head_of, headed, heading, pieces_in, max_frame_bytes, place_within}
 use Rattle.oa_mux.specs.declared.frame.FrameHead.TheVariants as head
 
 -- a byte, and those behind it

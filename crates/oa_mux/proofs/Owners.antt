@@ -1,8 +1,10 @@
 -- What each client brings, among all.
 use Rattle.std.proofs.Common.{◌≡◌, ℕ, Bool, true, false, if◌then◌else◌, List, [], ◌∷◌, ◌++◌, refl, sym, ap, ◌∙◌, eqb}
 use Rattle.std.proofs.lemmas.Bool.{eqb-true, eq-eqb}
-use Rattle.oa_mux.specs.Marks.{StreamPiece, Tagged, Of, Flush, States, if_own, tag_all, own, with_state_at}
-use Rattle.oa_mux.specs.Readers.{Reads, asked_in, brought_in}
+use Rattle.oa_mux.specs.promise.Marks.{StreamPiece, Tagged, Of, Flush, States, tag_all, with_state_at}
+use Rattle.oa_mux.specs.Marks.{if_own, own}
+use Rattle.oa_mux.specs.promise.Readers.{Reads, asked_in}
+use Rattle.oa_mux.specs.Readers.{brought_in}
 
 own_named_same : {X : Type 0} (c d : ℕ) (xs : List X) → eqb d c ≡ true → own c (tag_all d xs) ≡ xs
 unfolding own tag_all

@@ -2,9 +2,9 @@
 use Rattle.std.proofs.Common.{◌≡◌, ◌<◌, ◌+◌, ℕ, append_assoc, List, [], ◌∷◌, ◌++◌, length, refl, sym, ap, ◌∙◌, arith}
 use Rattle.std.proofs.lemmas.List.{length-append}
 use Rattle.std.specs.Int.{w32, to_le_bytes}
-use Rattle.oa_frame.specs.Framings.{records}
-use Rattle.oa_mux.specs.Frames.{frame_head}
-use Rattle.oa_mux.specs.Outgoing.{framed_reply, spelled_frame}
+use Rattle.oa_frame.specs.promise.Framings.{records}
+use Rattle.oa_mux.specs.promise.Frames.{frame_head}
+use Rattle.oa_mux.specs.promise.Outgoing.{framed_reply, spelled_frame}
 
 module _ (client count : ℕ) (head fields : List ℕ) (some : 0 < length head) (is : count ≡ 4 + length head + length fields) where
   long : length (records.spelled (head ++ fields)) ≡ count

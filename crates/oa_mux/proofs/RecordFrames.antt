@@ -5,11 +5,13 @@ use Rattle.std.specs.Int.{w32, from_le_bytes}
 use Rattle.std.proofs.Math.Seq.{take-add}
 use Rattle.std.proofs.lemmas.Bool.{cases_lt}
 use Rattle.std.proofs.lemmas.List.{drop-drop, drop-take, length-drop, length-take-le}
-use Rattle.oa_mux.specs.Marks.{Of, tag_all}
-use Rattle.oa_mux.specs.Readers.{Body, Held, ClientBrings, ClientState, IsWholeRecord, said}
-use Rattle.oa_mux.specs.Frames.{InHead, Within, all_clients, frame_head_of, max_frame_bytes}
-use Rattle.oa_mux.specs.Shared.{Begins, BringsRecord, Demultiplexes, IsRecordFrame, SharedState, StopsAtUnknown, frame_place, reads_nothing}
-use Rattle.oa_mux.specs.Steps.{client_state}
+use Rattle.oa_mux.specs.promise.Marks.{Of, tag_all}
+use Rattle.oa_mux.specs.promise.Readers.{Body, Held, ClientState, said}
+use Rattle.oa_mux.specs.Readers.{ClientBrings, IsWholeRecord}
+use Rattle.oa_mux.specs.promise.Frames.{InHead, Within, all_clients, frame_head_of, max_frame_bytes}
+use Rattle.oa_mux.specs.Shared.{Begins, BringsRecord, IsRecordFrame, frame_place}
+use Rattle.oa_mux.specs.promise.Shared.{Demultiplexes, SharedState, StopsAtUnknown, reads_nothing}
+use Rattle.oa_mux.specs.promise.Steps.{client_state}
 use Rattle.oa_mux.specs.declared.frame.FrameHead.{FrameHead}
 use Rattle.oa_mux.specs.declared.frame.FrameHead.TheVariants as head
 use Rattle.oa_mux.proofs.Advances.{whole_at}

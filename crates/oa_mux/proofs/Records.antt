@@ -4,11 +4,14 @@ use Rattle.std.specs.Prelude.{nat_lt, ◌==◌}
 use Rattle.std.proofs.lemmas.Bool.{cases_lt, eq-eqb}
 use Rattle.std.proofs.lemmas.List.{append-nil, append_assoc, length-append, take-append-le}
 use Rattle.std.specs.Int.{w32, from_le_bytes}
-use Rattle.oa_model.specs.Limits.{max_request_bytes}
+use Rattle.oa_model.specs.promise.Limits.{max_request_bytes}
 use Rattle.oa_frame.specs.declared.ends.End.{End}
 use Rattle.oa_frame.specs.declared.ends.End.TheVariants.{Closed, Cut, TooLong, BadHex, ReadFault, WriteFault}
-use Rattle.oa_mux.specs.Marks.{StreamPiece, Byte, pieces}
-use Rattle.oa_mux.specs.Readers.{Body, ClientBrings, Brought, Ends, Held, IsEnd, IsPartRecord, IsWholeRecord, Over, ClientState, Reads, after_pieces, brought_in, record_of, recorded, records_of, said}
+use Rattle.oa_mux.specs.promise.Marks.{StreamPiece, Byte}
+use Rattle.oa_mux.specs.Marks.{pieces}
+use Rattle.oa_mux.specs.promise.Readers.{Body, Brought, Ends, Held, Over, ClientState, Reads, record_of, recorded}
+use Rattle.oa_mux.specs.promise.Readers.{records_of, said}
+use Rattle.oa_mux.specs.Readers.{ClientBrings, IsEnd, IsPartRecord, IsWholeRecord, after_pieces, brought_in}
 
 -- ---- what the bytes of a record bring
 few : (bytes : List ℕ) → length bytes < 4 → recorded bytes ≡ ([], Some (Held bytes))

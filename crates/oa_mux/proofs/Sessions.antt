@@ -4,14 +4,16 @@ use Rattle.std.proofs.Common.{map}
 use Rattle.std.proofs.lemmas.Bool.{cases_lt}
 use Rattle.std.proofs.lemmas.List.{append-nil, append_assoc, length-append, length-drop, length-take-le, take_at, drop_at, take-append-drop}
 use Rattle.std.specs.Int.{w32, from_le_bytes}
-use Rattle.oa_model.specs.Limits.{max_request_bytes}
+use Rattle.oa_model.specs.promise.Limits.{max_request_bytes}
 use Rattle.oa_frame.specs.declared.ends.End.{End}
 use Rattle.oa_frame.specs.declared.ends.End.TheVariants.{Closed, Cut, TooLong, BadHex, ReadFault, WriteFault}
-use Rattle.oa_frame.specs.Framings.{Length, NextRecord, RecordStop, SaysLength, records}
-use Rattle.oa_frame.specs.Sessions.{Bodies, ReadTo}
-use Rattle.oa_frame.specs.Sessions.Halt.{At}
-use Rattle.oa_mux.specs.Marks.{Last, pieces}
-use Rattle.oa_mux.specs.Readers.{Body, ClientBrings, Brought, Ends, Held, IsEnd, IsPartRecord, IsWholeRecord, Over, ClientState, after_pieces, brought_in, ended, records_of, said}
+use Rattle.oa_frame.specs.promise.Framings.{Length, NextRecord, RecordStop, SaysLength, records}
+use Rattle.oa_frame.specs.promise.Sessions.{Bodies, ReadTo}
+use Rattle.oa_frame.specs.promise.Sessions.Halt.{At}
+use Rattle.oa_mux.specs.promise.Marks.{Last}
+use Rattle.oa_mux.specs.Marks.{pieces}
+use Rattle.oa_mux.specs.promise.Readers.{Body, Brought, Ends, Held, Over, ClientState, ended, records_of, said}
+use Rattle.oa_mux.specs.Readers.{ClientBrings, IsEnd, IsPartRecord, IsWholeRecord, after_pieces, brought_in}
 use Rattle.oa_mux.proofs.Records.{brings_end, brings_over, brings_part, brings_whole, brought_append, pieces_append}
 
 -- what these bytes bring, and the end of the stream

@@ -13,8 +13,10 @@ use Rattle.std.proofs.lemmas.Map.{lookup-remove_entry}
 use Rattle.std.proofs.lemmas.Map.Keys.{IsDistinct-from_sorted}
 use Rattle.oa_frame.specs.declared.ends.End.{End}
 use Rattle.oa_frame.specs.declared.ends.End.TheVariants.{Closed}
-use Rattle.oa_mux.specs.Readers.{ClientBrings, Brought, Held, ClientState, records_of}
-use Rattle.oa_mux.specs.Steps.{EndsWith, Takes, client_state}
+use Rattle.oa_mux.specs.Readers.{ClientBrings}
+use Rattle.oa_mux.specs.promise.Readers.{Brought, Held, ClientState, records_of}
+use Rattle.oa_mux.specs.Steps.{EndsWith, Takes}
+use Rattle.oa_mux.specs.promise.Steps.{client_state}
 use Rattle.oa_mux.specs.declared.step.ClientItem.{ClientItem}
 use Rattle.oa_mux.specs.declared.step.ClientItem.TheVariants as things
 use Rattle.oa_mux.proofs.Records.{from_none}

@@ -4,13 +4,20 @@ use Rattle.std.specs.Prelude.{nat_lt, if◌then◌else◌, ◌==◌}
 use Rattle.std.proofs.lemmas.Bool.{cases_lt, eq-eqb, eqb-true}
 use Rattle.std.proofs.lemmas.List.{append-nil, append_assoc, length-append, length-take-le, take_all}
 use Rattle.oa_frame.specs.declared.ends.End.{End}
-use Rattle.oa_mux.specs.Marks.{StreamPiece, Byte, Last, Tagged, Of, Flush, States, tag_all, pieces, with_state_at}
-use Rattle.oa_mux.specs.Readers.{ClientBrings, Brought, ClientState, Reads, asked_in, after_pieces, records_of}
-use Rattle.oa_mux.specs.Frames.{Broken, InHead, FramePlace, SaysSome, Within, begun, framed, frame_head_of, pieces_in, place_within}
-use Rattle.oa_mux.specs.Shared.{Demultiplexes, Begins, IsClients, IsHeads, SharedState, StopsAtUnknown, TellsUnknown, is_unknown, place_behind, frame_place, reads_nothing, states_behind}
+use Rattle.oa_mux.specs.promise.Marks.{StreamPiece, Byte, Last, Tagged, Of, Flush, States, tag_all, with_state_at}
+use Rattle.oa_mux.specs.Marks.{pieces}
+use Rattle.oa_mux.specs.Readers.{ClientBrings, after_pieces}
+use Rattle.oa_mux.specs.promise.Readers.{Brought, ClientState, Reads, asked_in, records_of}
+use Rattle.oa_mux.specs.promise.Frames.{Broken, InHead, FramePlace, Within, begun, framed, frame_head_of, pieces_in}
+use Rattle.oa_mux.specs.promise.Frames.{place_within}
+use Rattle.oa_mux.specs.Frames.{SaysSome}
+use Rattle.oa_mux.specs.promise.Shared.{Demultiplexes, IsClients, SharedState, StopsAtUnknown, place_behind}
+use Rattle.oa_mux.specs.promise.Shared.{reads_nothing, states_behind}
+use Rattle.oa_mux.specs.Shared.{Begins, IsHeads, TellsUnknown, is_unknown, frame_place}
 use Rattle.oa_mux.specs.declared.streams.DemuxItem.{DemuxItem}
 use Rattle.oa_mux.specs.declared.streams.DemuxItem.TheVariants as arrival
-use Rattle.oa_mux.specs.Steps.{EndsWith, OthersStay, Takes, brought, brought_last, client_state}
+use Rattle.oa_mux.specs.Steps.{EndsWith, OthersStay, Takes, brought, brought_last}
+use Rattle.oa_mux.specs.promise.Steps.{client_state}
 use Rattle.oa_mux.specs.declared.step.ClientItem.{ClientItem}
 use Rattle.oa_mux.specs.declared.step.ClientItem.TheVariants as things
 use Rattle.oa_mux.specs.declared.frame.FrameHead.{FrameHead}

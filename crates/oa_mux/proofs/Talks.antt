@@ -5,24 +5,29 @@ use Rattle.std.specs.Prelude.{if◌then◌else◌}
 use Rattle.std.proofs.lemmas.List.{append-nil, append_assoc, length-append, length-take-le}
 use Rattle.std.proofs.KnownBytes.{Consumes-kept, Consumes-nil, Consumes-trans}
 use Rattle.std.specs.Io.KnownBytes.{Consumes, IsAtEnd}
-use Rattle.oa_model.specs.Limits.{max_records}
-use Rattle.oa_stream.specs.Source.{Input, later}
+use Rattle.oa_model.specs.promise.Limits.{max_records}
+use Rattle.oa_stream.specs.promise.Source.{Input, later}
 use Rattle.oa_stream.specs.BufferedSource.{TakesAhead, Waits}
 use Rattle.oa_stream.specs.BufferedSource as ahead
 use Rattle.oa_stream.specs.declared.ahead.More.{More}
 use Rattle.oa_stream.specs.declared.ahead.More.TheVariants as more
 use Rattle.oa_frame.specs.declared.ends.End.{End}
-use Rattle.oa_stream.specs.Sink.{Output, Writes, IsHandedOn}
+use Rattle.oa_stream.specs.promise.Sink.{Output, Writes, IsHandedOn}
 use Rattle.oa_stream.specs.declared.sink.Unwritten.{Unwritten}
-use Rattle.oa_mux.specs.Answering.{SharedTurn}
-use Rattle.oa_mux.specs.Frames.{Broken, FramePlace, InHead, Within}
-use Rattle.oa_mux.specs.Marks.{Flush, Of, Tagged, tag_all}
+use Rattle.oa_mux.specs.promise.Answering.{SharedTurn}
+use Rattle.oa_mux.specs.promise.Frames.{Broken, FramePlace, InHead, Within}
+use Rattle.oa_mux.specs.promise.Marks.{Flush, Of, Tagged, tag_all}
 use Rattle.oa_mux.specs.Steps.{EndsLowest, EndsWith, brought_last}
-use Rattle.oa_mux.specs.Readers.{Body, Brought, ClientState, Ends}
-use Rattle.oa_mux.specs.Shared.{Demultiplexes, IsClients, Rises, SharedState, StopsAtUnknown, TakesSome, arrived, place_behind, reads_nothing}
+use Rattle.oa_mux.specs.promise.Readers.{Body, Brought, ClientState, Ends}
+use Rattle.oa_mux.specs.promise.Shared.{Demultiplexes, IsClients, Rises, SharedState, StopsAtUnknown, place_behind}
+use Rattle.oa_mux.specs.promise.Shared.{reads_nothing}
+use Rattle.oa_mux.specs.Shared.{TakesSome, arrived}
 use Rattle.oa_mux.specs.declared.streams.DemuxItem.{DemuxItem}
 use Rattle.oa_mux.specs.declared.streams.DemuxItem.TheVariants as things
-use Rattle.oa_mux.specs.Talking.{AllTurned, AnswersAsked, AnswersEnds, AnswersSingle, ClosesAll, EndsNext, FailsToTell, MovesOn, HasTold, IsEndOf, IsLastPart, IsUnwritten, LosesWriter, ServesClients, TalksOn, TellsAll, ends_at, ends_in, input_end, one_ahead, parted, parting}
+use Rattle.oa_mux.specs.promise.Talking.{AllTurned, FailsToTell, HasTold, IsEndOf, LosesWriter, ServesClients, TellsAll}
+use Rattle.oa_mux.specs.promise.Talking.{ends_at, ends_in, input_end, parted, parting}
+use Rattle.oa_mux.specs.Talking.{AnswersAsked, AnswersEnds, AnswersSingle, ClosesAll, EndsNext, MovesOn, IsLastPart}
+use Rattle.oa_mux.specs.Talking.{IsUnwritten, TalksOn, one_ahead}
 use Rattle.oa_frame.specs.declared.session.Loss.{Loss}
 use Rattle.oa_frame.specs.declared.session.Loss.TheVariants as loss
 use Rattle.oa_mux.specs.declared.session_end.SessionEnd.{SessionEnd}

@@ -2,14 +2,17 @@
 use Rattle.std.proofs.Common.{◌≡◌, ℕ, ◌+◌, ◌≤◌, false, List, [], ◌∷◌, ◌++◌, length, Result, Ok, Err, IsErr, refl, sym, ap, ◌∙◌, subst, arith}
 use Rattle.std.proofs.lemmas.Bool.{false≢true}
 use Rattle.std.proofs.lemmas.List.{append-nil, append_assoc, length-append}
-use Rattle.oa_stream.specs.Sink.{Output, Writes, Breaks, Delivers, IsHandedOn}
+use Rattle.oa_stream.specs.promise.Sink.{Output, Writes, Breaks, IsHandedOn}
+use Rattle.oa_stream.specs.Sink.{Delivers}
 use Rattle.oa_stream.specs.declared.sink.Unwritten.{Unwritten}
 use Rattle.oa_stream.proofs.Stretches.{lost_few, tear, writes_nothing, writes_then}
-use Rattle.oa_mux.specs.Answering.{AnswersClient, GivesUp, SharedTurn}
-use Rattle.oa_mux.specs.Marks.{Flush, Of, Tagged}
-use Rattle.oa_mux.specs.Outgoing.{spelled_frames, spelled_told}
-use Rattle.oa_mux.specs.Readers.{Brought}
-use Rattle.oa_mux.specs.Talking.{AllTurned, HasLeftAtNow, HasTold, LosesWriter, MakesNow, newest}
+use Rattle.oa_mux.specs.Answering.{AnswersClient, GivesUp}
+use Rattle.oa_mux.specs.promise.Answering.{SharedTurn}
+use Rattle.oa_mux.specs.promise.Marks.{Flush, Of, Tagged}
+use Rattle.oa_mux.specs.promise.Outgoing.{spelled_frames, spelled_told}
+use Rattle.oa_mux.specs.promise.Readers.{Brought}
+use Rattle.oa_mux.specs.promise.Talking.{AllTurned, HasLeftAtNow, HasTold, LosesWriter, newest}
+use Rattle.oa_mux.specs.Talking.{MakesNow}
 
 -- how much has left a writer
 gone_is : (o q : Output) (bytes : List ℕ) (w : Writes o q bytes) → length w.gone + length q.kept ≡ length o.kept + length bytes

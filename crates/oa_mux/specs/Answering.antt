@@ -1,15 +1,12 @@
--- Servers of many clients. (This project's choice.)
+-- Definitions for contracts and proofs, beside promise/Answering.
 use Rattle.std.specs.Prelude.{ℕ, List, Result}
-use Rattle.oa_stream.specs.Sink.{Output, Puts}
+use Rattle.oa_stream.specs.promise.Sink.{Output}
+use Rattle.oa_stream.specs.Sink.{Puts}
 use Rattle.oa_stream.specs.declared.sink.Unwritten.{Unwritten}
-use Rattle.oa_mux.specs.Marks.{Tagged, Flush}
-use Rattle.oa_mux.specs.Outgoing.{spelled_frames}
-use Rattle.oa_mux.specs.Readers.{Brought}
-
--- a turn: the state before, the request, what is sent then (any number of replies, to any clients),
--- the state after
-abbrev pub SharedTurn : Type 0 → Type 1
-SharedTurn S = S → Tagged Brought → List (ℕ × List ℕ) → S → Type 0
+use Rattle.oa_mux.specs.promise.Marks.{Tagged, Flush}
+use Rattle.oa_mux.specs.promise.Outgoing.{spelled_frames}
+use Rattle.oa_mux.specs.promise.Readers.{Brought}
+use Rattle.oa_mux.specs.promise.Answering.{SharedTurn}
 
 -- one turn was made, and what it sends was put, or the writer failed in it
 pub record AnswersClient {S : Type 0} (turn : SharedTurn S) (result : Result (Unit {0}) Unwritten)

@@ -3,6 +3,6 @@ pub mod Readers
 pub mod Frames
 pub mod Steps
 pub mod Shared
-pub mod Outgoing
 pub mod Answering
 pub mod Talking
+pub mod promise

@@ -1,18 +1,16 @@
--- What a step through a client's bytes finds, consumes and leaves. (This project's choice.)
+-- Definitions for contracts and proofs, beside promise/Steps.
 use Rattle.std.specs.Prelude.{◌≡◌, ◌<◌, ◌≤◌, ℕ, List, [], ◌∷◌, ◌++◌, length, take, drop, Option, Some, None}
-use Rattle.std.specs.Map.{lookup}
-use Rattle.std.specs.BTreeMap.{is_at}
-use Rattle.std.specs.Ordering.{nat_cmp}
 use Rattle.oa_frame.specs.declared.ends.End.{End}
-use Rattle.oa_mux.specs.Marks.{Last}
-use Rattle.oa_mux.specs.Readers.{Body, Brought, Ends, Held, IsEnd, IsPartRecord, IsWholeRecord, Over, ClientState}
-use Rattle.oa_mux.specs.Readers.{records_of}
+use Rattle.oa_mux.specs.promise.Marks.{Last}
+use Rattle.oa_mux.specs.promise.Readers.{Body, Brought, Ends, Held, Over, ClientState, records_of}
+use Rattle.oa_mux.specs.Readers.{IsEnd, IsPartRecord, IsWholeRecord}
 use Rattle.oa_mux.specs.declared.found.Found.{Found}
 use Rattle.oa_mux.specs.declared.found.Found.TheVariants as found
 use Rattle.oa_mux.specs.declared.step.WholeRecord.{WholeRecord}
 use Rattle.oa_mux.specs.declared.step.WholeRecord.TheVariants as whole
 use Rattle.oa_mux.specs.declared.step.ClientItem.{ClientItem}
 use Rattle.oa_mux.specs.declared.step.ClientItem.TheVariants as what
+use Rattle.oa_mux.specs.promise.Steps.{client_state}
 
 -- what is whole after the bytes that came before
 abbrev pub FindsEnd : Found → List ℕ → List ℕ → Type 0
@@ -28,10 +26,6 @@ abbrev pub brought : ClientItem → List Brought
 brought what.Nothing = []
 brought (what.Body r) = Body (record_body r) ∷ []
 brought (what.Ends why) = Ends why ∷ []
-
--- the state of a client among the present ones
-abbrev pub client_state : List (ℕ × ClientState) → ℕ → Option ClientState
-client_state clients client = lookup (is_at (nat_cmp client)) clients
 
 -- some bytes were consumed; all of them if they completed nothing
 abbrev pub Takes : ℕ → ClientItem → ℕ → Type 0

@@ -1,7 +1,7 @@
 //! A client of a shared session.
 ghost use Rattle.std.specs.Prelude.{◌≡◌, ◌<◌, ◌≤◌, [], length, take, true, IfOk, OnErr, Some, None};
 ghost use Rattle.oa_mux.specs.Readers.{ClientBrings, IsWholeRecord};
-ghost use Rattle.oa_mux.specs.Readers.ClientState.{Held, Over};
+ghost use Rattle.oa_mux.specs.promise.Readers.ClientState.{Held, Over};
 ghost use Rattle.oa_mux.specs.Steps.{EndsWith, IsWholeBehind, Takes, brought};
 ghost use Rattle.oa_mux.specs.declared.step.ClientItem.TheVariants as what;
 
@@ -23,7 +23,8 @@ pub(crate) struct Client {
 
 impl Model for Client {
     ghost use Rattle.std.specs.Prelude.{◌≡◌, false};
-    ghost use Rattle.oa_mux.specs.Readers.{ClientState, IsPartRecord, kept};
+    ghost use Rattle.oa_mux.specs.promise.Readers.{ClientState};
+    ghost use Rattle.oa_mux.specs.Readers.{IsPartRecord, kept};
 
     ghost Value = { ClientState };
 

@@ -1,9 +1,10 @@
 //! The present clients.
 ghost use Rattle.std.specs.Prelude.{◌≡◌, ◌<◌, [], length, take, true, IfOk, OnErr, None, Some};
 ghost use Rattle.oa_mux.specs.Readers.{ClientBrings};
-ghost use Rattle.oa_mux.specs.Readers.ClientState.{Held};
-ghost use Rattle.oa_mux.specs.Shared.{Rises};
-ghost use Rattle.oa_mux.specs.Steps.{EndsLowest, EndsWith, OthersStay, Takes, brought, client_state, first_client};
+ghost use Rattle.oa_mux.specs.promise.Readers.ClientState.{Held};
+ghost use Rattle.oa_mux.specs.promise.Shared.{Rises};
+ghost use Rattle.oa_mux.specs.Steps.{EndsLowest, EndsWith, OthersStay, Takes, brought, first_client};
+ghost use Rattle.oa_mux.specs.promise.Steps.{client_state};
 
 use crate::ClientStep;
 use crate::client::Client;
@@ -25,7 +26,7 @@ pub struct Clients {
 
 impl Model for Clients {
     ghost use Rattle.std.specs.Prelude.{ℕ, List};
-    ghost use Rattle.oa_mux.specs.Readers.{ClientState};
+    ghost use Rattle.oa_mux.specs.promise.Readers.{ClientState};
 
     ghost Value = { List (ℕ × ClientState) };
 

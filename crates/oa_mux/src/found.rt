@@ -1,6 +1,7 @@
 //! The end of a record.
 ghost use Rattle.std.specs.Prelude.{◌≡◌, ◌≤◌, ◌<◌, ◌+◌, ◌++◌, length, take, IfSome, IsNone};
-ghost use Rattle.oa_mux.specs.Readers.{IsPartRecord, said};
+ghost use Rattle.oa_mux.specs.Readers.{IsPartRecord};
+ghost use Rattle.oa_mux.specs.promise.Readers.{said};
 ghost use Rattle.oa_mux.specs.Steps.{FindsEnd};
 
 use oa_frame::End;

@@ -1,7 +1,8 @@
 //! The heads of frames.
 ghost use Rattle.std.specs.Prelude.{◌≡◌, ◌<◌, ◌≤◌};
-ghost use Rattle.oa_mux.specs.Frames.{SaysSome, frame_head_of};
-ghost use Rattle.oa_mux.specs.Frames as frames;
+ghost use Rattle.oa_mux.specs.Frames.{SaysSome};
+ghost use Rattle.oa_mux.specs.promise.Frames.{frame_head_of};
+ghost use Rattle.oa_mux.specs.promise.Frames as frames;
 
 /// The number for all clients, which no client has.
 pub const ALL_CLIENTS: u32 = u32::MAX;

@@ -2,13 +2,15 @@
 ghost use Rattle.std.specs.Prelude.{◌≡◌, ◌<◌, ◌≤◌, ◌+◌, ◌∷◌, ◌++◌, ℕ, List, [], Option, None, length, map};
 ghost use Rattle.oa_frame.specs.declared.ends.End.{End as AnEnd};
 ghost use Rattle.oa_frame.specs.declared.ends.End.TheVariants.{ReadFault};
-ghost use Rattle.oa_frame.specs.Framings.{records};
-ghost use Rattle.oa_frame.specs.Sessions.{ReadTo};
-ghost use Rattle.oa_frame.specs.Sessions.Halt.{At};
-ghost use Rattle.oa_mux.specs.Frames.{InHead, all_clients, frame_of, max_frame_bytes, pieces_in};
-ghost use Rattle.oa_mux.specs.Marks.{Tagged, Last, Flush, Of, StreamPiece, States, tag_all, own, pieces};
-ghost use Rattle.oa_mux.specs.Readers.{Body, Brought, Ends, ClientState, Reads, asked_in, brought_in, records_of};
-ghost use Rattle.oa_mux.specs.Shared.{Demultiplexes, SharedState};
+ghost use Rattle.oa_frame.specs.promise.Framings.{records};
+ghost use Rattle.oa_frame.specs.promise.Sessions.{ReadTo};
+ghost use Rattle.oa_frame.specs.promise.Sessions.Halt.{At};
+ghost use Rattle.oa_mux.specs.promise.Frames.{InHead, all_clients, frame_of, max_frame_bytes, pieces_in};
+ghost use Rattle.oa_mux.specs.promise.Marks.{Tagged, Last, Flush, Of, StreamPiece, States, tag_all};
+ghost use Rattle.oa_mux.specs.Marks.{own, pieces};
+ghost use Rattle.oa_mux.specs.promise.Readers.{Body, Brought, Ends, ClientState, Reads, asked_in, records_of};
+ghost use Rattle.oa_mux.specs.Readers.{brought_in};
+ghost use Rattle.oa_mux.specs.promise.Shared.{Demultiplexes, SharedState};
 
 /// A client's requests depend only on its own bytes, whatever comes between them.
 pub fn each_has_its_own()

@@ -1,8 +1,8 @@
 //! Writing frames of replies.
 ghost use Rattle.std.specs.Prelude.{◌≡◌, ◌≤◌, ◌+◌, ◌++◌, [], false, length, take};
 ghost use Rattle.std.specs.Int.{to_le_bytes, w32};
-ghost use Rattle.oa_mux.specs.Frames as frames;
-ghost use Rattle.oa_mux.specs.Outgoing.{spelled_frame};
+ghost use Rattle.oa_mux.specs.promise.Frames as frames;
+ghost use Rattle.oa_mux.specs.promise.Outgoing.{spelled_frame};
 ghost use Rattle.oa_stream.specs.Sink.{Puts};
 
 use crate::frame_head;

@@ -1,9 +1,9 @@
 //! Servers of many clients.
 ghost use Rattle.std.specs.Prelude.{◌≡◌, ℕ, Bool, List, false, true};
 ghost use Rattle.oa_mux.specs.Answering.{AnswersClient, GivesUp, IsBehindNow};
-ghost use Rattle.oa_mux.specs.Marks.{Flush, Of, Tagged};
-ghost use Rattle.oa_mux.specs.Readers.{Body, Brought, Ends};
-ghost use Rattle.oa_stream.specs.Sink.{IsHandedOn};
+ghost use Rattle.oa_mux.specs.promise.Marks.{Flush, Of, Tagged};
+ghost use Rattle.oa_mux.specs.promise.Readers.{Body, Brought, Ends};
+ghost use Rattle.oa_stream.specs.promise.Sink.{IsHandedOn};
 
 use oa_frame::End;
 use oa_stream::{Sink, Unwritten};

@@ -1,11 +1,13 @@
 //! Sessions of many clients over a reader and a writer.
 ghost use Rattle.std.specs.Prelude.{◌≡◌, ◌<◌, ◌≤◌, ◌∷◌, [], false, length, true};
 ghost use Rattle.oa_frame.specs.Beginnings.{AreUnbroken};
-ghost use Rattle.oa_mux.specs.Marks.{Flush, Of};
-ghost use Rattle.oa_mux.specs.Readers.{Body, Ends};
-ghost use Rattle.oa_mux.specs.Shared.{BringsRecord, Rises, arrived, reads_nothing, starting};
-ghost use Rattle.oa_mux.specs.Talking.{AnswersAsked, AnswersEnds, AnswersSingle, ClosesAll, EndsNext, MakesNow, Progresses, ServesClients};
-ghost use Rattle.oa_mux.specs.Talking.{ends_at, ends_in, parted};
+ghost use Rattle.oa_mux.specs.promise.Marks.{Flush, Of};
+ghost use Rattle.oa_mux.specs.promise.Readers.{Body, Ends};
+ghost use Rattle.oa_mux.specs.Shared.{BringsRecord, arrived};
+ghost use Rattle.oa_mux.specs.promise.Shared.{Rises, reads_nothing, starting};
+ghost use Rattle.oa_mux.specs.Talking.{AnswersAsked, AnswersEnds, AnswersSingle, ClosesAll, EndsNext, MakesNow};
+ghost use Rattle.oa_mux.specs.Talking.{Progresses};
+ghost use Rattle.oa_mux.specs.promise.Talking.{ServesClients, ends_at, ends_in, parted};
 ghost use Rattle.oa_mux.specs.declared.session_end.SessionEnd.TheVariants as over;
 ghost use Rattle.oa_stream.specs.BufferedSource.{ahead, read_ahead};
 

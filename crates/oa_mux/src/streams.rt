@@ -1,11 +1,13 @@
 //! Demultiplexing the frames of many clients.
 ghost use Rattle.std.specs.Prelude.{◌≡◌, ◌<◌, ◌≤◌, ◌+◌, ◌++◌, [], false, length, take, IfOk, IfSome, OnErr};
-ghost use Rattle.oa_mux.specs.Frames.{InHead, SaysSome, begun};
-ghost use Rattle.oa_mux.specs.Marks.{tag_all};
-ghost use Rattle.oa_mux.specs.Shared.{Begins, BringsRecord, Demultiplexes, IsClients, IsHeads, IsRecordFrame, Rises, TakesSome, TellsUnknown};
-ghost use Rattle.oa_mux.specs.Shared.{arrived, is_unknown, reads_nothing, starting};
+ghost use Rattle.oa_mux.specs.promise.Frames.{InHead, begun};
+ghost use Rattle.oa_mux.specs.Frames.{SaysSome};
+ghost use Rattle.oa_mux.specs.promise.Marks.{tag_all};
+ghost use Rattle.oa_mux.specs.Shared.{Begins, BringsRecord, IsHeads, IsRecordFrame, TakesSome, TellsUnknown, arrived};
+ghost use Rattle.oa_mux.specs.Shared.{is_unknown};
+ghost use Rattle.oa_mux.specs.promise.Shared.{Demultiplexes, IsClients, Rises, reads_nothing, starting};
 ghost use Rattle.oa_mux.specs.Steps.{EndsLowest, brought, brought_last};
-ghost use Rattle.oa_mux.specs.Talking.{input_end};
+ghost use Rattle.oa_mux.specs.promise.Talking.{input_end};
 
 use crate::{ClientItem, ClientStep, Clients, FrameHead, SessionEnd, WholeRecord};
 use oa_frame::End;
@@ -51,7 +53,8 @@ pub struct Demux {
 
 impl Model for Demux {
     ghost use Rattle.std.specs.Prelude.{◌<◌, ◌≤◌};
-    ghost use Rattle.oa_mux.specs.Shared.{SharedState, frame_place};
+    ghost use Rattle.oa_mux.specs.promise.Shared.{SharedState};
+    ghost use Rattle.oa_mux.specs.Shared.{frame_place};
 
     ghost Value = { SharedState };
 
@@ -252,7 +255,7 @@ fn record_frame(bytes: &[u8]) -> Option<(u32, usize)>
 }
 
 /// Returns the item with its client's number.
-#[tactic(auto, unfolding(crate::specs::Marks::tag_all))]
+#[tactic(auto, unfolding(crate::specs::promise::Marks::tag_all))]
 fn of_client<'a>(client: u32, what: ClientItem<'a>) -> DemuxItem<'a>
     ensures brings { arrived result ≡ tag_all client (brought what.entry) }
     ensures known { is_unknown result ≡ false }
@@ -265,7 +268,7 @@ fn of_client<'a>(client: u32, what: ClientItem<'a>) -> DemuxItem<'a>
 }
 
 /// Returns the end of a client's stream with its number.
-#[tactic(auto, unfolding(crate::specs::Marks::tag_all))]
+#[tactic(auto, unfolding(crate::specs::promise::Marks::tag_all))]
 fn last_of<'a>(client: u32, why: Option<End>) -> DemuxItem<'a>
     ensures brings { arrived result ≡ tag_all client (brought_last why) }
     ensures known { is_unknown result ≡ false }

@@ -7,10 +7,10 @@ use Rattle.std.proofs.lemmas.Bool.{ltb-false, le-ltb, eqb-true}
 use Rattle.std.proofs.lemmas.List.{append-nil, nil_from_length, take_at, drop_at, take-append-drop, length-append, length-take-le}
 use Rattle.std.proofs.lemmas.List.{length-drop, drop-append-le, drop-take}
 use Rattle.byteorder.specs.Endian.{little_number}
-use Rattle.oa_ndr.specs.Forms.{padding, Then, ◌▸◌, align, ignored, unit, exactly, any, with, given, referent, each}
-use Rattle.oa_ndr.specs.Forms.{pairwise, made}
-use Rattle.oa_ndr.specs.Reading.{Cursor, at, Decoder, and_then, bind, give, fail, choose, bytes_at, align_at, slot_at, unit_at}
-use Rattle.oa_ndr.specs.Reading.{referent_at, many, map_at, all_used, whole}
+use Rattle.oa_ndr.specs.promise.Forms.{padding, Then, ◌▸◌, align, ignored, unit, exactly, any, with, given, referent}
+use Rattle.oa_ndr.specs.promise.Forms.{each, pairwise, made}
+use Rattle.oa_ndr.specs.promise.Reading.{Cursor, at, Decoder, and_then, bind, give, fail, bytes_at, many}
+use Rattle.oa_ndr.specs.Reading.{choose, align_at, slot_at, unit_at, referent_at, map_at, all_used, whole}
 
 -- The bytes that a decoder has consumed from the front.
 pub record Takes (F : ℕ → List ℕ → Type 0) (p : ℕ) (bytes : List ℕ) (t : Cursor) : Type 0 where

@@ -6,8 +6,9 @@ use Rattle.std.proofs.lemmas.List.{append-nil, drop_at, length-append}
 use Rattle.std.proofs.lemmas.List.{length-replicate}
 use Rattle.byteorder.specs.Endian.{little_number, little_bytes}
 use Rattle.byteorder.specs.Numbers.{length-bytes_low_first, little_number-reads_back}
-use Rattle.oa_ndr.specs.Forms.{padding, ◌▸◌, nothing, align, ignored, unit, exactly, any, with, given, referent, each}
-use Rattle.oa_ndr.specs.Writing.{put_align, put_unit, put_bytes, put_referent, put_all}
+use Rattle.oa_ndr.specs.promise.Forms.{padding, ◌▸◌, nothing, align, ignored, unit, exactly, any, with, given, referent}
+use Rattle.oa_ndr.specs.promise.Forms.{each}
+use Rattle.oa_ndr.specs.promise.Writing.{put_align, put_unit, put_bytes, put_referent, put_all}
 
 -- The bytes that have been added at the end.
 pub record Adds (F : ℕ → List ℕ → Type 0) (old new : List ℕ) : Type 0 where

@@ -1,16 +1,9 @@
 //! Reads fields.
 
 ghost use Rattle.std.specs.Prelude.{◌≡◌, ◌<◌, ◌≤◌, length, IfOk};
-ghost use Rattle.oa_ndr.specs.Forms.{padding};
-ghost use Rattle.oa_ndr.specs.Reading.{
-  at,
-  Gives,
-  align_at,
-  slot_at,
-  bytes_at,
-  unit_at,
-  referent_at,
-};
+ghost use Rattle.oa_ndr.specs.promise.Forms.{padding};
+ghost use Rattle.oa_ndr.specs.promise.Reading.{at, bytes_at};
+ghost use Rattle.oa_ndr.specs.Reading.{Gives, align_at, slot_at, unit_at, referent_at};
 
 use byteorder::{ByteOrder, LittleEndian};
 use std::marker::Model;
@@ -34,7 +27,7 @@ pub struct Ndr<'a> {
 
 impl<'a> Model for Ndr<'a> {
     ghost use Rattle.std.specs.Prelude.{◌+◌, ◌<◌, ◌^◌, length};
-    ghost use Rattle.oa_ndr.specs.Reading.{Cursor, at};
+    ghost use Rattle.oa_ndr.specs.promise.Reading.{Cursor, at};
 
     ghost Value = { Cursor };
 
@@ -118,7 +111,7 @@ impl<'a> Ndr<'a> {
 
     /// Reads the next `n` bytes, without alignment. Err: fewer are left, and the reader does not
     /// move.
-    #[tactic(auto, unfolding(crate::specs::Reading::bytes_at))]
+    #[tactic(auto, unfolding(crate::specs::promise::Reading::bytes_at))]
     pub fn bytes(&mut self, n: usize) -> Result<&'a [u8], Short>
         ensures bytes { Gives (λ x. x.now) result self.old self.new (bytes_at n self.old) }
         ensures len { IfOk result (λ x. length x.now ≡ n) }
@@ -152,7 +145,7 @@ impl<'a> Ndr<'a> {
     }
 
     /// Reads the next byte. Err: none is left.
-    #[tactic(auto, unfolding(crate::specs::Reading::unit_at, crate::specs::Reading::bind, crate::specs::Reading::give))]
+    #[tactic(auto, unfolding(crate::specs::Reading::unit_at, crate::specs::promise::Reading::bind, crate::specs::promise::Reading::give))]
     pub fn u8(&mut self) -> Result<u8, Short>
         ensures { Gives (λ x. x) result self.old self.new (unit_at 1 self.old) }
     {
@@ -160,7 +153,7 @@ impl<'a> Ndr<'a> {
     }
 
     /// Reads the little-endian u16 at the next multiple of 2. Err: the bytes end too early.
-    #[tactic(auto, unfolding(crate::specs::Reading::unit_at, crate::specs::Reading::bind, crate::specs::Reading::give))]
+    #[tactic(auto, unfolding(crate::specs::Reading::unit_at, crate::specs::promise::Reading::bind, crate::specs::promise::Reading::give))]
     pub fn u16(&mut self) -> Result<u16, Short>
         ensures { Gives (λ x. x) result self.old self.new (unit_at 2 self.old) }
     {
@@ -168,7 +161,7 @@ impl<'a> Ndr<'a> {
     }
 
     /// Reads the little-endian u32 at the next multiple of 4. Err: the bytes end too early.
-    #[tactic(auto, unfolding(crate::specs::Reading::unit_at, crate::specs::Reading::bind, crate::specs::Reading::give))]
+    #[tactic(auto, unfolding(crate::specs::Reading::unit_at, crate::specs::promise::Reading::bind, crate::specs::promise::Reading::give))]
     pub fn u32(&mut self) -> Result<u32, Short>
         ensures { Gives (λ x. x) result self.old self.new (unit_at 4 self.old) }
     {
@@ -176,7 +169,7 @@ impl<'a> Ndr<'a> {
     }
 
     /// Reads the little-endian u64 at the next multiple of 8. Err: the bytes end too early.
-    #[tactic(auto, unfolding(crate::specs::Reading::unit_at, crate::specs::Reading::bind, crate::specs::Reading::give))]
+    #[tactic(auto, unfolding(crate::specs::Reading::unit_at, crate::specs::promise::Reading::bind, crate::specs::promise::Reading::give))]
     pub fn u64(&mut self) -> Result<u64, Short>
         ensures { Gives (λ x. x) result self.old self.new (unit_at 8 self.old) }
     {
@@ -185,7 +178,7 @@ impl<'a> Ndr<'a> {
 
     /// Reads the referent of a unique pointer at the next multiple of 4, and returns whether it is
     /// set: 0 is null, every other number is not (C706 14.3.12). Err: the bytes end too early.
-    #[tactic(auto, unfolding(crate::specs::Reading::referent_at, crate::specs::Reading::bind, crate::specs::Reading::give))]
+    #[tactic(auto, unfolding(crate::specs::Reading::referent_at, crate::specs::promise::Reading::bind, crate::specs::promise::Reading::give))]
     pub fn referent(&mut self) -> Result<bool, Short>
         ensures { Gives (λ x. x) result self.old self.new (referent_at self.old) }
     {

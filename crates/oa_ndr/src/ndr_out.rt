@@ -1,16 +1,8 @@
 //! Writes fields.
 
 ghost use Rattle.std.specs.Prelude.{◌≡◌, ◌<◌, ◌≤◌, ◌++◌, OnOk, OnErr, length, replicate, take};
-ghost use Rattle.oa_ndr.specs.Writing.{
-  TakesNothingBack,
-  field_after,
-  in_field,
-  put_align,
-  put_unit,
-  put_bytes,
-  put_referent,
-  put_slot,
-};
+ghost use Rattle.oa_ndr.specs.Writing.{TakesNothingBack, field_after, in_field};
+ghost use Rattle.oa_ndr.specs.promise.Writing.{put_align, put_unit, put_bytes, put_referent, put_slot};
 
 use crate::ndr::padding;
 use std::alloc::AllocError;

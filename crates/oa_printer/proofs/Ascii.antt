@@ -13,7 +13,7 @@ use Rattle.oa_model.specs.declared.var_type.VarType.TheVariants as types
 use Rattle.oa_model.specs.declared.var_type.ValueType.{ValueType}
 use Rattle.oa_model.specs.declared.var_type.ValueType.TheVariants as values
 use Rattle.oa_tokens.specs.declared.scan.Class.TheVariants.{Letter, Named}
-use Rattle.oa_tokens.specs.Bytes.{is_in, run}
+use Rattle.oa_tokens.specs.promise.Bytes.{is_in, run}
 use Rattle.oa_idl.specs.declared.parts.Entry.{Entry}
 use Rattle.oa_idl.specs.declared.parts.Literal.{Literal}
 use Rattle.oa_idl.specs.declared.parts.Literal.TheVariants as literals
@@ -25,12 +25,18 @@ use Rattle.oa_idl.specs.declared.parts.Version.{Version}
 use Rattle.oa_idl.specs.declared.items.Item.{Item}
 use Rattle.oa_idl.specs.declared.items.Item.TheVariants as items
 use Rattle.oa_idl.specs.declared.seen.EntriesSeen.{EntriesSeen}
-use Rattle.oa_idl.specs.Grammar.{entry_grow, no_entry}
-use Rattle.oa_idl.specs.MethodValues.{MethodValue}
-use Rattle.oa_idl.specs.Words.{is_escaped, is_printable}
-use Rattle.oa_idl.specs.Trees.{TreeValue}
+use Rattle.oa_idl.specs.promise.Grammar.{entry_grow, no_entry}
+use Rattle.oa_idl.specs.promise.MethodValues.{MethodValue}
+use Rattle.oa_idl.specs.promise.Words.{is_escaped, is_printable}
+use Rattle.oa_idl.specs.promise.Trees.{TreeValue}
 use Rattle.oa_printer.specs.Printable.{AreEntries, IsDefault, IsId, IsItem, IsLiteral, IsMethod, IsName, IsNameText, IsPrintable, IsPrintableParameter, IsProperty, IsVersion}
-use Rattle.oa_printer.specs.Canonical.{canonical, character_text, coclass_text, default_text, digits_text, entry_text, entry_word_text, further_text, guid_text, has_marks, id_text, interface_line, interface_text, item_text, kind_text, list_text, literal_text, mark_text, method_text, methods_text, named_text, parameter_marks, parameter_text, parameters_text, properties_line, properties_text, property_text, readonly_text, result_text, title_text, type_text, value_type_text, version_text}
+use Rattle.oa_printer.specs.promise.Canonical.{canonical, character_text, coclass_text, default_text, digits_text}
+use Rattle.oa_printer.specs.promise.Canonical.{entry_text, entry_word_text, further_text, guid_text, has_marks, id_text}
+use Rattle.oa_printer.specs.promise.Canonical.{interface_line, interface_text, item_text, kind_text, list_text}
+use Rattle.oa_printer.specs.promise.Canonical.{literal_text, mark_text, method_text, methods_text, named_text}
+use Rattle.oa_printer.specs.promise.Canonical.{parameter_marks, parameter_text, parameters_text, properties_line}
+use Rattle.oa_printer.specs.promise.Canonical.{properties_text, property_text, readonly_text, result_text, title_text}
+use Rattle.oa_printer.specs.promise.Canonical.{type_text, value_type_text, version_text}
 
 low_byte : (b : ℕ) → nat_lt b 128 ≡ true → b < 128
 low_byte b is = grind (arith, is)

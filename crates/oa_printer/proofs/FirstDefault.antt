@@ -4,8 +4,8 @@ use Rattle.std.specs.Prelude.{◌||◌, ◌&&◌, not}
 use Rattle.std.specs.List.{list_any}
 use Rattle.oa_idl.specs.declared.parts.Entry.{Entry}
 use Rattle.oa_idl.specs.declared.seen.EntriesSeen.{EntriesSeen}
-use Rattle.oa_idl.specs.Grammar.{no_entry}
-use Rattle.oa_printer.specs.Marked.{mark}
+use Rattle.oa_idl.specs.promise.Grammar.{no_entry}
+use Rattle.oa_printer.specs.promise.Marked.{mark}
 use Rattle.oa_printer.specs.Printable.{AreEntries}
 
 -- neither of two

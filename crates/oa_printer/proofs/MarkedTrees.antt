@@ -4,11 +4,12 @@ use Rattle.std.specs.List.{list_any, AllByRecursion}
 use Rattle.oa_idl.specs.declared.parts.Entry.{Entry}
 use Rattle.oa_idl.specs.declared.items.Item.{Item}
 use Rattle.oa_idl.specs.declared.items.Item.TheVariants.{Interface, Coclass}
-use Rattle.oa_idl.specs.Grammar.{no_entry}
-use Rattle.oa_idl.specs.Limits.{IsShort, HasShortNames, one_interface, one_coclass, how_many, HasFewMembers, HasFewParameters}
-use Rattle.oa_printer.specs.Marked.{mark, marked_entries, marked_item, marked}
+use Rattle.oa_idl.specs.promise.Grammar.{no_entry}
+use Rattle.oa_idl.specs.promise.Limits.{IsShort, HasShortNames, one_interface, one_coclass, how_many, HasFewMembers}
+use Rattle.oa_idl.specs.promise.Limits.{HasFewParameters}
+use Rattle.oa_printer.specs.promise.Marked.{mark, marked_entries, marked_item, marked}
 use Rattle.oa_printer.specs.Printable.{AreEntries, IsItem, IsPrintable}
-use Rattle.oa_idl.specs.Trees.{TreeValue}
+use Rattle.oa_idl.specs.promise.Trees.{TreeValue}
 use Rattle.oa_printer.proofs.FirstDefault.{first_default}
 
 by_mark : (e : Entry) (es : List Entry) (b : Bool) → AreEntries no_entry (e ∷ es) → (b ≡ false → AreEntries no_entry (mark e ∷ es))

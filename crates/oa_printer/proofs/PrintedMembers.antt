@@ -12,7 +12,7 @@ use Rattle.oa_model.specs.declared.var_type.VarType.{VarType}
 use Rattle.oa_model.specs.declared.var_type.VarType.TheVariants as types
 use Rattle.oa_model.specs.declared.var_type.ValueType.{ValueType}
 use Rattle.oa_model.specs.declared.var_type.ValueType.TheVariants as values
-use Rattle.oa_model.specs.Types.{sf_type_of}
+use Rattle.oa_model.specs.promise.Types.{sf_type_of}
 use Rattle.oa_tokens.specs.declared.lexer.TokenKind.TheVariants as kinds
 use Rattle.oa_tokens.specs.declared.lexer.Piece.TheVariants.{Word}
 use Rattle.oa_idl.specs.declared.parts.Property.{Property}
@@ -23,22 +23,25 @@ use Rattle.oa_idl.specs.declared.parts.MethodKind.TheVariants as methods_of
 use Rattle.oa_idl.specs.declared.parts.Parameter.{Parameter}
 use Rattle.oa_idl.specs.declared.seen.MethodHead.{MethodHead}
 use Rattle.oa_idl.specs.declared.seen.ParameterSeen.{ParameterSeen}
-use Rattle.oa_idl.specs.MethodValues.{MethodValue}
-use Rattle.oa_tokens.specs.Bytes.{is_in, run}
-use Rattle.oa_tokens.specs.Tokens.{front}
-use Rattle.oa_idl.specs.Forms.{◌▸◌, nothing, one, optional, listed, nowhere}
-use Rattle.oa_idl.specs.Forms as forms
-use Rattle.oa_idl.specs.Words.{passes, name_of, is_printable, guid_of, part_of, id_of, amount_of, characters_of, word_type, type_named}
-use Rattle.oa_idl.specs.Words.{plain_type, unsigned_type}
-use Rattle.oa_idl.specs.Grammar.{symbol, type_word, value_type, property_attribute, id_form, numbered, no_property, property_head, property}
-use Rattle.oa_idl.specs.Grammar.{amount, literal, parameter_attribute, no_parameter, parameter_head, parameter, method_attribute, no_method}
-use Rattle.oa_idl.specs.Grammar.{method_head, result_type, separated, next_parameter, one_more, may_end, last_parameter, method}
-use Rattle.oa_idl.specs.Grammar.PropertyAttribute.{Id, Readonly}
-use Rattle.oa_idl.specs.Grammar.ParameterAttribute.{IsIn, IsOptional, HasDefault}
-use Rattle.oa_idl.specs.Grammar.MethodAttribute.{MethodId, Propget, Propput}
-use Rattle.oa_printer.specs.Canonical.{type_text, value_type_text, result_text, named_text, character_text, literal_text, mark_text}
-use Rattle.oa_printer.specs.Canonical.{default_text, parameter_marks, parameter_text, further_text, parameters_text, id_text, readonly_text}
-use Rattle.oa_printer.specs.Canonical.{property_text, kind_text, list_text, method_text, digits_text}
+use Rattle.oa_idl.specs.promise.MethodValues.{MethodValue}
+use Rattle.oa_tokens.specs.promise.Bytes.{is_in, run}
+use Rattle.oa_tokens.specs.promise.Tokens.{front}
+use Rattle.oa_idl.specs.promise.Forms.{◌▸◌, nothing, one, optional, listed, nowhere}
+use Rattle.oa_idl.specs.promise.Forms as forms
+use Rattle.oa_idl.specs.promise.Words.{passes, name_of, is_printable, guid_of, part_of, id_of, amount_of, characters_of}
+use Rattle.oa_idl.specs.promise.Words.{word_type, type_named, plain_type, unsigned_type}
+use Rattle.oa_idl.specs.promise.Grammar.{symbol, type_word, value_type, property_attribute, id_form, numbered}
+use Rattle.oa_idl.specs.promise.Grammar.{no_property, property_head, property, amount, literal, parameter_attribute}
+use Rattle.oa_idl.specs.promise.Grammar.{no_parameter, parameter_head, parameter, method_attribute, no_method}
+use Rattle.oa_idl.specs.promise.Grammar.{method_head, result_type, separated, next_parameter, one_more, may_end}
+use Rattle.oa_idl.specs.promise.Grammar.{last_parameter, method}
+use Rattle.oa_idl.specs.promise.Grammar.PropertyAttribute.{Id, Readonly}
+use Rattle.oa_idl.specs.promise.Grammar.ParameterAttribute.{IsIn, IsOptional, HasDefault}
+use Rattle.oa_idl.specs.promise.Grammar.MethodAttribute.{MethodId, Propget, Propput}
+use Rattle.oa_printer.specs.promise.Canonical.{type_text, value_type_text, result_text, named_text, character_text}
+use Rattle.oa_printer.specs.promise.Canonical.{literal_text, mark_text, default_text, parameter_marks, parameter_text}
+use Rattle.oa_printer.specs.promise.Canonical.{further_text, parameters_text, id_text, readonly_text, property_text}
+use Rattle.oa_printer.specs.promise.Canonical.{kind_text, list_text, method_text, digits_text}
 use Rattle.oa_printer.specs.Printable.{IsGuid, IsNameText, IsName, IsId, IsType, IsValueType, IsLiteral, IsDefault, IsPrintableParameter, IsProperty}
 use Rattle.oa_printer.specs.Printable.{IsResult, IsMethod}
 use Rattle.oa_printer.proofs.PrintedTokens.{word, by_test, clash, is_not, EndsWord, AreDigits, number_front}

@@ -15,10 +15,11 @@ use Rattle.oa_tokens.specs.declared.lexer.TokenKind.TheVariants as kinds
 use Rattle.oa_tokens.specs.declared.lexer.Piece.TheVariants.{Word}
 use Rattle.oa_tokens.specs.declared.scan.Class.TheVariants as classes
 use Rattle.oa_tokens.specs.declared.scan.Close.TheVariants.{Quote}
-use Rattle.oa_tokens.specs.Bytes.{is_in, run, end_from, group, is_guid}
-use Rattle.oa_tokens.specs.Tokens.{front}
-use Rattle.oa_idl.specs.Words.{digit_of, number_from, is_hexadecimal, value_of, number_of, is_printable, is_escaped, characters_from}
-use Rattle.oa_printer.specs.Canonical.{character_text, digits_text}
+use Rattle.oa_tokens.specs.promise.Bytes.{is_in, run, end_from, group, is_guid}
+use Rattle.oa_tokens.specs.promise.Tokens.{front}
+use Rattle.oa_idl.specs.promise.Words.{digit_of, number_from, is_hexadecimal, value_of, number_of, is_printable}
+use Rattle.oa_idl.specs.promise.Words.{is_escaped, characters_from}
+use Rattle.oa_printer.specs.promise.Canonical.{character_text, digits_text}
 use Rattle.oa_printer.proofs.PrintedTokens.{by_test, clash, is_not, within, outside, AreDigits}
 
 -- ---- numbers

@@ -10,11 +10,11 @@ use Rattle.oa_tokens.specs.declared.lexer.TokenKind.TheVariants as kinds
 use Rattle.oa_tokens.specs.declared.lexer.Token.{Token}
 use Rattle.oa_tokens.specs.declared.lexer.Piece.TheVariants.{Word, Gap}
 use Rattle.oa_tokens.specs.declared.scan.Class.TheVariants as classes
-use Rattle.oa_tokens.specs.Bytes.{is_in, run, group, is_guid}
-use Rattle.oa_tokens.specs.Tokens.{front, token, AreTokens}
-use Rattle.oa_tokens.specs.Tokens.AreTokens.{End, Apart, Next}
-use Rattle.oa_idl.specs.Forms as forms
-use Rattle.oa_idl.specs.Words.{word_of}
+use Rattle.oa_tokens.specs.promise.Bytes.{is_in, run, group, is_guid}
+use Rattle.oa_tokens.specs.promise.Tokens.{front, token, AreTokens}
+use Rattle.oa_tokens.specs.promise.Tokens.AreTokens.{End, Apart, Next}
+use Rattle.oa_idl.specs.promise.Forms as forms
+use Rattle.oa_idl.specs.promise.Words.{word_of}
 use Rattle.oa_printer.specs.Printable.{IsNameText}
 
 abbrev pub word : TokenKind → List ℕ → forms.Word

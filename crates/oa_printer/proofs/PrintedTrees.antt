@@ -15,22 +15,24 @@ use Rattle.oa_idl.specs.declared.items.Item.TheVariants as items
 use Rattle.oa_idl.specs.declared.seen.HeadValues.{HeadValues}
 use Rattle.oa_idl.specs.declared.seen.EntriesSeen.{EntriesSeen}
 use Rattle.oa_idl.specs.declared.seen.ItemsSeen.{ItemsSeen}
-use Rattle.oa_idl.specs.MethodValues.{MethodValue}
-use Rattle.oa_idl.specs.Values.{InterfaceValue, CoclassValue}
-use Rattle.oa_idl.specs.Trees.{TreeValue}
-use Rattle.oa_tokens.specs.Bytes.{is_in, run}
-use Rattle.oa_idl.specs.Forms.{Word, ◌▸◌, nothing, given, this, one, optional, where_is, with, listed, nowhere}
-use Rattle.oa_idl.specs.Words.{passes, name_of, end_word}
-use Rattle.oa_idl.specs.Grammar.{symbol, head_attribute, no_head, head, one_more, closing, property, method, methods, members, interface}
-use Rattle.oa_idl.specs.Grammar.{entry_word, named, entry_by, entry, entry_grow, no_entry, last_entry, coclass, item, LibraryContent, element}
-use Rattle.oa_idl.specs.Grammar.{semicolon_after, no_items, elements_grow, items_in, library_contents, library}
-use Rattle.oa_idl.specs.Grammar.HeadAttribute.{Guid, Numbered}
-use Rattle.oa_idl.specs.Grammar.LibraryContent.{OfItem}
-use Rattle.oa_printer.specs.Canonical.{property_text, method_text, entry_word_text, entry_text, digits_text, guid_text, title_text}
-use Rattle.oa_printer.specs.Canonical.{interface_line, properties_line, properties_text, methods_text, interface_text, coclass_text, item_text}
-use Rattle.oa_printer.specs.Canonical.{version_text, canonical}
-use Rattle.oa_idl.specs.Limits.{KeepsLimit}
-use Rattle.oa_idl.specs.IsTree.{MayBeText, IsTree}
+use Rattle.oa_idl.specs.promise.MethodValues.{MethodValue}
+use Rattle.oa_idl.specs.promise.Values.{InterfaceValue, CoclassValue}
+use Rattle.oa_idl.specs.promise.Trees.{TreeValue}
+use Rattle.oa_tokens.specs.promise.Bytes.{is_in, run}
+use Rattle.oa_idl.specs.promise.Forms.{Word, ◌▸◌, nothing, given, this, one, optional, where_is, with, listed, nowhere}
+use Rattle.oa_idl.specs.promise.Words.{passes, name_of, end_word}
+use Rattle.oa_idl.specs.promise.Grammar.{symbol, head_attribute, no_head, head, one_more, closing, property, method}
+use Rattle.oa_idl.specs.promise.Grammar.{methods, members, interface, entry_word, named, entry_by, entry, entry_grow}
+use Rattle.oa_idl.specs.promise.Grammar.{no_entry, last_entry, coclass, item, LibraryContent, element, semicolon_after}
+use Rattle.oa_idl.specs.promise.Grammar.{no_items, elements_grow, items_in, library_contents, library}
+use Rattle.oa_idl.specs.promise.Grammar.HeadAttribute.{Guid, Numbered}
+use Rattle.oa_idl.specs.promise.Grammar.LibraryContent.{OfItem}
+use Rattle.oa_printer.specs.promise.Canonical.{property_text, method_text, entry_word_text, entry_text, digits_text}
+use Rattle.oa_printer.specs.promise.Canonical.{guid_text, title_text, interface_line, properties_line, properties_text}
+use Rattle.oa_printer.specs.promise.Canonical.{methods_text, interface_text, coclass_text, item_text, version_text}
+use Rattle.oa_printer.specs.promise.Canonical.{canonical}
+use Rattle.oa_idl.specs.promise.Limits.{KeepsLimit}
+use Rattle.oa_idl.specs.promise.IsTree.{MayBeText, IsTree}
 use Rattle.oa_printer.specs.Printable.{IsGuid, IsVersion, IsName, IsProperty, IsMethod, AreEntries, IsItem, IsPrintable}
 use Rattle.oa_printer.proofs.PrintedTokens.{word, HasWords, tokens_at}
 use Rattle.oa_printer.proofs.PrintedTokens.HasWords.{Nil}

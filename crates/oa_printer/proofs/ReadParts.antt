@@ -15,7 +15,7 @@ use Rattle.uuid.specs.Text as uuids
 use Rattle.uuid.proofs.TextLemmas.{by_index_length, by_index_at}
 use Rattle.oa_model.specs.declared.var_type.VarType.{VarType}
 use Rattle.oa_model.specs.declared.var_type.VarType.TheVariants as types
-use Rattle.oa_model.specs.Types.{sf_type_of}
+use Rattle.oa_model.specs.promise.Types.{sf_type_of}
 use Rattle.oa_tokens.specs.declared.lexer.TokenKind.{TokenKind}
 use Rattle.oa_tokens.specs.declared.lexer.TokenKind.TheVariants as kinds
 use Rattle.oa_tokens.specs.declared.lexer.Token.{Token}
@@ -24,15 +24,16 @@ use Rattle.oa_tokens.specs.declared.lexer.Piece.TheVariants.{Word, Gap, Broken}
 use Rattle.oa_tokens.specs.declared.scan.Class.TheVariants as classes
 use Rattle.oa_tokens.specs.declared.scan.Close.TheVariants.{Quote, Comment}
 use Rattle.oa_idl.specs.declared.parts.Literal.TheVariants as literals
-use Rattle.oa_tokens.specs.Bytes.{is_in, run, end_from, is_guid}
-use Rattle.oa_tokens.specs.Tokens.{front, closed, AreTokens}
-use Rattle.oa_tokens.specs.Tokens.AreTokens.{End, Apart, Next, Rest}
-use Rattle.oa_idl.specs.Forms.{one}
-use Rattle.oa_idl.specs.Forms as forms
-use Rattle.oa_idl.specs.Words.{same_kind, name_of, is_reserved, guid_of, below, number_of, value_of, part_of, part_from, id_of, id_from}
-use Rattle.oa_idl.specs.Words.{id_number, usable, is_hexadecimal, amount_of, amount_from, signed_number, characters_of, characters_from}
-use Rattle.oa_idl.specs.Words.{with_character, is_printable, is_escaped, word_type, type_named, plain_type, unsigned_type, if_cell, word_of}
-use Rattle.oa_idl.specs.Words.{end_word, words_of}
+use Rattle.oa_tokens.specs.promise.Bytes.{is_in, run, end_from, is_guid}
+use Rattle.oa_tokens.specs.promise.Tokens.{front, closed, AreTokens}
+use Rattle.oa_tokens.specs.promise.Tokens.AreTokens.{End, Apart, Next, Rest}
+use Rattle.oa_idl.specs.promise.Forms.{one}
+use Rattle.oa_idl.specs.promise.Forms as forms
+use Rattle.oa_idl.specs.promise.Words.{same_kind, name_of, is_reserved, guid_of, below, number_of, value_of, part_of}
+use Rattle.oa_idl.specs.promise.Words.{part_from, id_of, id_from, id_number, usable, is_hexadecimal, amount_of}
+use Rattle.oa_idl.specs.promise.Words.{amount_from, signed_number, characters_of, characters_from, with_character}
+use Rattle.oa_idl.specs.promise.Words.{is_printable, is_escaped, word_type, type_named, plain_type, unsigned_type}
+use Rattle.oa_idl.specs.promise.Words.{if_cell, word_of, end_word, words_of}
 use Rattle.oa_printer.specs.Printable.{IsGuid, IsNameText, IsName, IsId, IsType, IsLiteral}
 use Rattle.oa_printer.proofs.PrintedTokens.{by_test, clash}
 

@@ -27,25 +27,28 @@ use Rattle.oa_idl.specs.declared.seen.MethodHead.{MethodHead}
 use Rattle.oa_idl.specs.declared.seen.ParameterSeen.{ParameterSeen}
 use Rattle.oa_idl.specs.declared.seen.EntriesSeen.{EntriesSeen}
 use Rattle.oa_idl.specs.declared.seen.ItemsSeen.{ItemsSeen}
-use Rattle.oa_idl.specs.MethodValues.{MethodValue}
-use Rattle.oa_idl.specs.Trees.{TreeValue}
-use Rattle.oa_idl.specs.Forms.{Word, Then, ◌▸◌, one, where_is, listed, nowhere}
-use Rattle.oa_idl.specs.Words.{part_of, id_of, amount_of, word_type, words_of}
-use Rattle.oa_idl.specs.Grammar.{symbol, next_attribute, last_attribute, attributes, HeadAttribute, head_attribute, no_head, head_may}
-use Rattle.oa_idl.specs.Grammar.{head_grow, head_finish, head, type_word, value_type, PropertyAttribute, property_attribute, id_form}
-use Rattle.oa_idl.specs.Grammar.{no_property, property_may, property_grow, property_head_of, property_finish, property_head, property}
-use Rattle.oa_idl.specs.Grammar.{one_more, closing, literal, ParameterAttribute, parameter_attribute, no_parameter, parameter_may}
-use Rattle.oa_idl.specs.Grammar.{parameter_grow, parameter_finish, parameter_head, head_of_parameter, typed, parameter, MethodAttribute}
-use Rattle.oa_idl.specs.Grammar.{method_attribute, no_method, method_may, method_grow, method_head_of, method_finish, method_head}
-use Rattle.oa_idl.specs.Grammar.{result_type, separated, next_parameter, may_end, last_parameter, method, methods, members, named, entry_by}
-use Rattle.oa_idl.specs.Grammar.{no_entry, entry_grow, entry, last_entry, guid_of_item, item_body, item, LibraryContent, element, semicolon_after}
-use Rattle.oa_idl.specs.Grammar.{no_items, elements_grow, items_in, library_contents}
-use Rattle.oa_idl.specs.Grammar.HeadAttribute.{Guid, Numbered, HeadHelp}
-use Rattle.oa_idl.specs.Grammar.PropertyAttribute.{Id, Readonly, PropertyHelp}
-use Rattle.oa_idl.specs.Grammar.ParameterAttribute.{IsIn, IsOptional, HasDefault}
-use Rattle.oa_idl.specs.Grammar.MethodAttribute.{MethodId, Propget, Propput, MethodHelp}
-use Rattle.oa_idl.specs.Grammar.LibraryContent.{Import, OfItem}
-use Rattle.oa_idl.specs.IsTree.{IsTree}
+use Rattle.oa_idl.specs.promise.MethodValues.{MethodValue}
+use Rattle.oa_idl.specs.promise.Trees.{TreeValue}
+use Rattle.oa_idl.specs.promise.Forms.{Word, Then, ◌▸◌, one, where_is, listed, nowhere}
+use Rattle.oa_idl.specs.promise.Words.{part_of, id_of, amount_of, word_type, words_of}
+use Rattle.oa_idl.specs.promise.Grammar.{symbol, next_attribute, last_attribute, attributes, HeadAttribute}
+use Rattle.oa_idl.specs.promise.Grammar.{head_attribute, no_head, head_may, head_grow, head_finish, head, type_word}
+use Rattle.oa_idl.specs.promise.Grammar.{value_type, PropertyAttribute, property_attribute, id_form, no_property}
+use Rattle.oa_idl.specs.promise.Grammar.{property_may, property_grow, property_head_of, property_finish, property_head}
+use Rattle.oa_idl.specs.promise.Grammar.{property, one_more, closing, literal, ParameterAttribute, parameter_attribute}
+use Rattle.oa_idl.specs.promise.Grammar.{no_parameter, parameter_may, parameter_grow, parameter_finish, parameter_head}
+use Rattle.oa_idl.specs.promise.Grammar.{head_of_parameter, typed, parameter, MethodAttribute, method_attribute}
+use Rattle.oa_idl.specs.promise.Grammar.{no_method, method_may, method_grow, method_head_of, method_finish, method_head}
+use Rattle.oa_idl.specs.promise.Grammar.{result_type, separated, next_parameter, may_end, last_parameter, method}
+use Rattle.oa_idl.specs.promise.Grammar.{methods, members, named, entry_by, no_entry, entry_grow, entry, last_entry}
+use Rattle.oa_idl.specs.promise.Grammar.{guid_of_item, item_body, item, LibraryContent, element, semicolon_after}
+use Rattle.oa_idl.specs.promise.Grammar.{no_items, elements_grow, items_in, library_contents}
+use Rattle.oa_idl.specs.promise.Grammar.HeadAttribute.{Guid, Numbered, HeadHelp}
+use Rattle.oa_idl.specs.promise.Grammar.PropertyAttribute.{Id, Readonly, PropertyHelp}
+use Rattle.oa_idl.specs.promise.Grammar.ParameterAttribute.{IsIn, IsOptional, HasDefault}
+use Rattle.oa_idl.specs.promise.Grammar.MethodAttribute.{MethodId, Propget, Propput, MethodHelp}
+use Rattle.oa_idl.specs.promise.Grammar.LibraryContent.{Import, OfItem}
+use Rattle.oa_idl.specs.promise.IsTree.{IsTree}
 use Rattle.oa_printer.specs.Printable.{IsGuid, IsVersion, IsName, IsId, IsType, IsValueType, IsLiteral, IsDefault, IsPrintableParameter, IsProperty}
 use Rattle.oa_printer.specs.Printable.{IsResult, IsMethod, AreEntries, IsItem, IsPrintable}
 use Rattle.oa_printer.proofs.ReadParts.{Fine, some_is, no_some, words_fine, name_read, id_read, amount_read, part_read, guid_read, type_read}

@@ -8,12 +8,12 @@ use Rattle.std.proofs.Math.Seq.{take-append_seam, drop-append_seam}
 use Rattle.oa_tokens.specs.declared.lexer.TokenKind.{TokenKind}
 use Rattle.oa_tokens.specs.declared.lexer.TokenKind.TheVariants as kinds
 use Rattle.oa_tokens.specs.declared.lexer.Piece.TheVariants.{Word}
-use Rattle.oa_tokens.specs.Bytes.{is_in, run, group, is_guid}
-use Rattle.oa_tokens.specs.Tokens.{front}
-use Rattle.oa_idl.specs.Forms.{◌▸◌, nothing, this, one, optional, listed, gathered, nowhere}
-use Rattle.oa_idl.specs.Forms as forms
-use Rattle.oa_idl.specs.Words.{passes}
-use Rattle.oa_idl.specs.Grammar.{symbol, next_attribute, last_attribute, attributes}
+use Rattle.oa_tokens.specs.promise.Bytes.{is_in, run, group, is_guid}
+use Rattle.oa_tokens.specs.promise.Tokens.{front}
+use Rattle.oa_idl.specs.promise.Forms.{◌▸◌, nothing, this, one, optional, listed, gathered, nowhere}
+use Rattle.oa_idl.specs.promise.Forms as forms
+use Rattle.oa_idl.specs.promise.Words.{passes}
+use Rattle.oa_idl.specs.promise.Grammar.{symbol, next_attribute, last_attribute, attributes}
 use Rattle.oa_printer.specs.Printable.{IsNameText}
 use Rattle.oa_printer.proofs.PrintedTokens.{word, HasWords, EndsWord, name_front}
 use Rattle.oa_printer.proofs.PrintedTokens.HasWords.{Skip, Take}

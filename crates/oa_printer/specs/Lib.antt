@@ -1,3 +1,2 @@
-pub mod Canonical
-pub mod Marked
 pub mod Printable
+pub mod promise

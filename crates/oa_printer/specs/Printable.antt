@@ -6,8 +6,8 @@ use Rattle.oa_model.specs.declared.var_type.VarType.{VarType}
 use Rattle.oa_model.specs.declared.var_type.VarType.TheVariants as types
 use Rattle.oa_model.specs.declared.var_type.ValueType.{ValueType}
 use Rattle.oa_model.specs.declared.var_type.ValueType.TheVariants as values
-use Rattle.oa_model.specs.Limits.{max_interfaces, max_coclasses}
-use Rattle.oa_model.specs.Types.{sf_type_of}
+use Rattle.oa_model.specs.promise.Limits.{max_interfaces, max_coclasses}
+use Rattle.oa_model.specs.promise.Types.{sf_type_of}
 use Rattle.oa_tokens.specs.declared.scan.Class.TheVariants.{Letter, Named}
 use Rattle.oa_idl.specs.declared.parts.Version.{Version}
 use Rattle.oa_idl.specs.declared.parts.Property.{Property}
@@ -19,13 +19,13 @@ use Rattle.oa_idl.specs.declared.parts.Parameter.{Parameter}
 use Rattle.oa_idl.specs.declared.items.Item.{Item}
 use Rattle.oa_idl.specs.declared.items.Item.TheVariants as items
 use Rattle.oa_idl.specs.declared.seen.EntriesSeen.{EntriesSeen}
-use Rattle.oa_idl.specs.MethodValues.{MethodValue}
-use Rattle.oa_idl.specs.Trees.{TreeValue}
-use Rattle.oa_tokens.specs.Bytes.{is_in, run}
-use Rattle.oa_idl.specs.Words.{is_reserved, is_printable}
-use Rattle.oa_idl.specs.Grammar.{may_be_void, may_have_type, may_end, no_entry, entry_may, entry_grow}
-use Rattle.oa_idl.specs.Limits.{IsShort, HasShortNames, one_interface, one_coclass, how_many, HasFewMembers}
-use Rattle.oa_idl.specs.Limits.{HasFewParameters}
+use Rattle.oa_idl.specs.promise.MethodValues.{MethodValue}
+use Rattle.oa_idl.specs.promise.Trees.{TreeValue}
+use Rattle.oa_tokens.specs.promise.Bytes.{is_in, run}
+use Rattle.oa_idl.specs.promise.Words.{is_reserved, is_printable}
+use Rattle.oa_idl.specs.promise.Grammar.{may_be_void, may_have_type, may_end, no_entry, entry_may, entry_grow}
+use Rattle.oa_idl.specs.promise.Limits.{IsShort, HasShortNames, one_interface, one_coclass, how_many, HasFewMembers}
+use Rattle.oa_idl.specs.promise.Limits.{HasFewParameters}
 
 -- 16 bytes.
 abbrev pub IsGuid : List ℕ → Type 0

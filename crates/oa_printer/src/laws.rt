@@ -1,10 +1,10 @@
 //! Theorems about the definitions alone.
 ghost use Rattle.std.specs.Prelude.{ℕ, List};
 ghost use Rattle.std.specs.Str.{IsUtf8};
-ghost use Rattle.oa_idl.specs.Trees.{TreeValue};
-ghost use Rattle.oa_idl.specs.IsTree.{MayBeText, IsTree};
-ghost use Rattle.oa_printer.specs.Canonical.{canonical};
-ghost use Rattle.oa_printer.specs.Marked.{marked};
+ghost use Rattle.oa_idl.specs.promise.Trees.{TreeValue};
+ghost use Rattle.oa_idl.specs.promise.IsTree.{MayBeText, IsTree};
+ghost use Rattle.oa_printer.specs.promise.Canonical.{canonical};
+ghost use Rattle.oa_printer.specs.promise.Marked.{marked};
 ghost use Rattle.oa_printer.specs.Printable.{IsPrintable};
 
 /// Each tree of a text is printable.

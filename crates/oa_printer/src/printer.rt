@@ -2,11 +2,14 @@
 ghost use Rattle.std.specs.Prelude.{◌≡◌, ◌++◌, ℕ, List, codes, IfOk};
 ghost use Rattle.std.specs.List.{flat_map};
 ghost use Rattle.std.specs.Fmt.{decimal, signed_decimal};
-ghost use Rattle.oa_printer.specs.Canonical.{type_text, value_type_text, result_text, named_text, character_text, literal_text, mark_text};
-ghost use Rattle.oa_printer.specs.Canonical.{default_text, parameter_marks, parameter_text, further_text, parameters_text, id_text};
-ghost use Rattle.oa_printer.specs.Canonical.{readonly_text, property_text, kind_text, list_text, method_text, entry_word_text, entry_text};
-ghost use Rattle.oa_printer.specs.Canonical.{digits_text, guid_text, interface_line, properties_line, title_text, properties_text};
-ghost use Rattle.oa_printer.specs.Canonical.{methods_text, interface_text, coclass_text, item_text, version_text, canonical};
+ghost use Rattle.oa_printer.specs.promise.Canonical.{type_text, value_type_text, result_text, named_text};
+ghost use Rattle.oa_printer.specs.promise.Canonical.{character_text, literal_text, mark_text, default_text};
+ghost use Rattle.oa_printer.specs.promise.Canonical.{parameter_marks, parameter_text, further_text, parameters_text};
+ghost use Rattle.oa_printer.specs.promise.Canonical.{id_text, readonly_text, property_text, kind_text, list_text};
+ghost use Rattle.oa_printer.specs.promise.Canonical.{method_text, entry_word_text, entry_text, digits_text, guid_text};
+ghost use Rattle.oa_printer.specs.promise.Canonical.{interface_line, properties_line, title_text, properties_text};
+ghost use Rattle.oa_printer.specs.promise.Canonical.{methods_text, interface_text, coclass_text, item_text};
+ghost use Rattle.oa_printer.specs.promise.Canonical.{version_text, canonical};
 
 use oa_idl::{
     Coclass, Entry, Interface, Item, Literal, Method, MethodKind, Name, Parameter, Property, Tree,
@@ -44,7 +47,7 @@ fn put_all<T: Listed>(alloc: Global, out: &mut Vec<u8>, all: &[T]) -> Result<(),
 }
 
 /// Returns the IDL name of a scalar type.
-#[tactic(auto, unfolding(crate::specs::Canonical::type_text))]
+#[tactic(auto, unfolding(crate::specs::promise::Canonical::type_text))]
 fn type_word(value_type: VarType) -> &'static [u8]
     ensures { result.now ≡ type_text value_type }
 {
@@ -70,7 +73,7 @@ fn type_word(value_type: VarType) -> &'static [u8]
 }
 
 /// Appends a type. Err: an allocation fails.
-#[tactic(auto, unfolding(crate::specs::Canonical::value_type_text))]
+#[tactic(auto, unfolding(crate::specs::promise::Canonical::value_type_text))]
 fn put_type(out: &mut Vec<u8>, value_type: ValueType) -> Result<(), AllocError>
     ensures { IfOk result (λ _. out.new.items ≡ out.old.items ++ value_type_text value_type) }
 {
@@ -85,7 +88,7 @@ fn put_type(out: &mut Vec<u8>, value_type: ValueType) -> Result<(), AllocError>
 }
 
 /// Appends the type of a result, or `void`. Err: an allocation fails.
-#[tactic(auto, unfolding(crate::specs::Canonical::result_text))]
+#[tactic(auto, unfolding(crate::specs::promise::Canonical::result_text))]
 fn put_result(out: &mut Vec<u8>, value_type: Option<ValueType>) -> Result<(), AllocError>
     ensures { IfOk result (λ _. out.new.items ≡ out.old.items ++ result_text value_type) }
 {
@@ -123,7 +126,7 @@ fn put_amount(alloc: Global, out: &mut Vec<u8>, number: i128) -> Result<(), Allo
 impl Listed for u8 {
     ghost text = { character_text };
 
-    #[tactic(auto, unfolding(crate::specs::Canonical::character_text))]
+    #[tactic(auto, unfolding(crate::specs::promise::Canonical::character_text))]
     fn put(&self, _alloc: Global, out: &mut Vec<u8>) -> Result<(), AllocError> {
         if *self == b'"' || *self == b'\\' {
             out.push(b'\\')?;
@@ -134,7 +137,7 @@ impl Listed for u8 {
 }
 
 /// Appends a default. Err: an allocation fails.
-#[tactic(auto, unfolding(crate::specs::Canonical::literal_text))]
+#[tactic(auto, unfolding(crate::specs::promise::Canonical::literal_text))]
 fn put_literal(alloc: Global, out: &mut Vec<u8>, value: &Literal) -> Result<(), AllocError>
     ensures { IfOk result (λ _. out.new.items ≡ out.old.items ++ literal_text value.now) }
 {
@@ -152,7 +155,7 @@ fn put_literal(alloc: Global, out: &mut Vec<u8>, value: &Literal) -> Result<(), 
 
 /// Appends an attribute if it is `there`, after a comma if `before` is true, otherwise after the
 /// opening bracket. Err: an allocation fails.
-#[tactic(auto, unfolding(crate::specs::Canonical::mark_text))]
+#[tactic(auto, unfolding(crate::specs::promise::Canonical::mark_text))]
 fn put_mark(out: &mut Vec<u8>, before: bool, there: bool, text: &[u8]) -> Result<(), AllocError>
     ensures { IfOk result (λ _. out.new.items ≡ out.old.items ++ mark_text before there text.now) }
 {
@@ -164,7 +167,7 @@ fn put_mark(out: &mut Vec<u8>, before: bool, there: bool, text: &[u8]) -> Result
 }
 
 /// Appends a `defaultvalue` attribute, if there is one. Err: an allocation fails.
-#[tactic(auto, unfolding(crate::specs::Canonical::default_text))]
+#[tactic(auto, unfolding(crate::specs::promise::Canonical::default_text))]
 fn put_default(
     alloc: Global,
     out: &mut Vec<u8>,
@@ -182,7 +185,7 @@ fn put_default(
 }
 
 /// Appends the attributes of a parameter, if it has any. Err: an allocation fails.
-#[tactic(auto, unfolding(crate::specs::Canonical::parameter_marks))]
+#[tactic(auto, unfolding(crate::specs::promise::Canonical::parameter_marks))]
 fn put_marks(alloc: Global, out: &mut Vec<u8>, p: &Parameter) -> Result<(), AllocError>
     ensures { IfOk result (λ _. out.new.items ≡ out.old.items ++ parameter_marks p.now) }
 {
@@ -204,7 +207,7 @@ fn put_name(out: &mut Vec<u8>, name: &Name) -> Result<(), AllocError>
 }
 
 /// Appends a parameter. Err: an allocation fails.
-#[tactic(auto, unfolding(crate::specs::Canonical::parameter_text, crate::specs::Canonical::named_text))]
+#[tactic(auto, unfolding(crate::specs::promise::Canonical::parameter_text, crate::specs::promise::Canonical::named_text))]
 fn put_parameter(alloc: Global, out: &mut Vec<u8>, p: &Parameter) -> Result<(), AllocError>
     ensures { IfOk result (λ _. out.new.items ≡ out.old.items ++ parameter_text p.now) }
 {
@@ -217,7 +220,7 @@ fn put_parameter(alloc: Global, out: &mut Vec<u8>, p: &Parameter) -> Result<(), 
 impl Listed for Parameter {
     ghost text = { further_text };
 
-    #[tactic(auto, unfolding(crate::specs::Canonical::further_text))]
+    #[tactic(auto, unfolding(crate::specs::promise::Canonical::further_text))]
     fn put(&self, alloc: Global, out: &mut Vec<u8>) -> Result<(), AllocError> {
         put(out, b", ")?;
         put_parameter(alloc, out, self)
@@ -225,7 +228,7 @@ impl Listed for Parameter {
 }
 
 /// Appends parameters, separated by commas. Err: an allocation fails.
-#[tactic(auto, unfolding(crate::specs::Canonical::parameters_text))]
+#[tactic(auto, unfolding(crate::specs::promise::Canonical::parameters_text))]
 fn put_parameters(alloc: Global, out: &mut Vec<u8>, all: &[Parameter]) -> Result<(), AllocError>
     ensures { IfOk result (λ _. out.new.items ≡ out.old.items ++ parameters_text all.now) }
 {
@@ -237,7 +240,7 @@ fn put_parameters(alloc: Global, out: &mut Vec<u8>, all: &[Parameter]) -> Result
 }
 
 /// Appends an `id` attribute and the end of the list of attributes. Err: an allocation fails.
-#[tactic(auto, unfolding(crate::specs::Canonical::id_text))]
+#[tactic(auto, unfolding(crate::specs::promise::Canonical::id_text))]
 fn put_id(alloc: Global, out: &mut Vec<u8>, id: i32, end: &[u8]) -> Result<(), AllocError>
     ensures { IfOk result (λ _. out.new.items ≡ out.old.items ++ id_text id end.now) }
 {
@@ -256,7 +259,7 @@ fn readonly_mark(readonly: bool) -> &'static [u8]
 impl Listed for Property {
     ghost text = { property_text };
 
-    #[tactic(auto, unfolding(crate::specs::Canonical::property_text, crate::specs::Canonical::named_text))]
+    #[tactic(auto, unfolding(crate::specs::promise::Canonical::property_text, crate::specs::promise::Canonical::named_text))]
     fn put(&self, alloc: Global, out: &mut Vec<u8>) -> Result<(), AllocError> {
         put_id(alloc, out, self.id, readonly_mark(self.readonly))?;
         put_type(out, self.value_type)?;
@@ -277,7 +280,7 @@ fn kind_mark(kind: MethodKind) -> &'static [u8]
 }
 
 /// Appends parameters in parentheses. Err: an allocation fails.
-#[tactic(auto, unfolding(crate::specs::Canonical::list_text))]
+#[tactic(auto, unfolding(crate::specs::promise::Canonical::list_text))]
 fn put_list(alloc: Global, out: &mut Vec<u8>, all: &[Parameter]) -> Result<(), AllocError>
     ensures { IfOk result (λ _. out.new.items ≡ out.old.items ++ list_text all.now) }
 {
@@ -289,7 +292,7 @@ fn put_list(alloc: Global, out: &mut Vec<u8>, all: &[Parameter]) -> Result<(), A
 impl Listed for Method {
     ghost text = { method_text };
 
-    #[tactic(auto, unfolding(crate::specs::Canonical::method_text, crate::specs::Canonical::named_text))]
+    #[tactic(auto, unfolding(crate::specs::promise::Canonical::method_text, crate::specs::promise::Canonical::named_text))]
     fn put(&self, alloc: Global, out: &mut Vec<u8>) -> Result<(), AllocError> {
         put_id(alloc, out, self.id, kind_mark(self.kind))?;
         put_result(out, self.value_type)?;
@@ -312,7 +315,7 @@ fn entry_word(is_default: bool) -> &'static [u8]
 impl Listed for Entry {
     ghost text = { entry_text };
 
-    #[tactic(auto, unfolding(crate::specs::Canonical::entry_text))]
+    #[tactic(auto, unfolding(crate::specs::promise::Canonical::entry_text))]
     fn put(&self, _alloc: Global, out: &mut Vec<u8>) -> Result<(), AllocError> {
         put(out, entry_word(self.is_default))?;
         put(out, self.interface.as_bytes())?;
@@ -321,7 +324,7 @@ impl Listed for Entry {
 }
 
 /// Appends the digits of a GUID. Err: an allocation fails.
-#[tactic(auto, unfolding(crate::specs::Canonical::digits_text))]
+#[tactic(auto, unfolding(crate::specs::promise::Canonical::digits_text))]
 fn put_digits(alloc: Global, out: &mut Vec<u8>, guid: Uuid) -> Result<(), AllocError>
     ensures { IfOk result (λ _. out.new.items ≡ out.old.items ++ digits_text guid) }
 {
@@ -330,7 +333,7 @@ fn put_digits(alloc: Global, out: &mut Vec<u8>, guid: Uuid) -> Result<(), AllocE
 }
 
 /// Appends a `uuid` attribute and its opening bracket. Err: an allocation fails.
-#[tactic(auto, unfolding(crate::specs::Canonical::guid_text))]
+#[tactic(auto, unfolding(crate::specs::promise::Canonical::guid_text))]
 fn put_guid(alloc: Global, out: &mut Vec<u8>, guid: Uuid) -> Result<(), AllocError>
     ensures { IfOk result (λ _. out.new.items ≡ out.old.items ++ guid_text guid) }
 {
@@ -340,7 +343,7 @@ fn put_guid(alloc: Global, out: &mut Vec<u8>, guid: Uuid) -> Result<(), AllocErr
 }
 
 /// Returns the text between the GUID and the name of an interface.
-#[tactic(auto, unfolding(crate::specs::Canonical::interface_line))]
+#[tactic(auto, unfolding(crate::specs::promise::Canonical::interface_line))]
 fn interface_line() -> &'static [u8]
     ensures { result.now ≡ interface_line }
 {
@@ -348,7 +351,7 @@ fn interface_line() -> &'static [u8]
 }
 
 /// Returns the line of the section `properties:`.
-#[tactic(auto, unfolding(crate::specs::Canonical::properties_line))]
+#[tactic(auto, unfolding(crate::specs::promise::Canonical::properties_line))]
 fn properties_line() -> &'static [u8]
     ensures { result.now ≡ properties_line }
 {
@@ -356,7 +359,7 @@ fn properties_line() -> &'static [u8]
 }
 
 /// Appends the section `properties:`. Err: an allocation fails.
-#[tactic(auto, unfolding(crate::specs::Canonical::properties_text))]
+#[tactic(auto, unfolding(crate::specs::promise::Canonical::properties_text))]
 fn put_first_section(alloc: Global, out: &mut Vec<u8>, all: &[Property]) -> Result<(), AllocError>
     ensures { IfOk result (λ _. out.new.items ≡ out.old.items ++ properties_text all.now) }
 {
@@ -365,7 +368,7 @@ fn put_first_section(alloc: Global, out: &mut Vec<u8>, all: &[Property]) -> Resu
 }
 
 /// Appends the section `methods:` and the closing brace. Err: an allocation fails.
-#[tactic(auto, unfolding(crate::specs::Canonical::methods_text))]
+#[tactic(auto, unfolding(crate::specs::promise::Canonical::methods_text))]
 fn put_second_section(alloc: Global, out: &mut Vec<u8>, all: &[Method]) -> Result<(), AllocError>
     ensures { IfOk result (λ _. out.new.items ≡ out.old.items ++ methods_text all.now) }
 {
@@ -375,7 +378,7 @@ fn put_second_section(alloc: Global, out: &mut Vec<u8>, all: &[Method]) -> Resul
 }
 
 /// Appends the first lines of an item, up to its opening brace. Err: an allocation fails.
-#[tactic(auto, unfolding(crate::specs::Canonical::title_text))]
+#[tactic(auto, unfolding(crate::specs::promise::Canonical::title_text))]
 fn put_title(
     alloc: Global,
     out: &mut Vec<u8>,
@@ -392,7 +395,7 @@ fn put_title(
 }
 
 /// Appends an interface. Err: an allocation fails.
-#[tactic(auto, unfolding(crate::specs::Canonical::interface_text))]
+#[tactic(auto, unfolding(crate::specs::promise::Canonical::interface_text))]
 fn put_interface(alloc: Global, out: &mut Vec<u8>, d: &Interface) -> Result<(), AllocError>
     ensures { IfOk result (λ _. out.new.items ≡ out.old.items ++ interface_text d.now) }
 {
@@ -402,7 +405,7 @@ fn put_interface(alloc: Global, out: &mut Vec<u8>, d: &Interface) -> Result<(), 
 }
 
 /// Appends a coclass. Err: an allocation fails.
-#[tactic(auto, unfolding(crate::specs::Canonical::coclass_text))]
+#[tactic(auto, unfolding(crate::specs::promise::Canonical::coclass_text))]
 fn put_coclass(alloc: Global, out: &mut Vec<u8>, c: &Coclass) -> Result<(), AllocError>
     ensures { IfOk result (λ _. out.new.items ≡ out.old.items ++ coclass_text c.now) }
 {
@@ -414,7 +417,7 @@ fn put_coclass(alloc: Global, out: &mut Vec<u8>, c: &Coclass) -> Result<(), Allo
 impl Listed for Item {
     ghost text = { item_text };
 
-    #[tactic(auto, unfolding(crate::specs::Canonical::item_text))]
+    #[tactic(auto, unfolding(crate::specs::promise::Canonical::item_text))]
     fn put(&self, alloc: Global, out: &mut Vec<u8>) -> Result<(), AllocError> {
         match self {
             Item::Interface(interface) => put_interface(alloc, out, interface),
@@ -424,7 +427,7 @@ impl Listed for Item {
 }
 
 /// Appends the `version` attribute and the keyword of a library. Err: an allocation fails.
-#[tactic(auto, unfolding(crate::specs::Canonical::version_text))]
+#[tactic(auto, unfolding(crate::specs::promise::Canonical::version_text))]
 fn put_version(alloc: Global, out: &mut Vec<u8>, version: Version) -> Result<(), AllocError>
     ensures { IfOk result (λ _. out.new.items ≡ out.old.items ++ version_text version) }
 {
@@ -436,7 +439,7 @@ fn put_version(alloc: Global, out: &mut Vec<u8>, version: Version) -> Result<(),
 }
 
 /// Appends a whole tree. Err: an allocation fails.
-#[tactic(auto, unfolding(crate::specs::Canonical::canonical, crate::specs::Canonical::title_text))]
+#[tactic(auto, unfolding(crate::specs::promise::Canonical::canonical, crate::specs::promise::Canonical::title_text))]
 fn put_tree(alloc: Global, out: &mut Vec<u8>, tree: &Tree) -> Result<(), AllocError>
     ensures { IfOk result (λ _. out.new.items ≡ out.old.items ++ canonical tree.now) }
 {

@@ -1,6 +1,6 @@
 -- Decoding values one after another, if one of them fails.
 use Rattle.std.proofs.Common.{◌≡◌, ℕ, ◌-◌, ◌<◌, List, Option}
-use Rattle.oa_ndr.specs.Reading.{Cursor, Decoder, many}
+use Rattle.oa_ndr.specs.promise.Reading.{Cursor, Decoder, many}
 use Rattle.oa_ndr.proofs.Loop.{with_front, many_ends}
 use Rattle.oa_record.specs.Reading.{ReadingFails}
 use Rattle.oa_record.specs.declared.fault.RecordFault.{RecordFault}

@@ -5,12 +5,13 @@ use Rattle.std.proofs.lemmas.Bool.Decides.{nat_tests}
 use Rattle.std.proofs.lemmas.List.{drop-drop, length-drop}
 use Rattle.std.specs.Int.{w32, cast_signed}
 use Rattle.byteorder.specs.Endian.{little_number}
-use Rattle.oa_model.specs.Guids.{wire_order}
-use Rattle.oa_model.specs.Limits.{max_arguments}
-use Rattle.oa_ndr.specs.Forms.{padding}
-use Rattle.oa_ndr.specs.Reading.{Cursor, at, moved, and_then, steps, bytes_at, slot_at, unit_at, whole}
-use Rattle.oa_record.specs.CallParts.{CallParts}
-use Rattle.oa_record.specs.Layouts.{Layout}
+use Rattle.oa_model.specs.promise.Guids.{wire_order}
+use Rattle.oa_model.specs.promise.Limits.{max_arguments}
+use Rattle.oa_ndr.specs.promise.Forms.{padding}
+use Rattle.oa_ndr.specs.promise.Reading.{Cursor, at, moved, and_then, bytes_at}
+use Rattle.oa_ndr.specs.Reading.{steps, slot_at, unit_at, whole}
+use Rattle.oa_record.specs.promise.CallParts.{CallParts}
+use Rattle.oa_record.specs.promise.Layouts.{Layout}
 use Rattle.oa_record.specs.declared.opcode.ByCall.TheVariants as by_call
 use Rattle.oa_record.specs.Reading.{guid_at, dispid_at, call_head_at, call_at, fields_at, lists_at, layout_by_opcode, layout_at}
 use Rattle.oa_record.specs.declared.request.CallHead.{CallHead}

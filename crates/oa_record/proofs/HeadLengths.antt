@@ -1,12 +1,14 @@
 -- The number of bytes that are there before an allocation: those of a head and its counts.
 use Rattle.std.proofs.Common.{◌≡◌, ℕ, ℤ, ◌+◌, ◌≤◌, List, length, Some, ap, arith}
 use Rattle.std.proofs.lemmas.List.{length-append}
-use Rattle.oa_ndr.specs.Forms.{◌▸◌, ignored, unit}
-use Rattle.oa_ndr.specs.Reading.{Cursor, at, unit_at}
+use Rattle.oa_ndr.specs.promise.Forms.{◌▸◌, ignored, unit}
+use Rattle.oa_ndr.specs.promise.Reading.{Cursor, at}
+use Rattle.oa_ndr.specs.Reading.{unit_at}
 use Rattle.oa_ndr.proofs.Laws.{unit_reads}
-use Rattle.oa_record.specs.CallParts.{CallParts}
-use Rattle.oa_record.specs.Layouts.{Layout, opcode_of, guid, dispid, call_head, call_parts, get_ids, fields, layout}
-use Rattle.oa_record.specs.Opcodes.{before_memory}
+use Rattle.oa_record.specs.promise.CallParts.{CallParts}
+use Rattle.oa_record.specs.promise.Layouts.{Layout, opcode_of, guid, dispid, call_head, call_parts, get_ids, fields}
+use Rattle.oa_record.specs.promise.Layouts.{layout}
+use Rattle.oa_record.specs.promise.Opcodes.{before_memory}
 use Rattle.oa_record.specs.Reading.{guid_at, call_head_at, FaultIsBehind}
 use Rattle.oa_record.specs.declared.request.CallHead.{CallHead}
 use Rattle.oa_record.specs.declared.request.GetIds.{GetIds}

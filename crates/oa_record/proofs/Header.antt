@@ -2,11 +2,13 @@
 use Rattle.std.proofs.Common.{◌≡◌, ℕ, ◌+◌, ◌<◌, ◌≤◌, List, [], ◌∷◌, ◌++◌, length, drop, Some, ap, subst, sym, ◌∙◌, arith}
 use Rattle.std.proofs.lemmas.List.{drop_at, length-append}
 use Rattle.byteorder.specs.Endian.{little_number}
-use Rattle.oa_ndr.specs.Forms.{padding, unit}
-use Rattle.oa_ndr.specs.Reading.{Cursor, at, unit_at}
+use Rattle.oa_ndr.specs.promise.Forms.{padding, unit}
+use Rattle.oa_ndr.specs.promise.Reading.{Cursor, at}
+use Rattle.oa_ndr.specs.Reading.{unit_at}
 use Rattle.oa_ndr.proofs.Laws.{unit_reads}
-use Rattle.oa_record.specs.Layouts.{Layout, opcode_of, layout}
-use Rattle.oa_record.specs.Opcodes.{opcode_number, opcode_named, opcode_at, before_memory, some_before_memory, opcode_before_memory}
+use Rattle.oa_record.specs.promise.Layouts.{Layout, opcode_of, layout}
+use Rattle.oa_record.specs.promise.Opcodes.{opcode_number, opcode_named, opcode_at, before_memory, some_before_memory}
+use Rattle.oa_record.specs.promise.Opcodes.{opcode_before_memory}
 use Rattle.oa_record.specs.declared.opcode.Opcode.{Opcode}
 use Rattle.oa_record.specs.Reading.{IsStarved, IsStarvedBody}
 use Rattle.oa_record.specs.declared.fault.RecordFault.{RecordFault}

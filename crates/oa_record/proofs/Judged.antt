@@ -5,13 +5,14 @@ use Rattle.std.proofs.lemmas.List.{take_more, drop_more, take-append-drop, get_o
 use Rattle.std.specs.List.{drop-map}
 use Rattle.std.specs.List.{AllByRecursion}
 use Rattle.oa_variant.specs.declared.variant.Variant.{Variant}
-use Rattle.oa_wire_variant.specs.Variants.{Spells, ReadsVariant, field_fault}
+use Rattle.oa_wire_variant.specs.promise.Variants.{Spells, field_fault}
+use Rattle.oa_wire_variant.specs.Variants.{ReadsVariant}
 use Rattle.oa_wire_array.specs.declared.fault.WireFault.{WireFault}
 use Rattle.oa_wire_array.specs.declared.fault.WireFault.TheVariants as faults
 use Rattle.oa_record.specs.declared.fault.RecordFault.{RecordFault}
 use Rattle.oa_record.specs.declared.fault.RecordFault.TheVariants.{Stub, BadVarType, Memory}
 use Rattle.oa_record.specs.Judging.{RefusesFields, TestsFields, TestsField}
-use Rattle.oa_record.specs.Asks.{AllSpell, IsSpelled, IsUnbroken, SpellsNothing, HasBroken, HasBadType}
+use Rattle.oa_record.specs.promise.Asks.{AllSpell, IsSpelled, IsUnbroken, SpellsNothing, HasBroken, HasBadType}
 
 abbrev pub shown : List (Bor (List ℕ)) → List (List ℕ)
 shown xs = map (λ (x : Bor (List ℕ)). x.now) xs

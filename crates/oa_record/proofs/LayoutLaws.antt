@@ -3,26 +3,27 @@ use Rattle.std.proofs.Common.{◌≡◌, ℕ, ℤ, ◌+◌, ◌≤◌, Bool, tru
 use Rattle.std.proofs.Common.{sym, ap, subst, ◌∙◌, arith}
 use Rattle.std.proofs.lemmas.Bool.{leb-true, leb-false}
 use Rattle.std.specs.Int.{w32, cast_signed}
-use Rattle.oa_model.specs.Limits.{max_arguments, max_dimensions, max_names}
-use Rattle.oa_model.specs.Guids.{wire_order}
+use Rattle.oa_model.specs.promise.Limits.{max_arguments, max_dimensions, max_names}
+use Rattle.oa_model.specs.promise.Guids.{wire_order}
 use Rattle.oa_model.specs.declared.bound.Bound.{Bound}
-use Rattle.oa_ndr.specs.Forms.{unit, exactly, each, nothing}
-use Rattle.oa_ndr.specs.Reading.{Cursor, at}
+use Rattle.oa_ndr.specs.promise.Forms.{unit, exactly, each, nothing}
+use Rattle.oa_ndr.specs.promise.Reading.{Cursor, at}
 use Rattle.oa_ndr.proofs.Laws.{Reads, Takes, Always, all_always, fail_reads, choose_reads, give_reads, none_reads, unit_reads, bytes_reads}
 use Rattle.oa_ndr.proofs.Laws.{align_reads, align_then, bind_reads, with_reads, told_reads, made_from, made_reads, made_takes, made_again}
 use Rattle.oa_ndr.proofs.Laws.{nothing_takes, nothing_again, many_reads, ignored_then, given_then, same_values}
-use Rattle.oa_wire_array.specs.Arrays.{bound}
+use Rattle.oa_wire_array.specs.promise.Arrays.{bound}
 use Rattle.oa_wire_array.specs.ArrayReading.{bound_at}
 use Rattle.oa_wire_array.proofs.ScalarLaws.{signed_reads}
-use Rattle.oa_record.specs.CallParts.{CallParts, ElementParts, PutParts, RedimParts}
-use Rattle.oa_record.specs.Opcodes.{opcode_number, opcode_named}
+use Rattle.oa_record.specs.promise.CallParts.{CallParts, ElementParts, PutParts, RedimParts}
+use Rattle.oa_record.specs.promise.Opcodes.{opcode_number, opcode_named}
 use Rattle.oa_record.proofs.OpcodeLaws.{named_back, number_from, same_opcode}
 use Rattle.oa_record.specs.declared.opcode.Opcode.{Opcode}
 use Rattle.oa_record.specs.declared.opcode.Opcode.TheVariants as opcodes
 use Rattle.oa_record.specs.declared.request.CallHead.{CallHead}
 use Rattle.oa_record.specs.declared.request.GetIds.{GetIds}
-use Rattle.oa_record.specs.Layouts.{Layout, opcode_of, guid, dispid, field, call_head, call_parts, index_list, element_parts, put_parts}
-use Rattle.oa_record.specs.Layouts.{redim_parts, string, get_ids, number, fields, layout}
+use Rattle.oa_record.specs.promise.Layouts.{Layout, opcode_of, guid, dispid, field, call_head, call_parts, index_list}
+use Rattle.oa_record.specs.promise.Layouts.{element_parts, put_parts, redim_parts, string, get_ids, number, fields}
+use Rattle.oa_record.specs.promise.Layouts.{layout}
 use Rattle.oa_record.specs.Reading.{guid_at, dispid_at, field_at, head_of, call_head_at, parts_of, lists_at, call_at, index_list_at}
 use Rattle.oa_record.specs.Reading.{indices_at, parts_of_element, element_at, put_of, put_at, redim_of, redim_at, string_at, ids_of, names_at}
 use Rattle.oa_record.specs.Reading.{get_ids_at, number_at, fields_at, layout_by_opcode, layout_at}

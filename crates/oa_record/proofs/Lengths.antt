@@ -5,10 +5,11 @@ use Rattle.std.proofs.lemmas.Bool.{eqb-false}
 use Rattle.std.proofs.lemmas.List.{append-nil, length-append, length-replicate}
 use Rattle.std.proofs.lemmas.List.Concat.{flat_map-cons}
 use Rattle.std.specs.List.{flat_map}
-use Rattle.oa_model.specs.Limits.{max_names}
-use Rattle.oa_ndr.specs.Forms.{padding}
+use Rattle.oa_model.specs.promise.Limits.{max_names}
+use Rattle.oa_ndr.specs.promise.Forms.{padding}
 use Rattle.oa_ndr.specs.Writing.{FieldOutput, field_after, in_field}
-use Rattle.oa_record.specs.Replies.{word, half_word, max_fields_bytes, max_value_bytes, signed_word, number_field, padded}
+use Rattle.oa_record.specs.promise.Replies.{word, half_word, signed_word, number_field, padded}
+use Rattle.oa_record.specs.Replies.{max_fields_bytes, max_value_bytes}
 
 pub signed_length : (ids : List ℤ) → length (flat_map signed_word ids) ≡ 4 * length ids
 unfolding word

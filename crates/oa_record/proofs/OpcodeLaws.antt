@@ -1,7 +1,7 @@
 -- Each opcode has one number, and each number at most one opcode.
 use Rattle.std.proofs.Common.{◌≡◌, ℕ, Bool, true, false, eqb, cond, Option, Some, refl, sym, ap, ◌∙◌}
 use Rattle.std.proofs.lemmas.Bool.{eqb-true}
-use Rattle.oa_record.specs.Opcodes.{opcode_number, opcode_named}
+use Rattle.oa_record.specs.promise.Opcodes.{opcode_number, opcode_named}
 use Rattle.oa_record.specs.declared.opcode.Opcode.{Opcode}
 use Rattle.oa_record.specs.declared.opcode.Opcode.TheVariants as opcodes
 use Rattle.oa_record.specs.declared.opcode.ByCall.TheVariants as by_call

@@ -1,10 +1,10 @@
 -- A body has one refusal.
 use Rattle.std.proofs.Common.{◌≡◌, inl, inr, ℕ, suc, List, [], ◌∷◌, ◌++◌, length, drop, Option, refl, sym, ap, subst, ◌∙◌}
 use Rattle.std.specs.List.{AllByRecursion}
-use Rattle.oa_wire_variant.specs.Variants.{Spells}
+use Rattle.oa_wire_variant.specs.promise.Variants.{Spells}
 use Rattle.oa_wire_array.specs.declared.fault.WireFault.TheVariants as faults
-use Rattle.oa_record.specs.Layouts.{variant_fields}
-use Rattle.oa_record.specs.Asks.{field_index, IsSpelled, IsUnbroken, SpellsNothing, IsStub, IsBadVarType}
+use Rattle.oa_record.specs.promise.Layouts.{variant_fields}
+use Rattle.oa_record.specs.promise.Asks.{field_index, IsSpelled, IsUnbroken, SpellsNothing, IsStub, IsBadVarType}
 use Rattle.oa_record.proofs.Requests.{one_layout}
 
 one_fault : (field : List ℕ) → SpellsNothing field faults.BadVarType → SpellsNothing field faults.BadStub → ⊥

@@ -1,24 +1,26 @@
 -- A body asks one request, or is refused.
 use Rattle.std.proofs.Common.{◌≡◌, inl, inr, ℕ, ℤ, ◌+◌, ◌<◌, ◌≤◌, List, [], ◌∷◌, ◌++◌, length, Option, Some, None, Result, Ok, Err, refl, sym}
 use Rattle.std.proofs.Common.{ap, subst, ◌∙◌, arith}
-use Rattle.oa_model.specs.Limits.{max_request_bytes}
+use Rattle.oa_model.specs.promise.Limits.{max_request_bytes}
 use Rattle.oa_ndr.specs.Reading.{whole}
 use Rattle.oa_ndr.proofs.Laws.{one_value, whole_takes, whole_again}
 use Rattle.oa_variant.specs.declared.variant.Variant.{Variant}
-use Rattle.oa_wire_variant.specs.Variants.{Spells}
+use Rattle.oa_wire_variant.specs.promise.Variants.{Spells}
 use Rattle.oa_wire_array.specs.declared.fault.WireFault.{WireFault}
-use Rattle.oa_record.specs.CallParts.{CallParts}
-use Rattle.oa_record.specs.Layouts.{Layout, opcode_of, variant_fields}
-use Rattle.oa_record.specs.Opcodes.{opcode_number, opcode_at, before_memory, some_before_memory, opcode_before_memory}
+use Rattle.oa_record.specs.promise.CallParts.{CallParts}
+use Rattle.oa_record.specs.promise.Layouts.{Layout, opcode_of, variant_fields}
+use Rattle.oa_record.specs.promise.Opcodes.{opcode_number, opcode_at, before_memory, some_before_memory}
+use Rattle.oa_record.specs.promise.Opcodes.{opcode_before_memory}
 use Rattle.oa_record.specs.Reading.{parts_of_element, put_of, layout_at, ReadingFails, IsStarvedBody}
 use Rattle.oa_record.specs.Judging.{Requests, RefusesFields, TakesRequest, put_fault, put_index}
 use Rattle.oa_record.specs.declared.opcode.Opcode.TheVariants as opcodes
 use Rattle.oa_record.specs.declared.fault.RecordFault.{RecordFault}
 use Rattle.oa_record.specs.declared.fault.RecordFault.TheVariants.{Stub, BadVarType, Memory}
 use Rattle.oa_record.specs.declared.request.Request.TheVariants as requests
-use Rattle.oa_record.specs.Asks.{HasLayout, AllSpell, call_of, field_index, split_last, request_of, request_opcode, Asks, SpellsNothing}
-use Rattle.oa_record.specs.Asks.{HasBroken}
-use Rattle.oa_record.specs.Asks.{HasBadType, HasNoLayout, IsStub, IsBadVarType, IsRequest}
+use Rattle.oa_record.specs.promise.Asks.{HasLayout, AllSpell, call_of, field_index, split_last, request_of}
+use Rattle.oa_record.specs.promise.Asks.{request_opcode, Asks, SpellsNothing, HasBroken, HasBadType, HasNoLayout}
+use Rattle.oa_record.specs.promise.Asks.{IsStub, IsBadVarType}
+use Rattle.oa_record.specs.Asks.{IsRequest}
 use Rattle.oa_record.specs.declared.request.Request.{Request}
 use Rattle.oa_record.specs.declared.request.Call.{Call}
 use Rattle.oa_record.proofs.LayoutLaws.{layout_reads}

@@ -2,14 +2,15 @@
 -- project's choice.)
 use Rattle.std.specs.Prelude.{◌≡◌, ℕ, ℤ, ◌+◌, ◌<◌, ◌≤◌, ◌&&◌, nat_le, List, length, Option, Some, None, Result, Ok, Err}
 use Rattle.std.specs.Int.{w32, cast_signed}
-use Rattle.oa_model.specs.Limits.{max_arguments, max_dimensions, max_names}
-use Rattle.oa_ndr.specs.Reading.{Cursor, Decoder, ◌>>=◌, give, fail, choose, unit_at, bytes_at, align_at, many}
-use Rattle.oa_model.specs.Guids.{wire_order}
+use Rattle.oa_model.specs.promise.Limits.{max_arguments, max_dimensions, max_names}
+use Rattle.oa_ndr.specs.promise.Reading.{Cursor, Decoder, ◌>>=◌, give, fail, bytes_at, many}
+use Rattle.oa_ndr.specs.Reading.{choose, unit_at, align_at}
+use Rattle.oa_model.specs.promise.Guids.{wire_order}
 use Rattle.oa_model.specs.declared.bound.Bound.{Bound}
 use Rattle.oa_wire_array.specs.ArrayReading.{bound_at}
-use Rattle.oa_record.specs.CallParts.{CallParts, ElementParts, PutParts, RedimParts}
-use Rattle.oa_record.specs.Layouts.{Layout}
-use Rattle.oa_record.specs.Opcodes.{opcode_named, opcode_at, opcode_before_memory, before_memory}
+use Rattle.oa_record.specs.promise.CallParts.{CallParts, ElementParts, PutParts, RedimParts}
+use Rattle.oa_record.specs.promise.Layouts.{Layout}
+use Rattle.oa_record.specs.promise.Opcodes.{opcode_named, opcode_at, opcode_before_memory, before_memory}
 use Rattle.oa_record.specs.declared.opcode.Opcode.{Opcode}
 use Rattle.oa_record.specs.declared.opcode.Opcode.TheVariants as opcodes
 use Rattle.oa_record.specs.declared.request.CallHead.{CallHead}

@@ -2,12 +2,13 @@
 use Rattle.std.specs.Prelude.{ℕ, ℤ, negsuc, ◌&&◌, nat_le, List, [], ◌∷◌, take, drop, Option, Some, None}
 use Rattle.std.specs.Int.{w32, cast_signed}
 use Rattle.byteorder.specs.Endian.{little_number}
-use Rattle.oa_model.specs.Guids.{wire_order}
-use Rattle.oa_model.specs.Limits.{max_arguments}
-use Rattle.oa_ndr.specs.Reading.{Decoder, choose, fail}
+use Rattle.oa_model.specs.promise.Guids.{wire_order}
+use Rattle.oa_model.specs.promise.Limits.{max_arguments}
+use Rattle.oa_ndr.specs.promise.Reading.{Decoder, fail}
+use Rattle.oa_ndr.specs.Reading.{choose}
 use Rattle.oa_variant.specs.declared.variant.Variant.{Variant}
-use Rattle.oa_wire_variant.specs.Variants.{Spells}
-use Rattle.oa_record.specs.CallParts.{CallParts}
+use Rattle.oa_wire_variant.specs.promise.Variants.{Spells}
+use Rattle.oa_record.specs.promise.CallParts.{CallParts}
 use Rattle.oa_record.specs.declared.request.Call.{Call}
 use Rattle.oa_record.specs.Reading.{head_of, lists_at}
 use Rattle.oa_record.specs.declared.request.CallHead.{CallHead}

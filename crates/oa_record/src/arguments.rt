@@ -1,6 +1,6 @@
 //! The lists of a call: DISPIDs and arguments.
 ghost use Rattle.std.specs.Prelude.{◌≡◌, ◌≤◌, length};
-ghost use Rattle.oa_model.specs.Limits.{max_arguments};
+ghost use Rattle.oa_model.specs.promise.Limits.{max_arguments};
 
 use oa_variant::Variant;
 use std::marker::Model;
@@ -14,7 +14,7 @@ pub struct Dispids {
 
 impl Model for Dispids {
     ghost use Rattle.std.specs.Prelude.{List, ℤ, ◌≤◌, length};
-    ghost use Rattle.oa_model.specs.Limits.{max_arguments};
+    ghost use Rattle.oa_model.specs.promise.Limits.{max_arguments};
 
     ghost Value = { List ℤ };
 
@@ -50,7 +50,7 @@ pub struct Arguments {
 
 impl Model for Arguments {
     ghost use Rattle.std.specs.Prelude.{List, ◌≤◌, length};
-    ghost use Rattle.oa_model.specs.Limits.{max_arguments};
+    ghost use Rattle.oa_model.specs.promise.Limits.{max_arguments};
     ghost use Rattle.oa_variant.specs.declared.variant.Variant.{Variant as AVariant};
 
     ghost Value = { List AVariant };

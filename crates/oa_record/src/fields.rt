@@ -1,14 +1,16 @@
 //! The fields of replies. Each is built as a `Vec` of its own, or appended to one.
 ghost use Rattle.std.specs.Prelude.{[], ◌≡◌, ◌↔◌, ◌<◌, ◌≤◌, ◌+◌, ◌++◌, length, replicate, take, IfOk, IsErrOf, OnErr, OnOk};
 ghost use Rattle.std.specs.List.{flat_map};
-ghost use Rattle.oa_model.specs.Limits.{max_names};
-ghost use Rattle.oa_ndr.specs.Forms.{padding};
+ghost use Rattle.oa_model.specs.promise.Limits.{max_names};
+ghost use Rattle.oa_ndr.specs.promise.Forms.{padding};
 ghost use Rattle.oa_variant.specs.declared.variant.Variant.TheVariants.{One};
-ghost use Rattle.oa_ndr.specs.Writing.{put_unit};
-ghost use Rattle.oa_wire_array.specs.Canon.{max_wire_scalar, put_head};
-ghost use Rattle.oa_wire_variant.specs.Canon.{canon};
-ghost use Rattle.oa_record.specs.Replies.{word, half_word, lost_field, max_fields_bytes, max_value_bytes, signed_word, number_field};
-ghost use Rattle.oa_record.specs.Replies.{object_field, variant_field, ids_field, string_field};
+ghost use Rattle.oa_ndr.specs.promise.Writing.{put_unit};
+ghost use Rattle.oa_wire_array.specs.Canon.{max_wire_scalar};
+ghost use Rattle.oa_wire_array.specs.promise.Canon.{put_head};
+ghost use Rattle.oa_wire_variant.specs.promise.Canon.{canon};
+ghost use Rattle.oa_record.specs.promise.Replies.{word, half_word, lost_field, signed_word, number_field, object_field};
+ghost use Rattle.oa_record.specs.promise.Replies.{variant_field, ids_field, string_field};
+ghost use Rattle.oa_record.specs.Replies.{max_fields_bytes, max_value_bytes};
 ghost use Rattle.oa_record.specs.declared.fault.FieldFault.TheVariants.{TooLong};
 
 use crate::FieldFault;
@@ -29,7 +31,7 @@ pub const MAX_FIELDS_BYTES: usize = 4_294_967_275;
 const MAX_VALUE_BYTES: usize = (MAX_FIELDS_BYTES - 8) / 8 * 8;
 
 /// Encodes a u32 and a reserved u32, which is 0, in 8 bytes.
-#[tactic(auto, unfolding(crate::specs::Replies::word))]
+#[tactic(auto, unfolding(crate::specs::promise::Replies::word))]
 fn two_words(number: u32) -> [u8; 8]
     ensures { result ≡ number_field number }
 {
@@ -113,7 +115,7 @@ pub fn lost_field(alloc: Global, guid: &Uuid, dispid: i32) -> Result<Vec<u8>, Al
 }
 
 /// Encodes a value field with a long (VT_I4), all 32 bytes at once.
-#[tactic(auto, unfolding(crate::specs::Replies::word))]
+#[tactic(auto, unfolding(crate::specs::promise::Replies::word))]
 fn long_field(bits: u32) -> [u8; 32]
     ensures { result ≡ number_field 24 ++ put_unit 4 bits (put_unit 4 3 (put_head 3 3 [])) }
 {
@@ -181,7 +183,7 @@ pub fn variant_field(alloc: Global, value: &Variant) -> Result<Vec<u8>, FieldFau
 }
 
 /// Returns the length in bytes of the encoding of a scalar as a value.
-#[tactic(auto, unfolding(oa_wire_array::specs::Canon::scalar_len))]
+#[tactic(auto, unfolding(oa_wire_array::specs::promise::Canon::scalar_len))]
 fn one_len(value: &Scalar) -> usize
     ensures value { result ≡ length (canon (One value.now)) }
     ensures small { result ≤ max_wire_scalar }
@@ -238,7 +240,7 @@ pub fn scalar_field(alloc: Global, value: &Scalar) -> Result<Vec<u8>, AllocError
 }
 
 /// Encodes a DISPID in 4 bytes, little-endian.
-#[tactic(auto, unfolding(crate::specs::Replies::word))]
+#[tactic(auto, unfolding(crate::specs::promise::Replies::word))]
 fn signed_bytes(id: i32) -> [u8; 4]
     ensures { result ≡ signed_word id }
 {
@@ -271,7 +273,7 @@ pub fn ids_field(alloc: Global, ids: &[i32]) -> Result<Vec<u8>, AllocError>
 }
 
 /// Encodes an ASCII character as a UTF-16 unit of 2 bytes, little-endian.
-#[tactic(auto, unfolding(crate::specs::Replies::half_word))]
+#[tactic(auto, unfolding(crate::specs::promise::Replies::half_word))]
 fn unit_bytes(character: u8) -> [u8; 2]
     ensures { result ≡ half_word character }
 {

@@ -2,7 +2,8 @@
 ghost use Rattle.std.specs.Prelude.{◌≡◌, ◌≤◌, ◌+◌, map, length, None, Some, IfOk};
 ghost use Rattle.std.specs.Int.{cast_signed, w32};
 ghost use Rattle.std.specs.Option.{option_map};
-ghost use Rattle.oa_ndr.specs.Reading.{many, unit_at, whole};
+ghost use Rattle.oa_ndr.specs.promise.Reading.{many};
+ghost use Rattle.oa_ndr.specs.Reading.{unit_at, whole};
 ghost use Rattle.oa_wire_array.specs.ArrayReading.{bound_at};
 ghost use Rattle.oa_record.specs.Reading.{
   ReadsBody,
@@ -28,7 +29,7 @@ ghost use Rattle.oa_record.specs.Reading.{
   fields_at,
   layout_at,
 };
-ghost use Rattle.oa_record.specs.Layouts.{Layout};
+ghost use Rattle.oa_record.specs.promise.Layouts.{Layout};
 ghost use Rattle.oa_record.specs.Shown.{shown};
 ghost use Rattle.oa_record.specs.ValueCalls.{body_number, guid_in, head_in, invoke_front, lists_behind, parts_bringing};
 ghost use Rattle.oa_record.specs.declared.opcode.Opcode.TheVariants as opcodes;
@@ -50,7 +51,7 @@ use uuid::Uuid;
 const INVOKE_FRONT: usize = 64;
 
 /// Reads a GUID of 16 bytes in wire order. Err: fewer bytes are left.
-#[tactic(auto, unfolding(oa_ndr::specs::Reading::bind, oa_ndr::specs::Reading::give, crate::specs::Reading::guid_at))]
+#[tactic(auto, unfolding(oa_ndr::specs::promise::Reading::bind, oa_ndr::specs::promise::Reading::give, crate::specs::Reading::guid_at))]
 fn guid(r: &mut Ndr<'_>) -> Result<Uuid, Short>
     ensures { ReadsFixed (λ x. x) result r.new (guid_at r.old) }
 {
@@ -61,7 +62,7 @@ fn guid(r: &mut Ndr<'_>) -> Result<Uuid, Short>
 }
 
 /// Reads a DISPID of 4 bytes. Err: fewer bytes are left.
-#[tactic(auto, unfolding(oa_ndr::specs::Reading::bind, oa_ndr::specs::Reading::give, crate::specs::Reading::dispid_at))]
+#[tactic(auto, unfolding(oa_ndr::specs::promise::Reading::bind, oa_ndr::specs::promise::Reading::give, crate::specs::Reading::dispid_at))]
 fn dispid(r: &mut Ndr<'_>) -> Result<i32, Short>
     ensures { ReadsFixed (λ x. x) result r.new (dispid_at r.old) }
 {
@@ -71,7 +72,7 @@ fn dispid(r: &mut Ndr<'_>) -> Result<i32, Short>
 
 /// Reads a variant field and returns its bytes. Err: fewer bytes are left.
 #[inline(always)]
-#[tactic(auto, unfolding(oa_ndr::specs::Reading::bind, oa_ndr::specs::Reading::give, crate::specs::Reading::field_at))]
+#[tactic(auto, unfolding(oa_ndr::specs::promise::Reading::bind, oa_ndr::specs::promise::Reading::give, crate::specs::Reading::field_at))]
 fn field<'a>(r: &mut Ndr<'a>) -> Result<&'a [u8], Short>
     ensures { ReadsFixed (λ x. x.now) result r.new (field_at r.old) }
 {
@@ -336,7 +337,7 @@ fn units(alloc: Global, count: u32, r: &mut Ndr<'_>) -> Result<Vec<u16>, RecordF
 }
 
 /// Reads a string and returns its UTF-16 units. Errors: `Stub` if fewer bytes are left; `Memory`.
-#[tactic(auto, unfolding(oa_ndr::specs::Reading::bind, oa_ndr::specs::Reading::give, crate::specs::Reading::string_at))]
+#[tactic(auto, unfolding(oa_ndr::specs::promise::Reading::bind, oa_ndr::specs::promise::Reading::give, crate::specs::Reading::string_at))]
 fn string(alloc: Global, r: &mut Ndr<'_>) -> Result<Vec<u16>, RecordFault>
     ensures { ReadsBody (λ v. v.items) result r.new (string_at r.old) }
 {
@@ -389,7 +390,7 @@ fn get_ids(alloc: Global, r: &mut Ndr<'_>) -> Result<GetIds, RecordFault>
 }
 
 /// Reads a u32 and a reserved one, and returns the first. Err: fewer bytes are left.
-#[tactic(auto, unfolding(oa_ndr::specs::Reading::bind, oa_ndr::specs::Reading::give, crate::specs::Reading::number_at))]
+#[tactic(auto, unfolding(oa_ndr::specs::promise::Reading::bind, oa_ndr::specs::promise::Reading::give, crate::specs::Reading::number_at))]
 fn number(r: &mut Ndr<'_>) -> Result<u32, Short>
     ensures { ReadsFixed (λ x. x) result r.new (number_at r.old) }
 {
@@ -400,7 +401,7 @@ fn number(r: &mut Ndr<'_>) -> Result<u32, Short>
 
 /// Reads the fields of GETELEM: a call that names an array, and the indices of an element. Errors:
 /// `Stub`, `Memory`.
-#[tactic(auto, unfolding(oa_ndr::specs::Reading::bind, oa_ndr::specs::Reading::give, crate::specs::Reading::fields_at))]
+#[tactic(auto, unfolding(oa_ndr::specs::promise::Reading::bind, oa_ndr::specs::promise::Reading::give, crate::specs::Reading::fields_at))]
 fn get_element<'a>(alloc: Global, r: &mut Ndr<'a>) -> Result<Parts<'a>, RecordFault>
     ensures answers { ReadsBody shown result r.new (fields_at opcodes.GetElement r.old) }
     ensures long { IsBehind 56 result r.old }
@@ -434,7 +435,7 @@ fn redimension<'a>(alloc: Global, r: &mut Ndr<'a>) -> Result<Parts<'a>, RecordFa
 
 /// Reads the fields of an opcode. REPLACE LIBRARY has none that are read here. Errors: `Stub`, also
 /// for REPLACE LIBRARY; `Memory`.
-#[tactic(auto, unfolding(oa_ndr::specs::Reading::bind, oa_ndr::specs::Reading::give, oa_ndr::specs::Reading::fail, crate::specs::Reading::fields_at))]
+#[tactic(auto, unfolding(oa_ndr::specs::promise::Reading::bind, oa_ndr::specs::promise::Reading::give, oa_ndr::specs::promise::Reading::fail, crate::specs::Reading::fields_at))]
 fn fields_of<'a>(alloc: Global, opcode: Opcode, r: &mut Ndr<'a>) -> Result<Parts<'a>, RecordFault>
     ensures answers { ReadsBody shown result r.new (fields_at opcode r.old) }
     ensures memory { StarvesAt result opcode r.old }

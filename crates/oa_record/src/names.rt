@@ -1,6 +1,6 @@
 //! The names of a look-up.
 ghost use Rattle.std.specs.Prelude.{◌≡◌, ◌≤◌, length, map};
-ghost use Rattle.oa_model.specs.Limits.{max_names};
+ghost use Rattle.oa_model.specs.promise.Limits.{max_names};
 
 use std::marker::Model;
 
@@ -13,7 +13,7 @@ pub struct Names {
 
 impl Model for Names {
     ghost use Rattle.std.specs.Prelude.{List, ℕ, ◌≤◌, length, map};
-    ghost use Rattle.oa_model.specs.Limits.{max_names};
+    ghost use Rattle.oa_model.specs.promise.Limits.{max_names};
 
     ghost Value = { List (List ℕ) };
 

@@ -1,6 +1,7 @@
 //! Opcodes of requests.
 ghost use Rattle.std.specs.Prelude.{◌≡◌};
-ghost use Rattle.oa_record.specs.Opcodes.{opcode_number, opcode_named, opcode_in};
+ghost use Rattle.oa_record.specs.promise.Opcodes.{opcode_number, opcode_named};
+ghost use Rattle.oa_record.specs.Opcodes.{opcode_in};
 
 use byteorder::{ByteOrder, LittleEndian};
 

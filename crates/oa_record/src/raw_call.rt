@@ -1,6 +1,6 @@
 //! A call as its body contains it, with its arguments still encoded.
 ghost use Rattle.std.specs.Prelude.{◌≡◌, ◌≤◌, map, length};
-ghost use Rattle.oa_model.specs.Limits.{max_arguments};
+ghost use Rattle.oa_model.specs.promise.Limits.{max_arguments};
 
 use crate::{Arguments, Call, CallHead, Dispids};
 use oa_variant::Variant;
@@ -26,8 +26,8 @@ pub(crate) struct ValueParts<'a> {
 
 impl<'a> Model for RawCall<'a> {
     ghost use Rattle.std.specs.Prelude.{◌≤◌, length, map};
-    ghost use Rattle.oa_model.specs.Limits.{max_arguments};
-    ghost use Rattle.oa_record.specs.CallParts.{CallParts};
+    ghost use Rattle.oa_model.specs.promise.Limits.{max_arguments};
+    ghost use Rattle.oa_record.specs.promise.CallParts.{CallParts};
 
     ghost Value = { CallParts };
 

@@ -1,9 +1,10 @@
 //! Decodes the bodies of requests.
 ghost use Rattle.std.specs.Prelude.{◌≡◌, ◌≤◌, ◌+◌, ◌++◌, ◌∷◌, [], map, length, IfOk, IfErr, IfSome};
-ghost use Rattle.oa_model.specs.Limits.{max_arguments};
-ghost use Rattle.oa_record.specs.Asks.{Asks, IsRequest, call_of, tag_at};
+ghost use Rattle.oa_model.specs.promise.Limits.{max_arguments};
+ghost use Rattle.oa_record.specs.promise.Asks.{Asks, call_of, tag_at};
+ghost use Rattle.oa_record.specs.Asks.{IsRequest};
 ghost use Rattle.oa_record.specs.Judging.{AnswersFields, Requests, TestsFields, TestsField, put_fault};
-ghost use Rattle.oa_record.specs.Layouts.{Layout};
+ghost use Rattle.oa_record.specs.promise.Layouts.{Layout};
 ghost use Rattle.oa_record.specs.Reading.{parts_of_element, put_of};
 ghost use Rattle.oa_record.specs.Shown.{shown};
 ghost use Rattle.oa_record.specs.ValueCalls.{SpellsNew, bringing};

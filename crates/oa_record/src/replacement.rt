@@ -1,6 +1,6 @@
 //! Bodies of the REPLACE LIBRARY request.
 ghost use Rattle.std.specs.Prelude.{◌≡◌, None, Some, IfSome, IsNone};
-ghost use Rattle.oa_record.specs.Replacement.{is_replacement, text_in, padded_text};
+ghost use Rattle.oa_record.specs.promise.Replacement.{is_replacement, text_in, padded_text};
 
 use crate::Opcode;
 use byteorder::{ByteOrder, LittleEndian};

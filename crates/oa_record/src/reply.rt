@@ -1,6 +1,7 @@
 //! Replies.
 ghost use Rattle.std.specs.Prelude.{◌≡◌, ◌≤◌, [], length};
-ghost use Rattle.oa_record.specs.Replies.{max_fields_bytes, reply_head};
+ghost use Rattle.oa_record.specs.Replies.{max_fields_bytes};
+ghost use Rattle.oa_record.specs.promise.Replies.{reply_head};
 
 use oa_model::HResult;
 use std::alloc::Global;
@@ -18,7 +19,8 @@ pub struct Reply {
 
 impl Model for Reply {
     ghost use Rattle.std.specs.Prelude.{◌≤◌, length};
-    ghost use Rattle.oa_record.specs.Replies.{ReplyValue, max_fields_bytes};
+    ghost use Rattle.oa_record.specs.promise.Replies.{ReplyValue};
+    ghost use Rattle.oa_record.specs.Replies.{max_fields_bytes};
 
     ghost Value = { ReplyValue };
 
@@ -83,7 +85,7 @@ impl Reply {
 
     /// Returns the 16 bytes before the fields: tag, code, index (0xFFFFFFFF for None), reserved,
     /// each a u32.
-    #[tactic(auto, unfolding(crate::specs::Replies::word))]
+    #[tactic(auto, unfolding(crate::specs::promise::Replies::word))]
     pub fn head(&self) -> [u8; 16]
         ensures { result ≡ reply_head self.now }
     {

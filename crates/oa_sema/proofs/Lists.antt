@@ -9,7 +9,8 @@ use Rattle.std.proofs.lemmas.Option.{slice_get_past}
 use Rattle.std.specs.List.{list_any, position_or_len, prefix_len}
 use Rattle.std.specs.Option.{option_map, option_and_then}
 use Rattle.indexmap.specs.IndexSet.{insert_key}
-use Rattle.oa_sema.specs.Repeats.{repeat_at, first_repeat}
+use Rattle.oa_sema.specs.Repeats.{repeat_at}
+use Rattle.oa_sema.specs.promise.Repeats.{first_repeat}
 
 module _ {K : Type 0} (eq : K → K → Bool) where
   unrepeated : (b : Bool) (o : Option ℕ) → (if b then Some zero else option_map (λ n. suc n) o) ≡ None → (b ≡ false) × (o ≡ None)

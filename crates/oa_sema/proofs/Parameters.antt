@@ -2,9 +2,9 @@
 use Rattle.std.proofs.Common.{◌≡◌, ℕ, ◌-◌, true, false, List, length, map, take, Option, ap, ◌∙◌}
 use Rattle.std.proofs.lemmas.List.{length-map, take-map}
 use Rattle.oa_variant.specs.declared.scalar.Scalar.{Scalar}
-use Rattle.oa_sema.specs.DeclarationValues.{DeclarationValue}
-use Rattle.oa_sema.specs.Declarations.{is_put, own_parameters}
-use Rattle.oa_sema.specs.Defaults.{default_value}
+use Rattle.oa_sema.specs.promise.DeclarationValues.{DeclarationValue}
+use Rattle.oa_sema.specs.promise.Declarations.{is_put, own_parameters}
+use Rattle.oa_sema.specs.promise.Defaults.{default_value}
 
 pub own_of : (n : ℕ) (xs : List (Option Scalar)) (d : DeclarationValue) → xs ≡ map default_value d.parameters → n ≡ length xs - 1 → is_put d.kind ≡ true → take n xs ≡ map default_value (own_parameters d)
 own_of n xs d is at put =

@@ -8,7 +8,7 @@ use Rattle.std.proofs.lemmas.List.{get_or-map, take_more, take_all, map-append}
 use Rattle.std.proofs.lemmas.Option.{slice_get-map, slice_get_read}
 use Rattle.std.specs.Option.{option_map, option_and_then, option_or}
 use Rattle.std.specs.Result.{IsErrAnd}
-use Rattle.oa_model.specs.Folding.{folded_name}
+use Rattle.oa_model.specs.promise.Folding.{folded_name}
 use Rattle.oa_idl.specs.declared.items.Item.{Item}
 use Rattle.oa_sema.specs.declared.fault.CheckError.{CheckError}
 use Rattle.oa_sema.specs.declared.fault.CheckError.TheVariants.{DuplicateName, DuplicateId, DuplicateGuid, UnknownInterface}
@@ -16,9 +16,11 @@ use Rattle.oa_sema.specs.declared.fault.CheckError.TheVariants.{GetPutDisagree, 
 use Rattle.oa_sema.specs.declared.repeats.Distinct.{Distinct}
 use Rattle.oa_sema.specs.declared.repeats.Distinct.TheVariants.{All, Repeat}
 use Rattle.oa_sema.specs.Keys.{TellsDistinct, repeat_of}
-use Rattle.oa_sema.specs.Repeats.{repeat_at, first_repeat, first_answer}
-use Rattle.oa_sema.specs.Breaches.{UnlessMemory, RefusesBreach, repeated_name, inner_breach, item_breach}
-use Rattle.oa_sema.specs.Libraries.{same, same_name, item_name, as_interface, interface_named}
+use Rattle.oa_sema.specs.Repeats.{repeat_at}
+use Rattle.oa_sema.specs.promise.Repeats.{first_repeat, first_answer}
+use Rattle.oa_sema.specs.Breaches.{UnlessMemory, RefusesBreach}
+use Rattle.oa_sema.specs.promise.Breaches.{repeated_name, inner_breach, item_breach}
+use Rattle.oa_sema.specs.promise.Libraries.{same, same_name, item_name, as_interface, interface_named}
 use Rattle.std.specs.List.{list_any}
 use Rattle.oa_sema.proofs.Lists.{list_any-map, repeat_by_place, repeat_at-map, position-map, position_finds, length-mapped}
 

@@ -7,16 +7,16 @@ use Rattle.std.proofs.lemmas.Cmp.{on_equiv, and_equiv, lists_equiv, int_eq_equiv
 use Rattle.std.specs.Cmp.{IsEquivalence, bool_eq_equiv}
 use Rattle.std.specs.Cmp.Lexicographic.{on_texts_equal, options_equiv}
 use Rattle.std.specs.List.{list_any}
-use Rattle.oa_model.specs.Folding.{folded_name}
-use Rattle.oa_model.specs.Types.{vt_of_value}
+use Rattle.oa_model.specs.promise.Folding.{folded_name}
+use Rattle.oa_model.specs.promise.Types.{vt_of_value}
 use Rattle.oa_idl.specs.declared.parts.Literal.{Literal}
 use Rattle.oa_idl.specs.declared.parts.Literal.TheVariants as literals
 use Rattle.oa_idl.specs.declared.parts.Parameter.{Parameter}
-use Rattle.oa_sema.specs.Agreement.{same_value_type, same_literal, is_optional, same_parameter, agree}
-use Rattle.oa_sema.specs.Breaches.{broken_by}
-use Rattle.oa_sema.specs.DeclarationValues.{DeclarationValue}
-use Rattle.oa_sema.specs.Declarations.{own_parameters, type_of_value}
-use Rattle.oa_sema.specs.Libraries.{same_name}
+use Rattle.oa_sema.specs.promise.Agreement.{same_value_type, same_literal, is_optional, same_parameter, agree}
+use Rattle.oa_sema.specs.promise.Breaches.{broken_by}
+use Rattle.oa_sema.specs.promise.DeclarationValues.{DeclarationValue}
+use Rattle.oa_sema.specs.promise.Declarations.{own_parameters, type_of_value}
+use Rattle.oa_sema.specs.promise.Libraries.{same_name}
 use Rattle.oa_sema.specs.MemberChecks.{alike, suits, breaks, broken_with, broken_at}
 use Rattle.oa_sema.specs.Repeats.{last_place, places_before}
 use Rattle.oa_sema.specs.declared.member_checks.Rule.{Rule}

@@ -3,12 +3,12 @@ use Rattle.std.proofs.Common.{◌≡◌, ◌<◌, ◌+◌, ℕ, Bool, true, fals
 use Rattle.std.proofs.Common.{List, [], ◌∷◌, ◌++◌, length, map, take, get_or, Some, refl, sym, ap, ◌∙◌}
 use Rattle.std.proofs.lemmas.List.{take_more}
 use Rattle.std.specs.List.{list_any, filter}
-use Rattle.oa_model.specs.Folding.{folded_name}
+use Rattle.oa_model.specs.promise.Folding.{folded_name}
 use Rattle.oa_idl.specs.declared.parts.Parameter.{Parameter}
-use Rattle.oa_sema.specs.Breaches.{clashes, repeated_name, declared_breach}
-use Rattle.oa_sema.specs.DeclarationValues.{DeclarationValue}
-use Rattle.oa_sema.specs.Declarations.{are_one_member}
-use Rattle.oa_sema.specs.Libraries.{same}
+use Rattle.oa_sema.specs.promise.Breaches.{clashes, repeated_name, declared_breach}
+use Rattle.oa_sema.specs.promise.DeclarationValues.{DeclarationValue}
+use Rattle.oa_sema.specs.promise.Declarations.{are_one_member}
+use Rattle.oa_sema.specs.promise.Libraries.{same}
 use Rattle.oa_sema.specs.Taken.{takes_reading, takes_setting, names_taken, is_taken}
 use Rattle.oa_sema.specs.declared.declaration.DeclarationKind.{DeclarationKind}
 use Rattle.oa_sema.specs.declared.declaration.DeclarationKind.TheVariants as kinds

@@ -1,7 +1,7 @@
 -- Characters as 16-bit units.
 use Rattle.std.proofs.Common.{◌≡◌, ◌<◌, ◌+◌, ◌*◌, ℕ, List, [], ◌∷◌, ◌++◌, length, take, get_or, refl, ap, ◌∙◌, arith}
 use Rattle.std.proofs.lemmas.List.{take_more}
-use Rattle.oa_sema.specs.Defaults.{wide}
+use Rattle.oa_sema.specs.promise.Defaults.{wide}
 
 wide-append : (xs ys : List ℕ) → wide (xs ++ ys) ≡ wide xs ++ wide ys
 unfolding wide

@@ -8,7 +8,8 @@ use Rattle.std.proofs.lemmas.List.{take_more, map-append, append-nil}
 use Rattle.std.specs.Cmp.{IsEquivalence}
 use Rattle.std.specs.List.{list_any, AllByRecursion}
 use Rattle.std.specs.Option.{option_map, option_or}
-use Rattle.oa_sema.specs.Repeats.{first_after, last_place, places_before}
+use Rattle.oa_sema.specs.promise.Repeats.{first_after}
+use Rattle.oa_sema.specs.Repeats.{last_place, places_before}
 
 -- ---- a turn of a walk over xs, which is at i
 module _ {X Y : Type 0} (f : List X → X → Option Y) (xs : List X) (i : ℕ) where

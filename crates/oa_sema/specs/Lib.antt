@@ -1,11 +1,8 @@
-pub mod Agreement
 pub mod Breaches
-pub mod DeclarationValues
-pub mod Declarations
 pub mod Defaults
-pub mod IsLibrary
 pub mod Keys
 pub mod Libraries
 pub mod MemberChecks
 pub mod Repeats
 pub mod Taken
+pub mod promise

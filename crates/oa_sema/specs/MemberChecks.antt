@@ -1,11 +1,11 @@
 -- The checks of an interface's declarations.
 use Rattle.std.specs.Prelude.{ℕ, Bool, false, not, ◌&&◌, List, slice_get, Option, Some, None}
 use Rattle.std.specs.Ordering.{int_eq}
-use Rattle.oa_sema.specs.Agreement.{agree}
-use Rattle.oa_sema.specs.Breaches.{first_broken, shares_id, disagrees, first_array_parameter, bad_default_in}
-use Rattle.oa_sema.specs.DeclarationValues.{DeclarationValue}
-use Rattle.oa_sema.specs.Libraries.{same_name}
-use Rattle.oa_sema.specs.Repeats.{first_answer}
+use Rattle.oa_sema.specs.promise.Agreement.{agree}
+use Rattle.oa_sema.specs.promise.Breaches.{first_broken, shares_id, disagrees, first_array_parameter, bad_default_in}
+use Rattle.oa_sema.specs.promise.DeclarationValues.{DeclarationValue}
+use Rattle.oa_sema.specs.promise.Libraries.{same_name}
+use Rattle.oa_sema.specs.promise.Repeats.{first_answer}
 use Rattle.oa_sema.specs.declared.member_checks.MemberCheck.{MemberCheck}
 use Rattle.oa_sema.specs.declared.member_checks.MemberCheck.TheVariants as checks
 use Rattle.oa_sema.specs.declared.member_checks.Rule.{Rule}

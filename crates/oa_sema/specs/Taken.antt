@@ -2,11 +2,11 @@
 -- a get for setting.
 use Rattle.std.specs.Prelude.{ℕ, Bool, true, false, ◌&&◌, ◌||◌, if◌then◌else◌, List, [], ◌∷◌, ◌++◌, map, Option, Some}
 use Rattle.std.specs.List.{list_any, filter}
-use Rattle.oa_model.specs.Folding.{folded_name}
+use Rattle.oa_model.specs.promise.Folding.{folded_name}
 use Rattle.oa_idl.specs.declared.parts.Parameter.{Parameter}
-use Rattle.oa_sema.specs.Breaches.{repeated_name}
-use Rattle.oa_sema.specs.DeclarationValues.{DeclarationValue}
-use Rattle.oa_sema.specs.Libraries.{same}
+use Rattle.oa_sema.specs.promise.Breaches.{repeated_name}
+use Rattle.oa_sema.specs.promise.DeclarationValues.{DeclarationValue}
+use Rattle.oa_sema.specs.promise.Libraries.{same}
 use Rattle.oa_sema.specs.declared.declaration.DeclarationKind.{DeclarationKind}
 use Rattle.oa_sema.specs.declared.declaration.DeclarationKind.TheVariants as kinds
 

@@ -1,8 +1,9 @@
 //! The agreement of the get and the put of a property.
 ghost use Rattle.std.specs.Prelude.{◌≡◌};
 ghost use Rattle.std.specs.Cmp.Lexicographic.{pointwise};
-ghost use Rattle.oa_sema.specs.Agreement.{same_value_type, same_result, same_literal, same_default, is_optional, same_parameter, agree};
-ghost use Rattle.oa_sema.specs.Libraries.{same_name};
+ghost use Rattle.oa_sema.specs.promise.Agreement.{same_value_type, same_result, same_literal, same_default};
+ghost use Rattle.oa_sema.specs.promise.Agreement.{is_optional, same_parameter, agree};
+ghost use Rattle.oa_sema.specs.promise.Libraries.{same_name};
 
 use crate::declaration::Declaration;
 use oa_idl::{Literal, Name, Parameter};
@@ -64,7 +65,7 @@ pub fn is_optional(parameter: &Parameter) -> bool
 }
 
 /// Returns whether two parameters agree, as `same_parameters` says.
-#[tactic(auto, unfolding(crate::specs::Agreement::same_parameter))]
+#[tactic(auto, unfolding(crate::specs::promise::Agreement::same_parameter))]
 fn same_parameter(a: &Parameter, b: &Parameter) -> bool
     ensures { result ≡ same_parameter a.now b.now }
 {
@@ -94,7 +95,7 @@ pub fn same_parameters(a: &[Parameter], b: &[Parameter]) -> bool
 
 /// Returns whether a get and a put agree: in the DISPID, the type of the property's value, and the
 /// parameters.
-#[tactic(auto, unfolding(crate::specs::Agreement::agree))]
+#[tactic(auto, unfolding(crate::specs::promise::Agreement::agree))]
 pub(crate) fn agree(a: &Declaration<'_>, b: &Declaration<'_>) -> bool
     ensures { result ≡ agree a.now b.now }
 {

@@ -1,15 +1,16 @@
 //! The passes of `check_tree`, one for each kind of error.
 ghost use Rattle.std.specs.Prelude.{◌≡◌, ◌++◌, ◌∷◌, [], IfOk, is_some, map};
 ghost use Rattle.std.specs.Option.{option_map, option_or};
-ghost use Rattle.oa_model.specs.Folding.{folded_name};
-ghost use Rattle.oa_sema.specs.Breaches.{RefusesBreach, repeated_in, repeated_name};
-ghost use Rattle.oa_sema.specs.Breaches.{declared_breach, inner_breach, name_breach, id_breach};
-ghost use Rattle.oa_sema.specs.Breaches.{guid_breach, unknown_name, entry_breach, interface_breach, form_breach};
-ghost use Rattle.oa_sema.specs.Breaches.{array_breach, default_breach, form_breaches, key_breaches, tree_breach};
-ghost use Rattle.oa_sema.specs.Declarations.{declarations};
+ghost use Rattle.oa_model.specs.promise.Folding.{folded_name};
+ghost use Rattle.oa_sema.specs.Breaches.{RefusesBreach, repeated_in};
+ghost use Rattle.oa_sema.specs.promise.Breaches.{repeated_name, declared_breach, inner_breach, name_breach, id_breach};
+ghost use Rattle.oa_sema.specs.promise.Breaches.{guid_breach, unknown_name, entry_breach, interface_breach};
+ghost use Rattle.oa_sema.specs.promise.Breaches.{form_breach, array_breach, default_breach, form_breaches};
+ghost use Rattle.oa_sema.specs.promise.Breaches.{key_breaches, tree_breach};
+ghost use Rattle.oa_sema.specs.promise.Declarations.{declarations};
 ghost use Rattle.oa_sema.specs.Libraries.{folded_names};
-ghost use Rattle.oa_sema.specs.Libraries.{item_name, item_guid, interface_named};
-ghost use Rattle.oa_sema.specs.Repeats.{first_answer, first_after};
+ghost use Rattle.oa_sema.specs.promise.Libraries.{item_name, item_guid, interface_named};
+ghost use Rattle.oa_sema.specs.promise.Repeats.{first_answer, first_after};
 ghost use Rattle.oa_sema.specs.Taken.{repeated_by, takes_reading, takes_setting, with_taken};
 ghost use Rattle.oa_sema.specs.declared.fault.CheckError.TheVariants.{DuplicateName, DuplicateId, DuplicateGuid, UnknownInterface};
 ghost use Rattle.oa_sema.specs.declared.fault.CheckError.TheVariants.{GetPutDisagree, ArrayParameter, BadDefault};

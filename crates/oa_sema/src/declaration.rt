@@ -1,8 +1,9 @@
 //! The declarations of an interface.
 ghost use Rattle.std.specs.Prelude.{◌≡◌, ◌++◌, IfOk, OnOk, map, option_copied};
-ghost use Rattle.oa_sema.specs.Declarations.{kind_of_property, kind_of_method, of_property, of_method, declarations};
-ghost use Rattle.oa_sema.specs.Declarations.{is_put, is_get_or_put, own_parameters, new_value, type_of_value};
-ghost use Rattle.oa_sema.specs.Defaults.{default_value};
+ghost use Rattle.oa_sema.specs.promise.Declarations.{kind_of_property, kind_of_method, of_property, of_method};
+ghost use Rattle.oa_sema.specs.promise.Declarations.{declarations, is_put, is_get_or_put, own_parameters, new_value};
+ghost use Rattle.oa_sema.specs.promise.Declarations.{type_of_value};
+ghost use Rattle.oa_sema.specs.promise.Defaults.{default_value};
 ghost use Rattle.oa_sema.specs.Defaults.{defaults_of};
 
 use oa_idl::{Interface, Method, MethodKind, Name, Parameter, Property};
@@ -81,7 +82,7 @@ pub struct Declaration<'a> {
 }
 
 impl<'a> Model for Declaration<'a> {
-    ghost use Rattle.oa_sema.specs.DeclarationValues.{DeclarationValue};
+    ghost use Rattle.oa_sema.specs.promise.DeclarationValues.{DeclarationValue};
 
     ghost Value = { DeclarationValue };
 

@@ -1,7 +1,7 @@
 //! The values of parameters' defaults.
 ghost use Rattle.std.specs.Prelude.{◌≡◌, ◌*ℤ◌, pos, IfOk, is_some};
-ghost use Rattle.oa_sema.specs.Defaults.{integer_within, decimal_from, number_as, wide, holds_texts};
-ghost use Rattle.oa_sema.specs.Defaults.{text_as, holds_truths, default_of, default_value};
+ghost use Rattle.oa_sema.specs.promise.Defaults.{integer_within, decimal_from, number_as, wide, holds_texts, text_as};
+ghost use Rattle.oa_sema.specs.promise.Defaults.{holds_truths, default_of, default_value};
 
 use oa_bstr::{Bstr, BstrError};
 use oa_idl::{Characters, Literal, Parameter};
@@ -34,7 +34,7 @@ fn as_decimal(n: i128) -> Option<Decimal>
 }
 
 /// Returns a number as a value of a type; None if the type has no such value. Allocates nothing.
-#[tactic(auto, unfolding(crate::specs::Defaults::number_as))]
+#[tactic(auto, unfolding(crate::specs::promise::Defaults::number_as))]
 fn number_as(t: VarType, n: i128) -> Option<Scalar>
     ensures { result ≡ number_as t n }
 {
@@ -71,7 +71,7 @@ fn holds_truths(t: VarType) -> bool
 }
 
 /// Encodes ASCII characters as 16-bit units, low byte first. Err: an allocation fails.
-#[tactic(auto, unfolding(crate::specs::Defaults::wide))]
+#[tactic(auto, unfolding(crate::specs::promise::Defaults::wide))]
 fn wide(alloc: Global, characters: &[u8]) -> Result<Vec<u8>, AllocError>
     ensures { IfOk result (λ v. v.items ≡ wide characters.now) }
 {

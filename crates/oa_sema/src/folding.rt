@@ -1,6 +1,6 @@
 //! Names folded to lower case.
 ghost use Rattle.std.specs.Prelude.{◌≡◌, IfOk};
-ghost use Rattle.oa_model.specs.Folding.{folded_name};
+ghost use Rattle.oa_model.specs.promise.Folding.{folded_name};
 
 use oa_idl::Name;
 use oa_model::fold;

@@ -1,7 +1,7 @@
 //! GUIDs as pairs of u64, so that two are compared without a loop over their bytes.
 ghost use Rattle.std.specs.Prelude.{◌≡◌, length, take, drop, position, IfNone, IfSome, None, Some};
 ghost use Rattle.std.specs.Int.{from_le_bytes, to_le_bytes, w64};
-ghost use Rattle.oa_sema.specs.Libraries.{item_guid, same};
+ghost use Rattle.oa_sema.specs.promise.Libraries.{item_guid, same};
 ghost use Rattle.uuid.specs.Parts.{is_nil_bytes};
 
 use crate::checks::item_guid;

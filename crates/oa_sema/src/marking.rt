@@ -1,7 +1,7 @@
 //! Marks one default interface in each coclass.
 ghost use Rattle.std.specs.Prelude.{◌≡◌, map};
 ghost use Rattle.std.specs.List.{list_any};
-ghost use Rattle.oa_sema.specs.Libraries.{marked_entries, marked_item, marked};
+ghost use Rattle.oa_sema.specs.promise.Libraries.{marked_entries, marked_item, marked};
 
 use oa_idl::{Entry, Item, Tree};
 

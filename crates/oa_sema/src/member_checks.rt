@@ -1,12 +1,14 @@
 //! The checks of an interface's declarations, each for one interface at a time.
 ghost use Rattle.std.specs.Prelude.{◌≡◌, [], IfOk, map, find, option_copied};
 ghost use Rattle.std.specs.Option.{option_map, option_and_then};
-ghost use Rattle.oa_model.specs.Folding.{folded_name};
-ghost use Rattle.oa_sema.specs.Breaches.{first_broken, is_array, first_array_parameter, is_bad, if_optional, bad_default_in, in_interface};
-ghost use Rattle.oa_sema.specs.Declarations.{declarations, new_value};
+ghost use Rattle.oa_model.specs.promise.Folding.{folded_name};
+ghost use Rattle.oa_sema.specs.promise.Breaches.{first_broken, is_array, first_array_parameter, is_bad, if_optional};
+ghost use Rattle.oa_sema.specs.promise.Breaches.{bad_default_in, in_interface};
+ghost use Rattle.oa_sema.specs.promise.Declarations.{declarations, new_value};
 ghost use Rattle.oa_sema.specs.MemberChecks.{alike, breaks, broken_at, breach_by};
 ghost use Rattle.oa_sema.specs.declared.member_checks.Rule.TheVariants.{OneMember, Agreement};
-ghost use Rattle.oa_sema.specs.Repeats.{first_answer, places_before};
+ghost use Rattle.oa_sema.specs.promise.Repeats.{first_answer};
+ghost use Rattle.oa_sema.specs.Repeats.{places_before};
 
 use crate::agreement::{agree, is_optional, is_same_name};
 use crate::declaration::{Declaration, declarations};

@@ -1,7 +1,7 @@
 //! Items by their places, counted from 0.
 ghost use Rattle.std.specs.Prelude.{◌≡◌, option_copied, slice_get};
 ghost use Rattle.std.specs.Option.{option_and_then};
-ghost use Rattle.oa_sema.specs.Libraries.{as_interface, as_class};
+ghost use Rattle.oa_sema.specs.promise.Libraries.{as_interface, as_class};
 
 use oa_idl::{Coclass, Interface, Item, Tree};
 

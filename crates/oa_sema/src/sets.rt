@@ -2,7 +2,7 @@
 ghost use Rattle.std.specs.Prelude.{◌≡◌, [], not, OnOk, IfOk, position};
 ghost use Rattle.std.specs.List.{list_any};
 ghost use Rattle.indexmap.specs.IndexSet.{insert_key};
-ghost use Rattle.oa_sema.specs.Libraries.{same};
+ghost use Rattle.oa_sema.specs.promise.Libraries.{same};
 
 use indexmap::IndexSet;
 use std::alloc::{AllocError, Global};

@@ -2,13 +2,12 @@
 use Rattle.std.proofs.Common.{◌≡◌, inl, inr, ℕ, true, true≢false, List, [], ◌∷◌, ◌++◌, map, refl, sym, ap, ◌∙◌}
 use Rattle.std.proofs.lemmas.List.{append-nil, map-append}
 use Rattle.oa_disk.specs.declared.disk.Disk.{Ghosts}
-use Rattle.oa_group_commit.specs.GroupStates.{IsAdmitted, IsEnded}
-use Rattle.oa_record.specs.Replies.{ReplyValue}
+use Rattle.oa_group_commit.specs.promise.Groups.{IsAdmitted, IsEnded}
+use Rattle.oa_record.specs.promise.Replies.{ReplyValue}
 use Rattle.oa_store.specs.declared.store.Store.{Store}
-use Rattle.oa_server.specs.Answers.{AnswersAfterFault}
+use Rattle.oa_server.specs.promise.ServerMachine.{AnswersAfterFault, failed_reply, server_machine}
 use Rattle.oa_server.specs.OpenGroups.{grouping}
-use Rattle.oa_server.specs.ServerMachine.{failed_reply, server_machine}
-use Rattle.oa_decision.specs.States.{State}
+use Rattle.oa_decision.specs.promise.States.{State}
 
 module _ {D : Type 0} {g : Ghosts D} where
   -- at the start

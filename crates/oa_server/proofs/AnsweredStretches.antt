@@ -3,26 +3,26 @@ use Rattle.std.proofs.Common.{◌≡◌, inl, inr, ℕ, IsTrue, true, false, tru
 use Rattle.std.proofs.lemmas.List.{append-nil, map-append}
 use Rattle.oa_disk.specs.declared.disk.Disk.{Ghosts}
 use Rattle.oa_group_commit.specs.Invariants.{GroupInvariant}
-use Rattle.oa_group_commit.specs.GroupStates.{GroupState, IsAdmitted, IsEnded}
+use Rattle.oa_group_commit.specs.promise.Groups.{GroupState, IsAdmitted, IsEnded}
 use Rattle.oa_group_commit.proofs.Ends.{underway_ended}
 use Rattle.oa_group_commit.proofs.Takes.{underway_start, underway_taken}
 use Rattle.oa_store.specs.declared.store.Store.{Store}
-use Rattle.oa_record.specs.Replies.{ReplyValue}
-use Rattle.oa_server.specs.SharedGroups.{all_frames, frames_of, shared_group_state_of, told_to}
+use Rattle.oa_record.specs.promise.Replies.{ReplyValue}
+use Rattle.oa_server.specs.promise.SharedSessions.{all_frames, frames_of, shared_group_state_of, told_to, AsksIn}
+use Rattle.oa_server.specs.promise.SharedSessions.{asked_written}
 use Rattle.oa_server.specs.SharedSessions.{StretchesAreServed}
 use Rattle.oa_server.proofs.Lifted.{told_none}
-use Rattle.oa_server.specs.SharedMachine.{shared_machine}
-use Rattle.oa_server.specs.SharedTalks.{AsksIn, asked_written}
-use Rattle.oa_server.specs.Sharing.{ClientReply, Shared, failed_client_reply, shared, tagged_body}
-use Rattle.oa_server.specs.Stretches.{IsLateFor, ServesStretch, ServesStretches, Stretch, all_told, bodies_of, cut_at_now, told_in}
+use Rattle.oa_server.specs.promise.SharedMachine.{shared_machine, ClientReply, Shared, failed_client_reply, shared}
+use Rattle.oa_server.specs.promise.SharedMachine.{tagged_body, IsLateFor, ServesStretch, Stretch, all_told}
+use Rattle.oa_server.specs.Stretches.{ServesStretches, bodies_of, cut_at_now, told_in}
 use Rattle.oa_server.specs.declared.desk.SharedGroup.{SharedGroup}
 use Rattle.oa_server.specs.declared.engine.ServerState.{ServerState}
 use Rattle.oa_server.specs.declared.storage.Storage.{Storage}
 use Rattle.oa_server.specs.declared.storage.Storage.TheVariants.{Disk, Memory}
-use Rattle.oa_mux.specs.Marks.{Tagged, Of, Flush}
-use Rattle.oa_mux.specs.Readers.{Brought}
-use Rattle.oa_mux.specs.Talking.{AllTurned}
-use Rattle.oa_decision.specs.States.{State}
+use Rattle.oa_mux.specs.promise.Marks.{Tagged, Of, Flush}
+use Rattle.oa_mux.specs.promise.Readers.{Brought}
+use Rattle.oa_mux.specs.promise.Talking.{AllTurned}
+use Rattle.oa_decision.specs.promise.States.{State}
 
 frames_both : (one two : List ClientReply) → all_frames (one ++ two) ≡ all_frames one ++ all_frames two
 unfolding all_frames

@@ -3,34 +3,31 @@ use Rattle.std.proofs.Common.{◌≡◌, ◌⊎◌, ◌+◌, ◌<◌, ◌≤◌,
 use Rattle.std.proofs.Common.{◌∙◌, subst, arith, length-append}
 use Rattle.oa_disk.specs.declared.disk.Disk.{Ghosts}
 use Rattle.oa_disk.specs.Moments.{chained, weakened}
-use Rattle.oa_group_commit.specs.GroupStates.{GroupState, IsAdmitted, IsGroupCommitted, LeavesState}
-use Rattle.oa_group_commit.specs.Groups.{fills}
-use Rattle.oa_group_commit.specs.Served.{IsServed}
-use Rattle.oa_store.specs.Writing.{CallsForOneCheckpoint, DeviceFrame}
-use Rattle.oa_group_commit.specs.StateMachines.{exchange}
+use Rattle.oa_group_commit.specs.promise.Groups.{GroupState, IsAdmitted, IsGroupCommitted, LeavesState, fills, IsServed}
+use Rattle.oa_group_commit.specs.promise.Groups.{exchange, AllHoldState, HoldsState}
+use Rattle.oa_store.specs.promise.Writing.{CallsForOneCheckpoint, DeviceFrame}
 use Rattle.oa_group_commit.proofs.Called.{none_or_some}
 use Rattle.oa_group_commit.proofs.Ends.{underway_ended}
 use Rattle.oa_group_commit.proofs.Stores.{goes_on}
 use Rattle.oa_group_commit.proofs.Takes.{underway_start, underway_taken}
-use Rattle.oa_journal.specs.Replays.{Replays}
-use Rattle.oa_group_commit.specs.Runs.{AllHoldState, HoldsState}
-use Rattle.oa_printer.specs.Canonical.{canonical}
-use Rattle.oa_store.specs.Holding.{CommitsAtomically}
-use Rattle.oa_store.specs.Kept.{AllHold, LeavesEither, LeavesTable}
-use Rattle.oa_record.specs.Replacement.{is_replacement}
+use Rattle.oa_journal.specs.promise.Bank.{Replays}
+use Rattle.oa_printer.specs.promise.Canonical.{canonical}
+use Rattle.oa_store.specs.promise.Holding.{CommitsAtomically, AllHold, LeavesEither, LeavesTable}
+use Rattle.oa_record.specs.promise.Replacement.{is_replacement}
 use Rattle.oa_turn.proofs.SameLibrary.{plain_library, turn_bank}
-use Rattle.oa_record.specs.Replies.{ReplyValue}
+use Rattle.oa_record.specs.promise.Replies.{ReplyValue}
 use Rattle.oa_journal.specs.declared.shape.BankFormat.{BankFormat}
 use Rattle.oa_journal.specs.declared.shape.BankFormat.TheVariants.{Two}
-use Rattle.oa_store.specs.Stores.{IsStoreIn}
+use Rattle.oa_store.specs.promise.Stores.{IsStoreIn}
 use Rattle.oa_store.specs.declared.store.Store.{Store}
-use Rattle.oa_table.specs.Tables.{TableValue}
+use Rattle.oa_table.specs.promise.Tables.{TableValue}
 use Rattle.oa_server.specs.Answers.{CallsForOne, IsAnswered, MakesNoEvent}
 use Rattle.oa_server.specs.OpenGroups.{CallsForCheckpoint, CallsWhereDue, IsDueFor, grouping}
-use Rattle.oa_server.specs.ServerMachine.{HasTurn, IsHeldBack, fault_reply, server_machine, text_of_library}
-use Rattle.oa_turn.specs.Events.{held_of}
-use Rattle.oa_decision.specs.States.{State}
-use Rattle.oa_turn.specs.Turns.{Turn}
+use Rattle.oa_server.specs.ServerMachine.{HasTurn, IsHeldBack}
+use Rattle.oa_server.specs.promise.ServerMachine.{fault_reply, server_machine, text_of_library}
+use Rattle.oa_turn.specs.promise.Events.{held_of}
+use Rattle.oa_decision.specs.promise.States.{State}
+use Rattle.oa_turn.specs.promise.Turns.{Turn}
 use Rattle.oa_server.proofs.Making.{no_event_of}
 use Rattle.oa_server.proofs.Replacing.{as_held}
 

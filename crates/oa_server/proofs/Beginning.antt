@@ -1,16 +1,15 @@
 -- What was served can be served again.
 use Rattle.std.proofs.Common.{List, [], ◌∷◌, subst, ◌∙◌}
 use Rattle.oa_compat.proofs.Kept.{unlocked_fits}
-use Rattle.oa_group_commit.specs.Runs.{Trace}
-use Rattle.oa_group_commit.specs.StateMachines.{Exchange}
+use Rattle.oa_group_commit.specs.promise.Groups.{Trace, Exchange}
 use Rattle.oa_image.proofs.Numbered.{unlocked_numbers}
 use Rattle.oa_image.proofs.TablesWithImages.{same_table}
-use Rattle.oa_record.specs.Replies.{ReplyValue}
+use Rattle.oa_record.specs.promise.Replies.{ReplyValue}
 use Rattle.oa_turn.proofs.Beginning.{turn_begins}
 use Rattle.oa_turn.proofs.Fitting.{EventKept}
-use Rattle.oa_turn.specs.Beginnings.{CanBegin}
-use Rattle.oa_decision.specs.States.{State}
-use Rattle.oa_server.specs.ServerMachine.{opened, server_machine}
+use Rattle.oa_turn.specs.promise.Beginnings.{CanBegin}
+use Rattle.oa_decision.specs.promise.States.{State}
+use Rattle.oa_server.specs.promise.ServerMachine.{opened, server_machine}
 
 module _ (event_kept : EventKept) where
   pub groups_begin : (old new : State) (entries : List (Exchange ReplyValue)) → CanBegin old → Trace server_machine old entries new → CanBegin new

@@ -1,12 +1,12 @@
 -- Behind an end nothing is held.
 use Rattle.std.proofs.Common.{◌≡◌, ℕ, Bool, true, false, true≢false, List, [], ◌∷◌, length, refl, sym, ap, ◌∙◌, arith}
 use Rattle.oa_disk.specs.declared.disk.Disk.{Ghosts}
-use Rattle.oa_record.specs.Replies.{ReplyValue}
-use Rattle.oa_mux.specs.Marks.{Flush}
+use Rattle.oa_record.specs.promise.Replies.{ReplyValue}
+use Rattle.oa_mux.specs.promise.Marks.{Flush}
 use Rattle.oa_store.specs.declared.store.Store.{Store}
-use Rattle.oa_decision.specs.States.{State}
+use Rattle.oa_decision.specs.promise.States.{State}
 use Rattle.oa_server.specs.SharedGroups.{DeskIsReady}
-use Rattle.oa_server.specs.SharedTalks.{AsksIn}
+use Rattle.oa_server.specs.promise.SharedSessions.{AsksIn}
 use Rattle.oa_server.specs.Talks.{InputEnds}
 use Rattle.oa_server.specs.declared.desk.SharedGroup.{SharedGroup}
 use Rattle.oa_server.specs.declared.open_group.OpenGroup.{OpenGroup}

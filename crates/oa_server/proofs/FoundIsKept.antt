@@ -2,32 +2,28 @@
 use Rattle.std.proofs.Common.{◌≡◌, ◌≤◌, ℕ, IsTrue, List, [], ◌∷◌, Option, Some, None, inl, inr, refl, sym, subst}
 use Rattle.oa_disk.specs.declared.disk.Disk.{Ghosts}
 use Rattle.oa_disk.specs.Moments.{started, weakened}
-use Rattle.oa_group_commit.specs.Groups.{concat_groups}
-use Rattle.oa_group_commit.specs.Runs.{HoldsState, Trace}
-use Rattle.oa_group_commit.specs.StateMachines.{Exchange}
+use Rattle.oa_group_commit.specs.promise.Groups.{concat_groups, HoldsState, Trace, Exchange}
 use Rattle.oa_group_commit.proofs.Calling.{session_opened}
-use Rattle.oa_printer.specs.Canonical.{canonical}
-use Rattle.oa_idl.specs.IsTree.{IsTree}
-use Rattle.oa_idl.specs.Trees.{TreeValue}
-use Rattle.oa_record.specs.Replies.{ReplyValue}
+use Rattle.oa_printer.specs.promise.Canonical.{canonical}
+use Rattle.oa_idl.specs.promise.IsTree.{IsTree}
+use Rattle.oa_idl.specs.promise.Trees.{TreeValue}
+use Rattle.oa_record.specs.promise.Replies.{ReplyValue}
 use Rattle.oa_store.proofs.OneStore.{one_store}
-use Rattle.oa_journal.specs.Shapes.{body_bytes}
+use Rattle.oa_journal.specs.promise.Bank.{body_bytes}
 use Rattle.oa_journal.specs.declared.shape.BankFormat.{BankFormat}
 use Rattle.oa_journal.specs.declared.shape.BankFormat.TheVariants.{Two}
-use Rattle.oa_store.specs.Stores.{IsStoreIn}
-use Rattle.oa_compat.specs.Keeps.{first_lost}
+use Rattle.oa_store.specs.promise.Stores.{IsStoreIn}
+use Rattle.oa_compat.specs.promise.Keeps.{first_lost}
 use Rattle.oa_compat.specs.declared.lost.Incompatibility.{Incompatibility}
-use Rattle.oa_turn.specs.Replacing.{Replacement, after_replacement}
+use Rattle.oa_turn.specs.promise.Replacing.{Replacement, after_replacement}
 use Rattle.oa_turn.proofs.SameLibrary.{ordinary_library}
 use Rattle.oa_server.specs.Laws.{FoundIsKept, OpenedBegins, OpenedJoins}
-use Rattle.oa_server.specs.Openings.{OpensToTable}
-use Rattle.oa_turn.specs.Events.{held_of}
-use Rattle.oa_server.specs.ServerMachine.{server_machine, text_of_library}
-use Rattle.oa_server.specs.SharedMachine.{shared_machine}
-use Rattle.oa_server.specs.Sharing.{shared}
-use Rattle.oa_decision.specs.States.{State, state_of}
-use Rattle.oa_typelib.specs.Checked.{IsChecked}
-use Rattle.oa_turn.specs.Turns.{Turn}
+use Rattle.oa_server.specs.promise.ServerMachine.{OpensToTable, server_machine, text_of_library}
+use Rattle.oa_turn.specs.promise.Events.{held_of}
+use Rattle.oa_server.specs.promise.SharedMachine.{shared_machine, shared}
+use Rattle.oa_decision.specs.promise.States.{State, state_of}
+use Rattle.oa_typelib.specs.promise.Checked.{IsChecked}
+use Rattle.oa_turn.specs.promise.Turns.{Turn}
 
 -- the library of a turn's body, and so of a run, is one that was checked
 replacement_checked : (old new : State) (body : List ℕ) (reply : ReplyValue) → Replacement old body reply new → IsChecked old.library → IsChecked new.library

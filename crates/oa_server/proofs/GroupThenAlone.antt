@@ -2,27 +2,28 @@
 use Rattle.std.proofs.Common.{◌≡◌, inl, inr, ℕ, Bool, true, false, true≢false, List, [], ◌∷◌, ◌++◌, map, refl, sym, ap, ◌∙◌, subst, append_assoc}
 use Rattle.std.proofs.lemmas.List.{map-append}
 use Rattle.oa_disk.specs.declared.disk.Disk.{Ghosts}
-use Rattle.oa_frame.specs.Framings.{Frames}
-use Rattle.oa_frame.specs.Sessions as sessions
+use Rattle.oa_frame.specs.promise.Framings.{Frames}
+use Rattle.oa_frame.specs.promise.Sessions as sessions
+use Rattle.oa_frame.specs.Sessions as more_sessions
 use Rattle.oa_frame.specs.declared.session.Served.{Served}
-use Rattle.oa_group_commit.specs.GroupStates.{GroupState, IsEnded, IsFlushed, IsIdle, IsAfterFault, IsBarrierAnswered, IsAdmitted}
-use Rattle.oa_store.specs.Writing.{DeviceFrame}
-use Rattle.oa_group_commit.specs.StateMachines.{StateMachine, exchange}
+use Rattle.oa_group_commit.specs.promise.Groups.{GroupState, IsEnded, IsFlushed, IsIdle, IsAfterFault}
+use Rattle.oa_group_commit.specs.promise.Groups.{IsBarrierAnswered, IsAdmitted, StateMachine, exchange}
+use Rattle.oa_store.specs.promise.Writing.{DeviceFrame}
 use Rattle.oa_group_commit.proofs.Stores.{goes_on}
-use Rattle.oa_record.specs.Replacement.{is_replacement}
-use Rattle.oa_record.specs.Replies.{reply_record}
+use Rattle.oa_record.specs.promise.Replacement.{is_replacement}
+use Rattle.oa_record.specs.promise.Replies.{reply_record}
 use Rattle.oa_store.specs.declared.store.Store.{Store}
-use Rattle.oa_stream.specs.Source.{Input}
-use Rattle.oa_stream.specs.Sink.{Output}
+use Rattle.oa_stream.specs.promise.Source.{Input}
+use Rattle.oa_stream.specs.promise.Sink.{Output}
 use Rattle.oa_server.specs.declared.engine.ServerState.{ServerState}
 use Rattle.oa_server.specs.declared.open_group.OpenGroup.{OpenGroup}
 use Rattle.oa_server.specs.declared.storage.Storage.{Storage}
 use Rattle.oa_server.specs.declared.storage.Storage.TheVariants.{Disk, Memory}
 use Rattle.oa_server.specs.OpenGroups.{grouping_of}
-use Rattle.oa_server.specs.ServerMachine.{server_machine}
-use Rattle.oa_decision.specs.States.{State}
+use Rattle.oa_server.specs.promise.ServerMachine.{server_machine}
+use Rattle.oa_decision.specs.promise.States.{State}
 use Rattle.oa_server.specs.Talks.{InputEnds, Taken, ended_written, taken_written}
-use Rattle.oa_turn.specs.Turns.{Turn}
+use Rattle.oa_turn.specs.promise.Turns.{Turn}
 use Rattle.oa_server.proofs.Retold.{session_as}
 
 module _ {S R D : Type 0} {g : Ghosts D} where
@@ -117,20 +118,20 @@ module _ {D : Type 0} {g : Ghosts D} where
   ended_then (Disk old) (Memory mid) new before between after open_group open_group' open_group'' body held own replies is e t are = absurd e.ended
 
   -- so a step at any body is what is taken at it
-  taken_by : (b : Bool) (old new : ServerState D g) (body : List ℕ) (replies : List (List ℕ)) → is_replacement body ≡ b → sessions.step_by b taken_written ended_written old body replies new → taken_written old body replies new
+  taken_by : (b : Bool) (old new : ServerState D g) (body : List ℕ) (replies : List (List ℕ)) → is_replacement body ≡ b → more_sessions.step_by b taken_written ended_written old body replies new → taken_written old body replies new
   taken_by true old new body replies is s =
       ended_then old.storage s.between.storage new.storage old.host s.between.host new.host old.desk.open_group s.between.desk.open_group new.desk.open_group body s.held s.own replies is s.ended s.turned s.are
   taken_by false old new body replies is s = s
 
-  run_taken : (old new : ServerState D g) (bodies : List (List ℕ)) (handed : List (List (List ℕ))) → sessions.BodiesTurned (sessions.step is_replacement taken_written ended_written) old bodies handed new → sessions.BodiesTurned taken_written old bodies handed new
+  run_taken : (old new : ServerState D g) (bodies : List (List ℕ)) (handed : List (List (List ℕ))) → sessions.BodiesTurned (more_sessions.step is_replacement taken_written ended_written) old bodies handed new → sessions.BodiesTurned taken_written old bodies handed new
   run_taken old new [] [] run = run
   run_taken old new (body ∷ bodies) (replies ∷ handed) run = (run.0, taken_by (is_replacement body) old run.0 body replies refl run.1, run_taken run.0 new bodies handed run.2)
   run_taken old new [] (replies ∷ handed) run = absurd run
   run_taken old new (body ∷ bodies) [] run = absurd run
 
   pub session_taken : (f : Frames) (last : List ℕ) (input input' : Input) (out out' : Output) (old new : ServerState D g) (served : Served)
-      → sessions.Session f is_replacement (sessions.step is_replacement taken_written ended_written) ended_written last input input' out out' old new served
+      → sessions.Session f is_replacement (more_sessions.step is_replacement taken_written ended_written) ended_written last input input' out out' old new served
       → sessions.Session f is_replacement taken_written ended_written last input input' out out' old new served
   session_taken f last input input' out out' old new served is =
-      session_as (sessions.step is_replacement taken_written ended_written) taken_written ended_written ended_written f is_replacement last input input' out out' old new old is.mid new served is
+      session_as (more_sessions.step is_replacement taken_written ended_written) taken_written ended_written ended_written f is_replacement last input input' out out' old new old is.mid new served is
       (run_taken old is.mid is.bodies is.handed is.run) is.ended

@@ -2,15 +2,13 @@
 use Rattle.std.proofs.Common.{◌≡◌, ℕ, List, [], ◌∷◌, ◌++◌, map, refl, sym, ap, ◌∙◌, subst, append_assoc}
 use Rattle.std.proofs.lemmas.List.{map-append}
 use Rattle.oa_disk.specs.declared.disk.Disk.{Ghosts}
-use Rattle.oa_group_commit.specs.Groups.{concat_groups}
-use Rattle.oa_group_commit.specs.Runs.{Trace}
-use Rattle.oa_group_commit.specs.StateMachines.{Exchange, body_of, reply_of}
+use Rattle.oa_group_commit.specs.promise.Groups.{concat_groups, Trace, Exchange, body_of, reply_of}
 use Rattle.oa_group_commit.proofs.Entries.{joined_two}
-use Rattle.oa_record.specs.Replies.{ReplyValue}
+use Rattle.oa_record.specs.promise.Replies.{ReplyValue}
 use Rattle.oa_server.specs.Laws.{AnsweredAreRun}
-use Rattle.oa_server.specs.ServerMachine.{fault_reply, failed_reply, server_machine}
-use Rattle.oa_decision.specs.States.{State}
-use Rattle.oa_turn.specs.Turns.{Run}
+use Rattle.oa_server.specs.promise.ServerMachine.{fault_reply, failed_reply, server_machine}
+use Rattle.oa_decision.specs.promise.States.{State}
+use Rattle.oa_turn.specs.promise.Turns.{Run}
 
 entries_run : (old new : State) (entries : List (Exchange ReplyValue)) → Trace server_machine old entries new → Run old (map body_of entries) (map reply_of entries) new
 entries_run old new [] run = sym run

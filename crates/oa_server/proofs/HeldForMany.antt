@@ -4,33 +4,34 @@ use Rattle.std.proofs.lemmas.List.{append-nil, length-append}
 use Rattle.oa_disk.specs.declared.disk.Disk.{Ghosts}
 use Rattle.oa_frame.specs.declared.ends.End.{End}
 use Rattle.oa_frame.specs.declared.ends.End.TheVariants.{Closed, Cut, TooLong, BadHex, ReadFault, WriteFault}
-use Rattle.oa_group_commit.specs.Groups.{fills}
-use Rattle.oa_group_commit.specs.GroupStates.{GroupState, IsAdmitted, IsBuffered, IsEnded, IsGroupCommitted}
+use Rattle.oa_group_commit.specs.promise.Groups.{fills, GroupState, IsAdmitted, IsBuffered, IsEnded, IsGroupCommitted}
+use Rattle.oa_group_commit.specs.promise.Groups.{exchange}
 use Rattle.oa_group_commit.specs.Simple.{no_event}
-use Rattle.oa_group_commit.specs.StateMachines.{exchange}
 use Rattle.oa_group_commit.proofs.Stores.{goes_nowhere}
-use Rattle.oa_journal.specs.Replays.{Replays}
+use Rattle.oa_journal.specs.promise.Bank.{Replays}
 use Rattle.oa_store.proofs.Committed.{still_carried}
-use Rattle.oa_turn.specs.ClientLocks.{ClientLock}
+use Rattle.oa_turn.specs.promise.ClientLocks.{ClientLock}
 use Rattle.oa_decision.specs.declared.decision.LockChange.{LockChange}
-use Rattle.oa_record.specs.Replies.{ReplyValue, reply_record}
-use Rattle.oa_server.specs.SharedGroups.{ClearsDesk, IsEventless, all_frames, cleared_desk, shared_group_state, shared_group_state_of, told_at, told_to, told_with}
+use Rattle.oa_record.specs.promise.Replies.{ReplyValue, reply_record}
+use Rattle.oa_server.specs.SharedGroups.{ClearsDesk, IsEventless, cleared_desk, told_at}
+use Rattle.oa_server.specs.promise.SharedSessions.{all_frames, shared_group_state, shared_group_state_of, told_to}
+use Rattle.oa_server.specs.promise.SharedSessions.{told_with, TakesOver}
 use Rattle.oa_server.specs.OpenGroups.{grouping}
-use Rattle.oa_server.specs.ServerMachine.{server_machine}
-use Rattle.oa_server.specs.SharedMachine.{shared_machine}
-use Rattle.oa_server.specs.Sharing.{ClientReply, IsLockTurn, Leaves, Replies, Shared, behind_end, shared, tagged_body}
+use Rattle.oa_server.specs.promise.ServerMachine.{server_machine}
+use Rattle.oa_server.specs.promise.SharedMachine.{shared_machine, ClientReply, Leaves, Replies, Shared, behind_end}
+use Rattle.oa_server.specs.promise.SharedMachine.{shared, tagged_body}
+use Rattle.oa_server.specs.Sharing.{IsLockTurn}
 use Rattle.oa_server.specs.declared.desk.ReplyTo.{ReplyTo}
 use Rattle.oa_server.specs.declared.desk.SharedGroup.{SharedGroup}
 use Rattle.oa_server.proofs.Lifted.{lifted_settled, lifted_taken, told_both, told_length, told_none}
-use Rattle.oa_server.specs.SharedTalks.{TakesOver}
 use Rattle.oa_server.proofs.PutFrames.{no_told}
-use Rattle.oa_mux.specs.Marks.{Flush, Of}
-use Rattle.oa_mux.specs.Readers.{Body, Brought, Ends}
+use Rattle.oa_mux.specs.promise.Marks.{Flush, Of}
+use Rattle.oa_mux.specs.promise.Readers.{Body, Brought, Ends}
 use Rattle.oa_store.specs.declared.store.Store.{Store}
-use Rattle.oa_decision.specs.States.{State}
-use Rattle.oa_table.specs.Tables.{TableValue}
-use Rattle.oa_turn.specs.Events.{held_of}
-use Rattle.oa_turn.specs.Locking.{AsksLock}
+use Rattle.oa_decision.specs.promise.States.{State}
+use Rattle.oa_table.specs.promise.Tables.{TableValue}
+use Rattle.oa_turn.specs.promise.Events.{held_of}
+use Rattle.oa_turn.specs.promise.Locking.{AsksLock}
 
 none_made : (old new : TableValue) → new ≡ old → Replays [] old new
 none_made old new same = subst (λ (t : TableValue). Replays [] old t) (sym same) (no_event old)

@@ -1,18 +1,18 @@
 -- A session of a server in memory is one of turns.
 use Rattle.std.proofs.Common.{ℕ, List, [], ◌∷◌, sym, ap, subst}
 use Rattle.oa_disk.specs.declared.disk.Disk.{Ghosts}
-use Rattle.oa_frame.specs.Framings.{Frames}
-use Rattle.oa_frame.specs.Sessions as sessions
+use Rattle.oa_frame.specs.promise.Framings.{Frames}
+use Rattle.oa_frame.specs.promise.Sessions as sessions
 use Rattle.oa_frame.specs.declared.session.Served.{Served}
-use Rattle.oa_record.specs.Replacement.{is_replacement}
-use Rattle.oa_stream.specs.Source.{Input}
-use Rattle.oa_stream.specs.Sink.{Output}
+use Rattle.oa_record.specs.promise.Replacement.{is_replacement}
+use Rattle.oa_stream.specs.promise.Source.{Input}
+use Rattle.oa_stream.specs.promise.Sink.{Output}
 use Rattle.oa_server.specs.declared.engine.ServerState.{ServerState}
 use Rattle.oa_server.specs.declared.open_group.OpenGroup.{OpenGroup}
 use Rattle.oa_server.specs.declared.storage.Storage.{Storage}
 use Rattle.oa_server.specs.declared.storage.Storage.TheVariants.{Disk, Memory}
 use Rattle.oa_server.specs.Serving.{none_held, turn_written}
-use Rattle.oa_decision.specs.States.{State}
+use Rattle.oa_decision.specs.promise.States.{State}
 use Rattle.oa_server.specs.Storages.{InMemory}
 use Rattle.oa_server.specs.Talks.{InputEnds, Taken, ended_written, taken_written}
 use Rattle.oa_server.proofs.Retold.{session_as}

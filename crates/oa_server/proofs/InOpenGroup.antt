@@ -3,18 +3,17 @@ use Rattle.std.proofs.Common.{rules, ◌≡◌, inl, inr, ℕ, ◌≤◌, true, 
 use Rattle.std.proofs.Common.{◌∙◌, subst}
 use Rattle.std.proofs.lemmas.List.{append-nil, length-map, map_push, nil_from_length, same_from_push}
 use Rattle.oa_disk.specs.declared.disk.Disk.{Ghosts}
-use Rattle.oa_group_commit.specs.GroupStates.{GroupState, IsBuffered, IsEnded, IsGroupCommitted}
-use Rattle.oa_group_commit.specs.Groups.{HasNoBarrier, events_in, fills, is_full}
-use Rattle.oa_group_commit.specs.Runs.{Trace}
-use Rattle.oa_group_commit.specs.StateMachines.{Exchange, body_of, exchange, reply_of}
+use Rattle.oa_group_commit.specs.promise.Groups.{GroupState, IsBuffered, IsEnded, IsGroupCommitted, HasNoBarrier}
+use Rattle.oa_group_commit.specs.promise.Groups.{events_in, fills, is_full, Trace, Exchange, body_of, exchange}
+use Rattle.oa_group_commit.specs.promise.Groups.{reply_of}
 use Rattle.oa_group_commit.proofs.Entries.{events_push, run_append}
-use Rattle.oa_record.specs.Replacement.{is_replacement}
-use Rattle.oa_record.specs.Replies.{ReplyValue}
+use Rattle.oa_record.specs.promise.Replacement.{is_replacement}
+use Rattle.oa_record.specs.promise.Replies.{ReplyValue}
 use Rattle.oa_store.specs.declared.store.Store.{Store}
 use Rattle.oa_server.specs.OpenGroups.{IsDueFor, grouping}
-use Rattle.oa_server.specs.ServerMachine.{server_machine}
-use Rattle.oa_decision.specs.States.{State}
-use Rattle.oa_server.specs.Talks.{IsWholeGroup, IsNoGroupYet}
+use Rattle.oa_server.specs.promise.ServerMachine.{server_machine}
+use Rattle.oa_decision.specs.promise.States.{State}
+use Rattle.oa_server.specs.promise.Storages.{IsWholeGroup, IsNoGroupYet}
 
 -- these requests are in the open group, and are no group yet
 pub record Holding {D : Type 0} {g : Ghosts D} (size : ℕ) (first : State) (now : Store D g) (state : State) (pending : List ReplyValue) (events : List ℕ) (bodies : List (List ℕ)) : Type 0 where

@@ -11,64 +11,69 @@ use Rattle.std.specs.List.Sorted.{IsStrictlySortedBy}
 use Rattle.std.specs.Map.{keys_of, lookup}
 use Rattle.std.specs.Option.{option_map}
 use Rattle.std.specs.Ordering.{nat_cmp}
-use Rattle.oa_array.specs.Arrays.{ArrayValue}
+use Rattle.oa_array.specs.promise.Arrays.{ArrayValue}
 use Rattle.oa_array.specs.declared.fault.ArrayFault.{ArrayFault}
 use Rattle.oa_array.specs.declared.fault.ArrayFault.TheVariants as arrays
 use Rattle.oa_frame.specs.declared.ends.End.{End}
 use Rattle.oa_frame.specs.declared.ends.End.TheVariants.{Closed, Cut, TooLong, BadHex, ReadFault, WriteFault}
-use Rattle.oa_group_commit.specs.StateMachines.{Exchange}
-use Rattle.oa_image.specs.Tables.{is_numbered, is_used}
+use Rattle.oa_group_commit.specs.promise.Groups.{Exchange}
+use Rattle.oa_image.specs.promise.Tables.{is_numbered, is_used}
 use Rattle.oa_image.proofs.Numbered.{numbers_stay, on_object_keeps, unlocked_numbers}
 use Rattle.oa_model.specs.declared.bound.Bound.{Bound}
 use Rattle.oa_model.specs.declared.hresult.HResult.{HResult}
 use Rattle.oa_model.specs.declared.var_type.ValueType.{ValueType}
 use Rattle.oa_model.specs.declared.var_type.ValueType.TheVariants as kinds
-use Rattle.oa_turn.specs.ClientLocks.{ClientLock, cells_of, of_others, with_one, without_one}
+use Rattle.oa_turn.specs.promise.ClientLocks.{ClientLock, cells_of, of_others, with_one, without_one}
 use Rattle.oa_turn.specs.Counts.{HasLocks, IsLedger, locked_name}
 use Rattle.oa_turn.proofs.Counted.{can_unlock, count_more_of, count_none, count_of_none, count_owned, count_without, event_ordered, event_stays, has_same, lock_counted, object_ordered, own_one_more, own_without, redim_same, unlock_counted}
-use Rattle.oa_record.specs.Asks.{Asks, IsStub, tag_at}
-use Rattle.oa_record.specs.Replacement.{is_replacement}
-use Rattle.oa_record.specs.Replies.{ReplyValue, number_field}
+use Rattle.oa_record.specs.promise.Asks.{Asks, IsStub, tag_at}
+use Rattle.oa_record.specs.promise.Replacement.{is_replacement}
+use Rattle.oa_record.specs.promise.Replies.{ReplyValue, number_field}
 use Rattle.oa_record.specs.declared.request.Request.{Request}
 use Rattle.oa_record.specs.declared.request.Request.TheVariants as requests
 use Rattle.oa_record.specs.declared.opcode.ByCall.TheVariants as by_call
 use Rattle.oa_record.specs.declared.opcode.ByNumber.TheVariants as by_number
 use Rattle.oa_server.specs.Ledgers.{ClientsKeepLedger, EndUnlocksAll, HasLedger, IsRunOfOne, IsTurnOfOne, OpeningHasLedger, OwnsAll, RunsKeepLedger, TurnsKeepLedger}
-use Rattle.oa_server.specs.Sharing.{ClientReply, HasOwners, IsSharedTurn, Leaves, MayChange, RefusesUnlock, Replies, Shared, SharedTurnOf, TakesTurn, TurnsFor, behind_end, brought_by, client_in, relocked_by, shared, tagged_body, taken_back}
+use Rattle.oa_server.specs.promise.SharedMachine.{ClientReply, HasOwners, IsSharedTurn, Leaves, MayChange}
+use Rattle.oa_server.specs.promise.SharedMachine.{RefusesUnlock, Replies, Shared, SharedTurnOf, TakesTurn, TurnsFor}
+use Rattle.oa_server.specs.promise.SharedMachine.{behind_end, brought_by, client_in, relocked_by, shared, tagged_body}
+use Rattle.oa_server.specs.promise.SharedMachine.{taken_back}
 use Rattle.oa_server.proofs.LockTurns.{OneRequest, apart_asks_none, not_apart}
-use Rattle.oa_mux.specs.Readers.{Body, Brought, Ends}
-use Rattle.oa_table.specs.Elements.{locks_in, locks_of, redimensioned_value, released_value}
-use Rattle.oa_table.specs.Events.{BringsNoLocks, applied}
-use Rattle.oa_table.specs.Locks.{locks_at, with_lock, without_lock}
-use Rattle.oa_table.specs.Elements.{locked_value}
-use Rattle.oa_table.specs.Objects.{with_change}
-use Rattle.oa_table.specs.Places.{PlaceValue, place_cmp}
-use Rattle.oa_table.specs.Tables.{ObjectValue, TableValue, cell_at, cell_in, object_at, unlocked_cell, unlocked_entry, unlocked_object, unlocked_table}
+use Rattle.oa_mux.specs.promise.Readers.{Body, Brought, Ends}
+use Rattle.oa_table.specs.promise.Elements.{locks_in, locks_of, redimensioned_value, released_value, locked_value}
+use Rattle.oa_table.specs.Events.{BringsNoLocks}
+use Rattle.oa_table.specs.promise.Events.{applied}
+use Rattle.oa_table.specs.Locks.{locks_at}
+use Rattle.oa_table.specs.promise.Locks.{with_lock, without_lock}
+use Rattle.oa_table.specs.promise.Objects.{with_change}
+use Rattle.oa_table.specs.promise.Places.{PlaceValue, place_cmp}
+use Rattle.oa_table.specs.promise.Tables.{ObjectValue, TableValue, cell_at, cell_in, object_at, unlocked_cell}
+use Rattle.oa_table.specs.promise.Tables.{unlocked_entry, unlocked_object, unlocked_table}
 use Rattle.oa_table.specs.declared.event.Event.{Event}
 use Rattle.oa_table.specs.declared.event.Event.TheVariants.{Create as CreateEvent}
 use Rattle.oa_table.specs.declared.fault.TableFault.{TableFault}
 use Rattle.oa_table.specs.declared.fault.TableFault.TheVariants as faults
 use Rattle.oa_table.specs.declared.name.CellName.{CellName}
 use Rattle.oa_typelib.specs.declared.access.Access.TheVariants.{Flags, Get, Put}
-use Rattle.oa_variant.specs.Variants.{unlocked, zero_value}
+use Rattle.oa_variant.specs.promise.Variants.{unlocked, zero_value}
 use Rattle.oa_variant.specs.declared.scalar.Scalar.{Scalar}
 use Rattle.oa_variant.specs.declared.variant.Variant.{Variant}
 use Rattle.oa_variant.specs.declared.variant.Variant.TheVariants.{One, Array as AnArray}
-use Rattle.oa_decision.specs.ArrayCells.{array_locks, as_refused, element_in, locks_found, put_in}
-use Rattle.oa_decision.specs.Cells.{cell_called}
-use Rattle.oa_decision.specs.Create.{class_found, fitting}
-use Rattle.oa_decision.specs.Decided.{decided}
-use Rattle.oa_decision.specs.GetElement.{reading}
-use Rattle.oa_decision.specs.Invoke.{acting}
-use Rattle.oa_decision.specs.Limits.{allowed}
-use Rattle.oa_decision.specs.Lock.{adding}
-use Rattle.oa_decision.specs.LookUps.{ids_found}
-use Rattle.oa_decision.specs.PutElement.{element_for, setting}
-use Rattle.oa_decision.specs.Redimension.{resizing, zero_with}
-use Rattle.oa_decision.specs.Refusals.{◌>>=◌, known}
-use Rattle.oa_decision.specs.States.{State}
-use Rattle.oa_decision.specs.TypeInfo.{description_of}
-use Rattle.oa_decision.specs.Unlock.{unlock_decision}
+use Rattle.oa_decision.specs.promise.ArrayCells.{array_locks, as_refused, element_in, locks_found, put_in}
+use Rattle.oa_decision.specs.promise.Cells.{cell_called}
+use Rattle.oa_decision.specs.promise.Create.{class_found, fitting}
+use Rattle.oa_decision.specs.promise.Decided.{decided}
+use Rattle.oa_decision.specs.promise.GetElement.{reading}
+use Rattle.oa_decision.specs.promise.Invoke.{acting}
+use Rattle.oa_decision.specs.promise.Limits.{allowed}
+use Rattle.oa_decision.specs.promise.Lock.{adding}
+use Rattle.oa_decision.specs.promise.LookUps.{ids_found}
+use Rattle.oa_decision.specs.promise.PutElement.{element_for, setting}
+use Rattle.oa_decision.specs.promise.Redimension.{resizing, zero_with}
+use Rattle.oa_decision.specs.promise.Refusals.{◌>>=◌, known}
+use Rattle.oa_decision.specs.promise.States.{State}
+use Rattle.oa_decision.specs.promise.TypeInfo.{description_of}
+use Rattle.oa_decision.specs.promise.Unlock.{unlock_decision}
 use Rattle.oa_decision.specs.declared.decider.cell.BoundCell.{BoundCell}
 use Rattle.oa_decision.specs.declared.decision.Decision.{Decision}
 use Rattle.oa_decision.specs.declared.decision.Decision.TheVariants.{Answer, Change, Relock}
@@ -76,13 +81,14 @@ use Rattle.oa_decision.specs.declared.decision.LockChange.{LockChange}
 use Rattle.oa_decision.specs.declared.decision.LockChange.TheVariants.{Lock, Unlock}
 use Rattle.oa_decision.specs.declared.refusal.Refusal.{Refusal}
 use Rattle.oa_turn.proofs.NoTrace.{not_done, quiet_turn}
-use Rattle.oa_turn.specs.Events.{is_done}
-use Rattle.oa_turn.specs.Locking.{changes_lock, lock_asked_by, lock_decided}
-use Rattle.oa_turn.specs.Replacing.{Replacement, after_replacement}
-use Rattle.oa_turn.specs.Steps.{after_locks, after_outcome, changed, outcome, outcome_of, relocked, relocking, reply_with, state_after, with_table}
-use Rattle.oa_turn.specs.Turns.{Ordinary, Steps, Turn}
+use Rattle.oa_turn.specs.promise.Events.{is_done}
+use Rattle.oa_turn.specs.promise.Locking.{changes_lock, lock_asked_by, lock_decided}
+use Rattle.oa_turn.specs.promise.Replacing.{Replacement, after_replacement}
+use Rattle.oa_turn.specs.promise.Steps.{after_locks, after_outcome, changed, outcome, outcome_of, relocked, relocking}
+use Rattle.oa_turn.specs.promise.Steps.{reply_with, state_after, with_table}
+use Rattle.oa_turn.specs.promise.Turns.{Ordinary, Steps, Turn}
 use Rattle.oa_compat.specs.declared.lost.Incompatibility.{Incompatibility}
-use Rattle.oa_idl.specs.Trees.{TreeValue}
+use Rattle.oa_idl.specs.promise.Trees.{TreeValue}
 
 abbrev some_change : LockChange → Option LockChange
 some_change change = Some change

@@ -3,25 +3,25 @@ use Rattle.std.proofs.Common.{◌≡◌, ◌⊎◌, inl, inr, ℕ, suc, ◌+◌,
 use Rattle.std.proofs.lemmas.List.{length-map, length-append}
 use Rattle.oa_disk.specs.declared.disk.Disk.{Ghosts}
 use Rattle.oa_frame.specs.declared.ends.End.{End}
-use Rattle.oa_group_commit.specs.Groups.{fills}
-use Rattle.oa_group_commit.specs.GroupStates.{GroupState, IsAdmitted, IsAfterFault, IsApart, IsBarrierAnswered, IsBuffered, IsDue, IsEnded, IsFlushed, IsGroupCommitted, IsIdle, IsLast}
-use Rattle.oa_group_commit.specs.StateMachines.{exchange}
+use Rattle.oa_group_commit.specs.promise.Groups.{fills, GroupState, IsAdmitted, IsAfterFault, IsApart}
+use Rattle.oa_group_commit.specs.promise.Groups.{IsBarrierAnswered, IsBuffered, IsDue, IsEnded, IsFlushed}
+use Rattle.oa_group_commit.specs.promise.Groups.{IsGroupCommitted, IsIdle, IsLast, exchange}
 use Rattle.oa_group_commit.proofs.Entries.{either}
-use Rattle.oa_turn.specs.ClientLocks.{ClientLock}
-use Rattle.oa_record.specs.Replacement.{is_replacement}
-use Rattle.oa_record.specs.Replies.{ReplyValue}
+use Rattle.oa_turn.specs.promise.ClientLocks.{ClientLock}
+use Rattle.oa_record.specs.promise.Replacement.{is_replacement}
+use Rattle.oa_record.specs.promise.Replies.{ReplyValue}
 use Rattle.oa_store.specs.declared.store.Store.{Store}
-use Rattle.oa_server.specs.SharedGroups.{shared_group_state, told_to, told_with}
+use Rattle.oa_server.specs.promise.SharedSessions.{shared_group_state, told_to, told_with}
 use Rattle.oa_server.specs.OpenGroups.{grouping}
-use Rattle.oa_server.specs.ServerMachine.{IsAsked, server_machine}
-use Rattle.oa_server.specs.ServerMachine as one_client
-use Rattle.oa_server.specs.SharedMachine.{shared_machine}
-use Rattle.oa_server.specs.Sharing.{ClientReply, HasOwners, IsSharedTurn, Replies, Shared, aborted_client_reply, fault_client_reply, shared, tagged_body}
+use Rattle.oa_server.specs.promise.ServerMachine.{IsAsked, server_machine}
+use Rattle.oa_server.specs.promise.ServerMachine as one_client
+use Rattle.oa_server.specs.promise.SharedMachine.{shared_machine, ClientReply, HasOwners, IsSharedTurn, Replies, Shared}
+use Rattle.oa_server.specs.promise.SharedMachine.{aborted_client_reply, fault_client_reply, shared, tagged_body}
 use Rattle.oa_server.specs.declared.desk.ReplyTo.{ReplyTo}
-use Rattle.oa_mux.specs.Readers.{Body}
-use Rattle.oa_decision.specs.States.{State}
+use Rattle.oa_mux.specs.promise.Readers.{Body}
+use Rattle.oa_decision.specs.promise.States.{State}
 use Rattle.oa_decision.specs.declared.decision.LockChange.{LockChange}
-use Rattle.oa_turn.specs.Locking.{AsksLock}
+use Rattle.oa_turn.specs.promise.Locking.{AsksLock}
 
 -- ---- whose reply is whose
 pub told_none : (askers : List ReplyTo) → told_to askers [] ≡ []

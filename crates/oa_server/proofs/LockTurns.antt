@@ -1,19 +1,20 @@
 -- Bodies that ask for a lock to be changed.
 use Rattle.std.proofs.Common.{◌≡◌, ◌⊎◌, if◌then◌else◌, inl, inr, ℕ, Bool, true, false, true≢false, List, [], Option, Some, None, Result, Ok, Err, IsOk, refl, sym, ap, ◌∙◌, subst}
-use Rattle.oa_model.specs.Codes.{e_outofmemory}
-use Rattle.oa_turn.specs.ClientLocks.{ClientLock, owns, with_one, without_one}
-use Rattle.oa_record.specs.Asks.{Asks, IsStub, MayStarve, tag_at}
-use Rattle.oa_record.specs.Replacement.{is_replacement}
-use Rattle.oa_record.specs.Replies.{ReplyValue}
+use Rattle.oa_model.specs.promise.Codes.{e_outofmemory}
+use Rattle.oa_turn.specs.promise.ClientLocks.{ClientLock, owns, with_one, without_one}
+use Rattle.oa_record.specs.promise.Asks.{Asks, IsStub, MayStarve, tag_at}
+use Rattle.oa_record.specs.promise.Replacement.{is_replacement}
+use Rattle.oa_record.specs.promise.Replies.{ReplyValue}
 use Rattle.oa_record.specs.declared.request.Request.{Request}
 use Rattle.oa_record.specs.declared.request.Request.TheVariants as requests
 use Rattle.oa_record.specs.declared.opcode.ByCall.TheVariants as by_call
-use Rattle.oa_server.specs.Sharing.{HasOwners, IsLockTurn, MayChange, TurnsFor, relocked_by, shared}
+use Rattle.oa_server.specs.promise.SharedMachine.{HasOwners, MayChange, TurnsFor, relocked_by, shared}
+use Rattle.oa_server.specs.Sharing.{IsLockTurn}
 use Rattle.oa_table.specs.declared.name.CellName.{CellName}
-use Rattle.oa_decision.specs.Decided.{RequestTakesMemory, decided, refusal}
-use Rattle.oa_decision.specs.Lock.{locking}
-use Rattle.oa_decision.specs.States.{State}
-use Rattle.oa_decision.specs.Unlock.{unlocking}
+use Rattle.oa_decision.specs.promise.Decided.{RequestTakesMemory, decided, refusal}
+use Rattle.oa_decision.specs.promise.Lock.{locking}
+use Rattle.oa_decision.specs.promise.States.{State}
+use Rattle.oa_decision.specs.promise.Unlock.{unlocking}
 use Rattle.oa_decision.specs.declared.decision.Decision.{Decision}
 use Rattle.oa_decision.specs.declared.decision.Decision.TheVariants.{Answer, Change, Relock}
 use Rattle.oa_decision.specs.declared.decision.LockChange.{LockChange}
@@ -22,10 +23,11 @@ use Rattle.oa_decision.specs.declared.plan.Planned.{Planned}
 use Rattle.oa_decision.specs.declared.refusal.Refusal.{Refusal}
 use Rattle.oa_turn.proofs.Eventless.{undone}
 use Rattle.oa_turn.proofs.SameLibrary.{ordinary_bank}
-use Rattle.oa_turn.specs.Events.{HasEvent, is_done}
-use Rattle.oa_turn.specs.Locking.{AsksLock, changes_lock, lock_asked_by, lock_decided}
-use Rattle.oa_turn.specs.Plans.{HoldsSame, IsPlanned}
-use Rattle.oa_turn.specs.Turns.{MayLack, Ordinary, Turn}
+use Rattle.oa_turn.specs.promise.Events.{HasEvent, is_done}
+use Rattle.oa_turn.specs.promise.Locking.{AsksLock, changes_lock, lock_asked_by, lock_decided}
+use Rattle.oa_turn.specs.promise.Plans.{HoldsSame}
+use Rattle.oa_turn.specs.Plans.{IsPlanned}
+use Rattle.oa_turn.specs.promise.Turns.{MayLack, Ordinary, Turn}
 
 abbrev pub OneRequest : Type 0
 OneRequest = (body : List ℕ) (p q : Request) → Asks body p → Asks body q → p ≡ q

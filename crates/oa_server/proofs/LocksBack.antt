@@ -2,26 +2,26 @@
 use Rattle.std.proofs.Common.{◌≡◌, inl, inr, ℕ, zero, suc, ◌+◌, ◌-◌, ◌<◌, ◌≤◌, arith, true, true≢false, List, [], ◌∷◌, ◌++◌, Some, Result, Ok, Err, refl, sym, ap, ◌∙◌}
 use Rattle.oa_turn.proofs.Counted.{lock_back}
 use Rattle.oa_turn.specs.Kept.{all_locked_cells, copies, each_counted}
-use Rattle.oa_record.specs.Asks.{tag_at}
-use Rattle.oa_record.specs.Replies.{ReplyValue}
+use Rattle.oa_record.specs.promise.Asks.{tag_at}
+use Rattle.oa_record.specs.promise.Replies.{ReplyValue}
 use Rattle.oa_record.specs.declared.request.Request.{Request}
 use Rattle.oa_server.proofs.Ledgered.{fault_told, relock_of}
 use Rattle.oa_server.proofs.LockTurns.{OneRequest}
-use Rattle.oa_server.specs.Sharing.{taken_back}
-use Rattle.oa_table.specs.Locks.{with_lock}
-use Rattle.oa_table.specs.Tables.{TableValue}
+use Rattle.oa_server.specs.promise.SharedMachine.{taken_back}
+use Rattle.oa_table.specs.promise.Locks.{with_lock}
+use Rattle.oa_table.specs.promise.Tables.{TableValue}
 use Rattle.oa_table.specs.declared.fault.TableFault.{TableFault}
 use Rattle.oa_table.specs.declared.name.CellName.{CellName}
-use Rattle.oa_decision.specs.Decided.{decided}
-use Rattle.oa_decision.specs.States.{State}
+use Rattle.oa_decision.specs.promise.Decided.{decided}
+use Rattle.oa_decision.specs.promise.States.{State}
 use Rattle.oa_decision.specs.declared.decision.Decision.{Decision}
 use Rattle.oa_decision.specs.declared.decision.Decision.TheVariants.{Relock}
 use Rattle.oa_decision.specs.declared.decision.LockChange.TheVariants.{Lock, Unlock}
 use Rattle.oa_decision.specs.declared.refusal.Refusal.{Refusal}
-use Rattle.oa_turn.specs.Events.{is_done}
-use Rattle.oa_turn.specs.Locking.{AsksLock, changes_lock, lock_asked_by}
-use Rattle.oa_turn.specs.Steps.{after_locks, after_outcome, outcome_of, relocking, reply_with, with_table}
-use Rattle.oa_turn.specs.Turns.{Ordinary, Steps}
+use Rattle.oa_turn.specs.promise.Events.{is_done}
+use Rattle.oa_turn.specs.promise.Locking.{AsksLock, changes_lock, lock_asked_by}
+use Rattle.oa_turn.specs.promise.Steps.{after_locks, after_outcome, outcome_of, relocking, reply_with, with_table}
+use Rattle.oa_turn.specs.promise.Turns.{Ordinary, Steps}
 
 -- ---- locks of one cell, of one client and of all
 abbrev pub taken_counts : List (CellName × ℕ) → State → State

@@ -1,15 +1,15 @@
 -- A turn that makes an event.
 use Rattle.std.proofs.Common.{◌≡◌, inl, inr, ℕ, ◌<◌, Bool, true, false, true≢false, List, length, refl, sym, ap, ◌∙◌, subst, arith}
-use Rattle.oa_group_commit.specs.Runs.{MakesEvent}
-use Rattle.oa_record.specs.Asks.{Asks}
-use Rattle.oa_record.specs.Replacement.{is_replacement}
+use Rattle.oa_group_commit.specs.promise.Groups.{MakesEvent}
+use Rattle.oa_record.specs.promise.Asks.{Asks}
+use Rattle.oa_record.specs.promise.Replacement.{is_replacement}
 use Rattle.oa_record.specs.declared.request.Request.{Request}
-use Rattle.oa_turn.specs.Events.{change_bytes, is_done}
-use Rattle.oa_decision.specs.States.{State}
-use Rattle.oa_turn.specs.Steps.{outcome}
-use Rattle.oa_turn.specs.Turns.{Ordinary, Turn}
+use Rattle.oa_turn.specs.promise.Events.{change_bytes, is_done}
+use Rattle.oa_decision.specs.promise.States.{State}
+use Rattle.oa_turn.specs.promise.Steps.{outcome}
+use Rattle.oa_turn.specs.promise.Turns.{Ordinary, Turn}
 use Rattle.oa_server.specs.Answers.{MakesNoEvent}
-use Rattle.oa_server.specs.ServerMachine.{server_machine}
+use Rattle.oa_server.specs.promise.ServerMachine.{server_machine}
 
 -- where a turn of the body makes an event, one comes of what it asks
 pub event_of : (state : State) (body : List ℕ) → is_replacement body ≡ false → MakesEvent server_machine state body → (request : Request) × Asks body request × (0 < length (change_bytes (outcome state request).event))

@@ -3,36 +3,32 @@ use Rattle.std.proofs.Common.{◌≡◌, ℕ, true, false, List, [], ◌∷◌, 
 use Rattle.std.proofs.lemmas.List.{append-nil, map-append}
 use Rattle.oa_disk.specs.declared.disk.Disk.{Ghosts}
 use Rattle.oa_frame.specs.declared.ends.End.{End}
-use Rattle.oa_group_commit.specs.Groups.{concat_groups}
-use Rattle.oa_group_commit.specs.Runs.{Trace}
-use Rattle.oa_group_commit.specs.Served.{IsServed}
-use Rattle.oa_group_commit.specs.StateMachines.{Exchange, body_of, reply_of}
+use Rattle.oa_group_commit.specs.promise.Groups.{concat_groups, Trace, IsServed, Exchange, body_of, reply_of}
 use Rattle.oa_group_commit.proofs.Entries.{run_append}
 use Rattle.oa_turn.proofs.Counted.{count_none}
-use Rattle.oa_turn.specs.ClientLocks.{ClientLock, of_others}
+use Rattle.oa_turn.specs.promise.ClientLocks.{ClientLock, of_others}
 use Rattle.oa_turn.specs.Counts.{count_in, locked_name}
-use Rattle.oa_record.specs.Asks.{Asks, IsStub}
-use Rattle.oa_record.specs.Replacement.{is_replacement}
-use Rattle.oa_record.specs.Replies.{ReplyValue, reply_record}
+use Rattle.oa_record.specs.promise.Asks.{Asks, IsStub}
+use Rattle.oa_record.specs.promise.Replacement.{is_replacement}
+use Rattle.oa_record.specs.promise.Replies.{ReplyValue, reply_record}
 use Rattle.oa_record.specs.declared.request.Request.{Request}
 use Rattle.oa_store.specs.declared.store.Store.{Store}
-use Rattle.oa_server.specs.SharedGroups.{all_frames, frames_of}
+use Rattle.oa_server.specs.promise.SharedSessions.{all_frames, frames_of, AsksIn}
 use Rattle.oa_server.specs.Ledgers.{HasLedger, OwnsAll}
 use Rattle.oa_server.specs.OneClient.{AsksBodies, IsBehindEnd, IsUnlocked, OneClientInMemory, OneClientOverStore, end_frames, frames_to}
-use Rattle.oa_server.specs.SharedMachine.{end_keeps, shared_machine}
-use Rattle.oa_server.specs.SharedTalks.{AsksIn}
-use Rattle.oa_server.specs.Sharing.{ClientReply, Leaves, Replies, Shared, TurnsFor, behind_end, shared, tagged_body}
-use Rattle.oa_server.specs.Stretches.{ServesStretches, Stretch, all_told, bodies_of, cut_at_now, told_in}
+use Rattle.oa_server.specs.promise.SharedMachine.{end_keeps, shared_machine, ClientReply, Leaves, Replies, Shared}
+use Rattle.oa_server.specs.promise.SharedMachine.{TurnsFor, behind_end, shared, tagged_body, Stretch, all_told}
+use Rattle.oa_server.specs.Stretches.{ServesStretches, bodies_of, cut_at_now, told_in}
 use Rattle.oa_server.specs.declared.engine.ServerState.{ServerState}
 use Rattle.oa_server.specs.declared.storage.Storage.{Storage}
 use Rattle.oa_server.proofs.LockTurns.{OneRequest}
 use Rattle.oa_server.proofs.Ledgered.{body_of_one, body_told, clients_keep, end_of_one, for_keeps, run_of_one, runs_keep, turn_of_one}
 use Rattle.oa_server.proofs.SharedParts.{goes_before}
-use Rattle.oa_mux.specs.Marks.{Flush, Of, Tagged}
-use Rattle.oa_mux.specs.Readers.{Body, Brought, Ends}
-use Rattle.oa_decision.specs.States.{State}
-use Rattle.oa_turn.specs.Plans.{HoldsSame}
-use Rattle.oa_turn.specs.Turns.{Run}
+use Rattle.oa_mux.specs.promise.Marks.{Flush, Of, Tagged}
+use Rattle.oa_mux.specs.promise.Readers.{Body, Brought, Ends}
+use Rattle.oa_decision.specs.promise.States.{State}
+use Rattle.oa_turn.specs.promise.Plans.{HoldsSame}
+use Rattle.oa_turn.specs.promise.Turns.{Run}
 
 one_first : (told : List (ℕ × List ℕ)) (tolds : List (List (ℕ × List ℕ))) → all_told (told ∷ tolds) ≡ told ++ all_told tolds
 unfolding all_told

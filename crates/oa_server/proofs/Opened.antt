@@ -1,31 +1,31 @@
 -- What an opening answers, where a stop has left one of two states.
 use Rattle.std.proofs.Common.{true, ◌≤◌, ◌≡◌, ◌≢◌, ◌⊎◌, ⊎_elim, ℕ, List, Some, length, inl, inr, refl, sym, ◌∙◌, subst, arith}
 use Rattle.oa_compat.proofs.Kept.{unlocked_fits}
-use Rattle.oa_compat.specs.Fits.{fits}
-use Rattle.oa_group_commit.specs.Runs.{HoldsState}
-use Rattle.oa_printer.specs.Canonical.{canonical}
-use Rattle.oa_idl.specs.Trees.{TreeValue}
+use Rattle.oa_compat.specs.promise.Fits.{fits}
+use Rattle.oa_group_commit.specs.promise.Groups.{HoldsState}
+use Rattle.oa_printer.specs.promise.Canonical.{canonical}
+use Rattle.oa_idl.specs.promise.Trees.{TreeValue}
 use Rattle.oa_image.proofs.TablesWithImages.{same_table}
-use Rattle.oa_journal.specs.Bank.{HasHeader, HasLibrary, from_place}
+use Rattle.oa_journal.specs.promise.Bank.{HasHeader, HasLibrary, from_place, body_bytes, format_of}
 use Rattle.oa_journal.proofs.Banks.{bank_header}
 use Rattle.oa_journal.proofs.Damages.{bank_library, one_library}
-use Rattle.oa_journal.specs.Shapes.{body_bytes, format_of}
 use Rattle.oa_journal.proofs.Unique.{one_head}
 use Rattle.oa_journal.specs.declared.shape.BankFormat.{BankFormat}
 use Rattle.oa_journal.specs.declared.shape.BankFormat.TheVariants.{One, Two}
-use Rattle.oa_store.specs.Faults.{SpeaksOfContents, RefusalSays}
+use Rattle.oa_store.specs.promise.Faults.{SpeaksOfContents, RefusalSays}
 use Rattle.oa_store.proofs.OneStore.{one_store}
 use Rattle.oa_store.proofs.Opened.{of_wanted}
-use Rattle.oa_store.specs.Stores.{IsFormatted, IsNewStore, IsStoreAt, IsStoreIn, body_place, head_place}
+use Rattle.oa_store.specs.promise.Stores.{IsFormatted, IsStoreAt, IsStoreIn, body_place, head_place}
+use Rattle.oa_store.specs.Stores.{IsNewStore}
 use Rattle.oa_store.specs.declared.fault.OpenFault.{OpenFault}
 use Rattle.oa_store.specs.declared.fault.OpenFault.TheVariants.{NotAStore, OldFormat, LibraryDiffers, Damaged, Device, Memory}
-use Rattle.oa_table.specs.Tables.{TableValue}
-use Rattle.oa_typelib.specs.Checked.{IsChecked}
-use Rattle.oa_turn.specs.Beginnings.{CanBegin, CanServe}
-use Rattle.oa_server.specs.Openings.{FindsState, FindsOneOf, HoldsOther, RefusesOneOf}
-use Rattle.oa_turn.specs.Events.{held_of}
-use Rattle.oa_server.specs.ServerMachine.{server_machine, text_of_library}
-use Rattle.oa_decision.specs.States.{State}
+use Rattle.oa_table.specs.promise.Tables.{TableValue}
+use Rattle.oa_typelib.specs.promise.Checked.{IsChecked}
+use Rattle.oa_turn.specs.promise.Beginnings.{CanBegin, CanServe}
+use Rattle.oa_server.specs.promise.ServerMachine.{FindsState, FindsOneOf, HoldsOther, RefusesOneOf, server_machine}
+use Rattle.oa_server.specs.promise.ServerMachine.{text_of_library}
+use Rattle.oa_turn.specs.promise.Events.{held_of}
+use Rattle.oa_decision.specs.promise.States.{State}
 use Rattle.oa_server.proofs.FoundIsKept.{one_size}
 
 -- an open store is one in format 2

@@ -3,19 +3,19 @@ use Rattle.std.proofs.Common.{◌≡◌, ◌⊎◌, ◌≤◌, inl, inr, ℕ, tr
 use Rattle.std.specs.Bool.{⊤}
 use Rattle.std.proofs.lemmas.List.{append-nil}
 use Rattle.oa_disk.specs.declared.disk.Disk.{Ghosts}
-use Rattle.oa_group_commit.specs.Served.{IsServed}
-use Rattle.oa_group_commit.specs.Sessions.{AnsweredCall, IsSessionOn, OpenSession, answered_by}
+use Rattle.oa_group_commit.specs.promise.Groups.{IsServed, AnsweredCall, IsSessionOn, OpenSession}
+use Rattle.oa_group_commit.specs.Sessions.{answered_by}
 use Rattle.oa_group_commit.proofs.Calling.{chained, come_before, goes_on_moments, session_called, session_goes_on, session_late}
 use Rattle.oa_group_commit.proofs.Entries.{either}
-use Rattle.oa_record.specs.Replies.{ReplyValue}
+use Rattle.oa_record.specs.promise.Replies.{ReplyValue}
 use Rattle.oa_store.specs.declared.store.Store.{Store}
 use Rattle.oa_server.specs.declared.storage.Storage.{Storage}
 use Rattle.oa_server.specs.declared.storage.Storage.TheVariants.{Disk, Memory}
 use Rattle.oa_server.specs.Laws.{PartsCount, PartsGoOn}
-use Rattle.oa_server.specs.ServerMachine.{server_machine}
-use Rattle.oa_decision.specs.States.{State}
-use Rattle.oa_server.specs.Storages.{Serves}
-use Rattle.oa_server.specs.Talks.{Part, Parts, calls_of}
+use Rattle.oa_server.specs.promise.ServerMachine.{server_machine}
+use Rattle.oa_decision.specs.promise.States.{State}
+use Rattle.oa_server.specs.promise.Storages.{Serves, Part, Parts}
+use Rattle.oa_server.specs.Talks.{calls_of}
 
 -- the moments of a session begin with these
 abbrev pub BeginsWith : List ℕ → List ℕ → Type 0

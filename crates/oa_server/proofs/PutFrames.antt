@@ -1,18 +1,19 @@
 -- Frames that are put one after another.
 use Rattle.std.proofs.Common.{◌≡◌, if◌then◌else◌, ℕ, ◌+◌, ◌<◌, ◌≤◌, Bool, true, false, List, [], ◌∷◌, ◌++◌, map, take, drop, length, get_or, Option, Some, None, Result, Ok, Err, refl, sym, ap, ◌∙◌, subst, arith, append_assoc}
 use Rattle.std.proofs.lemmas.List.{append-nil, length-take-le, take-append-drop, take_more}
-use Rattle.oa_frame.specs.Sessions.{is_answered}
+use Rattle.oa_frame.specs.promise.Sessions.{is_answered}
 use Rattle.oa_frame.specs.declared.ends.End.{End}
-use Rattle.oa_record.specs.Replies.{ReplyValue, reply_record}
-use Rattle.oa_stream.specs.Sink.{Breaks, Output, Puts, Writes}
+use Rattle.oa_record.specs.promise.Replies.{ReplyValue, reply_record}
+use Rattle.oa_stream.specs.promise.Sink.{Breaks, Output, Writes}
+use Rattle.oa_stream.specs.Sink.{Puts}
 use Rattle.oa_stream.specs.declared.sink.Unwritten.{Unwritten}
 use Rattle.oa_stream.proofs.Stretches.{breaks_after, breaks_before, puts_then, writes_nothing, writes_then}
-use Rattle.oa_server.specs.SharedGroups.{all_frames, frames_of, frames_with, told_to, told_with}
-use Rattle.oa_server.specs.Serving.{last_written}
-use Rattle.oa_server.specs.Sharing.{ClientReply, Leaves, Replies}
+use Rattle.oa_server.specs.promise.SharedSessions.{all_frames, frames_of, frames_with, told_to, told_with}
+use Rattle.oa_server.specs.promise.ServerMachine.{last_written}
+use Rattle.oa_server.specs.promise.SharedMachine.{ClientReply, Leaves, Replies}
 use Rattle.oa_server.specs.declared.desk.ReplyTo.{ReplyTo}
 use Rattle.oa_server.proofs.Lifted.{told_both}
-use Rattle.oa_mux.specs.Outgoing.{spelled_frame, spelled_frames}
+use Rattle.oa_mux.specs.promise.Outgoing.{spelled_frame, spelled_frames}
 
 pub frames_append : (xs ys : List (ℕ × List ℕ)) → spelled_frames (xs ++ ys) ≡ spelled_frames xs ++ spelled_frames ys
 unfolding spelled_frames

@@ -1,11 +1,11 @@
 -- Replies that are put one after another.
 use Rattle.std.proofs.Common.{◌≡◌, ℕ, ◌+◌, ◌<◌, List, [], ◌∷◌, ◌++◌, map, take, drop, length, get_or, refl, sym, ap, ◌∙◌, subst}
 use Rattle.std.proofs.lemmas.List.{map-append, map_push, take-append-drop, take_more}
-use Rattle.oa_frame.specs.Sessions.{spelled_all}
+use Rattle.oa_frame.specs.promise.Sessions.{spelled_all}
 use Rattle.oa_frame.proofs.Spelled.{spelled_append, spelled_one}
-use Rattle.oa_stream.specs.Sink.{Breaks, Output, Writes}
+use Rattle.oa_stream.specs.promise.Sink.{Breaks, Output, Writes}
 use Rattle.oa_stream.proofs.Stretches.{breaks_after, breaks_before, writes_then}
-use Rattle.oa_record.specs.Replies.{ReplyValue, reply_record}
+use Rattle.oa_record.specs.promise.Replies.{ReplyValue, reply_record}
 
 module _ (s : List ℕ → List ℕ) (replies : List ReplyValue) (i : ℕ) (reply : ReplyValue) (within : i < length replies) (is : get_or replies i reply ≡ reply) where
   abbrev spelled : List ReplyValue → List ℕ

@@ -1,36 +1,35 @@
 -- A body that asks for another library.
 use Rattle.std.proofs.Common.{◌≡◌, ◌⊎◌, inl, inr, ⊎_elim, ℕ, ◌+◌, ◌*◌, ◌-◌, ◌≤◌, true, false, true≢false, IsTrue, List, [], ◌∷◌, ◌++◌, refl, sym, ap, ◌∙◌, subst}
-use Rattle.oa_disk.specs.Disk.{CrashInvariant, LeavesStep}
+use Rattle.oa_disk.specs.promise.Disk.{CrashInvariant}
+use Rattle.oa_disk.specs.Disk.{LeavesStep}
 use Rattle.oa_disk.specs.Moments.{weakened}
 use Rattle.oa_disk.specs.declared.disk.Disk.{Ghosts}
-use Rattle.oa_group_commit.specs.GroupStates.{GroupState, IsAdmitted, IsEnded, IsFlushed, LeavesState}
-use Rattle.oa_group_commit.specs.Runs.{AllHoldState, HoldsState}
-use Rattle.oa_group_commit.specs.Served.{IsServed}
-use Rattle.oa_store.specs.Writing.{CallsForOneCheckpoint, DeviceFrame}
+use Rattle.oa_group_commit.specs.promise.Groups.{GroupState, IsAdmitted, IsEnded, IsFlushed, LeavesState, AllHoldState}
+use Rattle.oa_group_commit.specs.promise.Groups.{HoldsState, IsServed, exchange}
+use Rattle.oa_store.specs.promise.Writing.{CallsForOneCheckpoint, DeviceFrame}
 use Rattle.oa_group_commit.specs.Simple.{no_event}
 use Rattle.oa_group_commit.proofs.Ends.{underway_ended}
 use Rattle.oa_group_commit.proofs.Entries.{either}
 use Rattle.oa_group_commit.proofs.Stores.{goes_nowhere}
 use Rattle.oa_group_commit.proofs.Takes.{underway_start, underway_taken}
-use Rattle.oa_journal.specs.Replays.{Replays}
-use Rattle.oa_group_commit.specs.StateMachines.{exchange}
+use Rattle.oa_journal.specs.promise.Bank.{Replays}
 use Rattle.oa_store.proofs.Committed.{nothing_called}
-use Rattle.oa_record.specs.Replacement.{is_replacement}
-use Rattle.oa_record.specs.Replies.{ReplyValue}
-use Rattle.oa_store.specs.Calls.{checkpoint_calls}
+use Rattle.oa_record.specs.promise.Replacement.{is_replacement}
+use Rattle.oa_record.specs.promise.Replies.{ReplyValue}
+use Rattle.oa_store.specs.promise.Stores.{checkpoint_calls, IsStoreAt, IsStoreIn}
 use Rattle.oa_store.specs.Changes.{IsReplacement, IsReplaced as HasReplaced}
 use Rattle.oa_journal.specs.declared.shape.BankFormat.{BankFormat}
 use Rattle.oa_journal.specs.declared.shape.BankFormat.TheVariants.{Two}
-use Rattle.oa_store.specs.Stores.{IsStoreAt, IsStoreIn}
 use Rattle.oa_store.specs.declared.store.Store.{Store}
-use Rattle.oa_table.specs.Tables.{TableValue}
+use Rattle.oa_table.specs.promise.Tables.{TableValue}
 use Rattle.oa_server.specs.OpenGroups.{grouping}
-use Rattle.oa_turn.specs.Replacing.{Replacement}
-use Rattle.oa_server.specs.Answers.{CallsForLibrary, IsAnswered, IsReplacedOver, IsReplacedOrLate}
-use Rattle.oa_server.specs.ServerMachine.{IsAsked, fault_reply, server_machine, text_of_library}
-use Rattle.oa_turn.specs.Events.{held_of, is_done}
-use Rattle.oa_decision.specs.States.{State}
-use Rattle.oa_turn.specs.Turns.{Turn}
+use Rattle.oa_turn.specs.promise.Replacing.{Replacement}
+use Rattle.oa_server.specs.promise.ServerMachine.{CallsForLibrary, IsAsked, fault_reply, server_machine}
+use Rattle.oa_server.specs.promise.ServerMachine.{text_of_library}
+use Rattle.oa_server.specs.Answers.{IsAnswered, IsReplacedOver, IsReplacedOrLate}
+use Rattle.oa_turn.specs.promise.Events.{held_of, is_done}
+use Rattle.oa_decision.specs.promise.States.{State}
+use Rattle.oa_turn.specs.promise.Turns.{Turn}
 
 -- ---- what images hold
 -- an image with the store's banks and library has those of the state that its disk holds

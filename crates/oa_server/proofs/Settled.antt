@@ -2,18 +2,17 @@
 use Rattle.std.proofs.Common.{rules, ◌≡◌, ℕ, ◌+◌, ◌<◌, ◌≤◌, ◌++◌, IsTrue, true, false, true≢false, List, [], ◌∷◌, length, map, refl}
 use Rattle.std.proofs.Common.{sym, ◌∙◌, arith}
 use Rattle.oa_disk.specs.declared.disk.Disk.{Ghosts}
-use Rattle.oa_group_commit.specs.GroupStates.{IsBuffered, IsGroupCommitted}
-use Rattle.oa_group_commit.specs.Groups.{fills}
-use Rattle.oa_store.specs.Writing.{DeviceFrame}
-use Rattle.oa_group_commit.specs.StateMachines.{exchange}
-use Rattle.oa_store.specs.Holding.{CommitsAtomically, PreservesCommitted}
-use Rattle.oa_record.specs.Replacement.{is_replacement}
-use Rattle.oa_record.specs.Replies.{ReplyValue}
+use Rattle.oa_group_commit.specs.promise.Groups.{IsBuffered, IsGroupCommitted, fills, exchange}
+use Rattle.oa_store.specs.promise.Writing.{DeviceFrame}
+use Rattle.oa_store.specs.promise.Holding.{CommitsAtomically, PreservesCommitted}
+use Rattle.oa_record.specs.promise.Replacement.{is_replacement}
+use Rattle.oa_record.specs.promise.Replies.{ReplyValue}
 use Rattle.oa_store.specs.declared.store.Store.{Store}
 use Rattle.oa_server.specs.OpenGroups.{CallsWhereDue, IsReady, grouping}
-use Rattle.oa_server.specs.ServerMachine.{IsHeldBack, aborted_reply, server_machine}
-use Rattle.oa_turn.specs.Events.{held_of}
-use Rattle.oa_decision.specs.States.{State}
+use Rattle.oa_server.specs.ServerMachine.{IsHeldBack}
+use Rattle.oa_server.specs.promise.ServerMachine.{aborted_reply, server_machine}
+use Rattle.oa_turn.specs.promise.Events.{held_of}
+use Rattle.oa_decision.specs.promise.States.{State}
 
 -- a group that goes on has a place
 pub few_held : (size count bytes : ℕ) → fills size count bytes ≡ false → count < size

@@ -2,24 +2,24 @@
 use Rattle.std.proofs.Common.{◌≡◌, ◌⊎◌, ◌≤◌, inl, inr, ℕ, ◌+◌, length, true, false, true≢false, IsTrue, List, [], ◌∷◌, ◌++◌, refl, sym, ap, ◌∙◌, subst, arith, append_assoc}
 use Rattle.std.proofs.lemmas.List.{append-nil}
 use Rattle.oa_disk.specs.declared.disk.Disk.{Ghosts}
-use Rattle.oa_group_commit.specs.Served.{IsServed}
-use Rattle.oa_group_commit.specs.Sessions.{AnsweredCall, IsSessionOn, OpenSession, answered_by}
+use Rattle.oa_group_commit.specs.promise.Groups.{IsServed, AnsweredCall, IsSessionOn, OpenSession}
+use Rattle.oa_group_commit.specs.Sessions.{answered_by}
 use Rattle.oa_group_commit.proofs.Calling.{chained, come_before, goes_on_moments, session_called, session_goes_on, session_late}
 use Rattle.oa_group_commit.proofs.Entries.{either}
-use Rattle.oa_record.specs.Replacement.{is_replacement}
+use Rattle.oa_record.specs.promise.Replacement.{is_replacement}
 use Rattle.oa_store.specs.declared.store.Store.{Store}
 use Rattle.oa_server.specs.SharedCalls.{IsCallsOf, SessionsAreCalls, StretchesCount, StretchesGoOn, stretch_calls}
-use Rattle.oa_server.specs.SharedMachine.{shared_machine}
-use Rattle.oa_server.specs.SharedTalks.{asked_written}
-use Rattle.oa_server.specs.Sharing.{ClientReply, Shared, shared}
-use Rattle.oa_server.specs.Stretches.{AnswersStretches, ServesStretch, ServesStretches, Stretch, all_told}
+use Rattle.oa_server.specs.promise.SharedMachine.{shared_machine, ClientReply, Shared, shared, ServesStretch, Stretch}
+use Rattle.oa_server.specs.promise.SharedMachine.{all_told}
+use Rattle.oa_server.specs.promise.SharedSessions.{asked_written}
+use Rattle.oa_server.specs.Stretches.{AnswersStretches, ServesStretches}
 use Rattle.oa_server.specs.declared.engine.ServerState.{ServerState}
 use Rattle.oa_server.specs.declared.storage.Storage.TheVariants.{Disk}
 use Rattle.oa_server.proofs.Parting.{BeginsWith, begins_more}
 use Rattle.oa_server.proofs.AnsweredStretches.{stretches_served}
-use Rattle.oa_mux.specs.Marks.{Flush, Tagged}
-use Rattle.oa_mux.specs.Readers.{Brought}
-use Rattle.oa_mux.specs.Talking.{AllTurned, FailsToTell, TellsAll, ends_at, parted}
+use Rattle.oa_mux.specs.promise.Marks.{Flush, Tagged}
+use Rattle.oa_mux.specs.promise.Readers.{Brought}
+use Rattle.oa_mux.specs.promise.Talking.{AllTurned, FailsToTell, TellsAll, ends_at, parted}
 
 abbrev call_of : ℕ → Stretch → AnsweredCall ClientReply
 call_of size stretch = record { size = size; bodies = stretch.bodies; replies = stretch.told }

@@ -5,32 +5,31 @@ use Rattle.std.specs.Bool.{⊤}
 use Rattle.std.specs.Vec.{vec_capacity}
 use Rattle.std.proofs.lemmas.List.{append-nil, length_push, map-append}
 use Rattle.oa_disk.specs.declared.disk.Disk.{Ghosts}
-use Rattle.oa_frame.specs.Framings.{Frames}
-use Rattle.oa_frame.specs.Sessions as sessions
+use Rattle.oa_frame.specs.promise.Framings.{Frames}
+use Rattle.oa_frame.specs.promise.Sessions as sessions
 use Rattle.oa_frame.specs.declared.session.Served.{Served}
-use Rattle.oa_group_commit.specs.GroupStates.{GroupState, IsAdmitted}
+use Rattle.oa_group_commit.specs.promise.Groups.{GroupState, IsAdmitted, IsServed}
 use Rattle.oa_group_commit.specs.Invariants.{GroupInvariant}
-use Rattle.oa_group_commit.specs.Served.{IsServed}
 use Rattle.oa_group_commit.proofs.Entries.{either}
 use Rattle.oa_group_commit.proofs.Ends.{underway_ended}
 use Rattle.oa_group_commit.proofs.Takes.{underway_start, underway_taken}
-use Rattle.oa_record.specs.Replacement.{is_replacement}
-use Rattle.oa_record.specs.Replies.{ReplyValue, reply_record}
+use Rattle.oa_record.specs.promise.Replacement.{is_replacement}
+use Rattle.oa_record.specs.promise.Replies.{ReplyValue, reply_record}
 use Rattle.oa_store.specs.declared.store.Store.{Store}
-use Rattle.oa_stream.specs.Source.{Input}
-use Rattle.oa_stream.specs.Sink.{Output}
+use Rattle.oa_stream.specs.promise.Source.{Input}
+use Rattle.oa_stream.specs.promise.Sink.{Output}
 use Rattle.oa_server.specs.declared.engine.ServerState.{ServerState}
 use Rattle.oa_server.specs.declared.open_group.OpenGroup.{OpenGroup}
 use Rattle.oa_server.specs.declared.storage.Storage.{Storage}
 use Rattle.oa_server.specs.declared.storage.Storage.TheVariants.{Disk, Memory}
-use Rattle.oa_server.specs.Answers.{AnswersAfterFault}
+use Rattle.oa_server.specs.promise.ServerMachine.{AnswersAfterFault, server_machine}
 use Rattle.oa_server.specs.OpenGroups.{grouping}
-use Rattle.oa_server.specs.ServerMachine.{server_machine}
-use Rattle.oa_decision.specs.States.{State}
-use Rattle.oa_server.specs.Storages.{Serves, disk_of}
-use Rattle.oa_server.specs.Talks.{InputEnds, EndsApart, EndsBefore, EndsGroup, OpenGroupIsReady, InParts, IsWholeGroup, Part, Parts, ServesSession, Taken, any_end}
-use Rattle.oa_server.specs.Talks.{any_turn, at_last, bodies_of_parts, ended_written, handed_of, silent, taken_written}
-use Rattle.oa_turn.specs.Turns.{Run}
+use Rattle.oa_decision.specs.promise.States.{State}
+use Rattle.oa_server.specs.promise.Storages.{Serves, disk_of, EndsApart, EndsBefore, EndsGroup, InParts, IsWholeGroup}
+use Rattle.oa_server.specs.promise.Storages.{Part, Parts, ServesSession, any_end, any_turn, at_last, bodies_of_parts}
+use Rattle.oa_server.specs.promise.Storages.{handed_of, silent}
+use Rattle.oa_server.specs.Talks.{InputEnds, OpenGroupIsReady, Taken, ended_written, taken_written}
+use Rattle.oa_turn.specs.promise.Turns.{Run}
 use Rattle.oa_server.proofs.InOpenGroup.{Holding, group_faulted, group_filled, holds_more, holds_none, rest_ends}
 use Rattle.oa_server.proofs.AnsweredAfterFault.{late_ended, late_more, late_none}
 use Rattle.oa_server.proofs.Retold.{session_as}

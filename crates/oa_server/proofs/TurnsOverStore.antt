@@ -4,34 +4,35 @@ use Rattle.std.proofs.Common.{sym, ap, ◌∙◌, subst, arith}
 use Rattle.std.specs.Prelude.{nat_lt}
 use Rattle.std.proofs.lemmas.Bool.{ltb-false}
 use Rattle.oa_disk.specs.declared.disk.Disk.{Ghosts}
-use Rattle.oa_group_commit.specs.Runs.{MakesEvent}
+use Rattle.oa_group_commit.specs.promise.Groups.{MakesEvent}
 use Rattle.oa_group_commit.proofs.Called.{none_or_some}
 use Rattle.oa_image.proofs.Lengths.{event_bytes}
-use Rattle.oa_journal.specs.Shapes.{ample_bytes, body_bytes}
+use Rattle.oa_journal.specs.promise.Bank.{ample_bytes, body_bytes, Replays}
 use Rattle.oa_store.proofs.Committed.{one_event}
-use Rattle.oa_store.specs.Holding.{PreservesCommitted}
+use Rattle.oa_store.specs.promise.Holding.{PreservesCommitted}
 use Rattle.oa_store.specs.declared.store.Store.{Store}
 use Rattle.oa_table.specs.declared.fault.TableFault.{TableFault}
 use Rattle.oa_server.specs.OpenGroups.{CallsWhereDue}
-use Rattle.oa_decision.specs.Limits.{limited}
+use Rattle.oa_decision.specs.promise.Limits.{limited}
 use Rattle.std.proofs.lemmas.List.{append-nil}
-use Rattle.oa_model.specs.Limits.{max_event_bytes}
-use Rattle.oa_image.specs.Events.{event as an_event, event_image}
-use Rattle.oa_journal.specs.Replays.{Replays}
-use Rattle.oa_model.specs.Codes.{e_outofmemory, s_ok}
-use Rattle.oa_record.specs.Asks.{Asks}
-use Rattle.oa_record.specs.Replies.{ReplyValue}
+use Rattle.oa_model.specs.promise.Limits.{max_event_bytes}
+use Rattle.oa_image.specs.promise.Events.{event as an_event, event_image}
+use Rattle.oa_model.specs.promise.Codes.{e_outofmemory, s_ok}
+use Rattle.oa_record.specs.promise.Asks.{Asks}
+use Rattle.oa_record.specs.promise.Replies.{ReplyValue}
 use Rattle.oa_record.specs.declared.request.Request.{Request}
-use Rattle.oa_table.specs.Events.{applied}
-use Rattle.oa_table.specs.Tables.{TableValue}
+use Rattle.oa_table.specs.promise.Events.{applied}
+use Rattle.oa_table.specs.promise.Tables.{TableValue}
 use Rattle.oa_decision.specs.declared.plan.Planned.{Planned}
-use Rattle.oa_turn.specs.Plans.{HoldsSame, IsPlanned}
-use Rattle.oa_turn.specs.Events.{HasEvent, held_of}
-use Rattle.oa_server.specs.ServerMachine.{HasTurn, IsHeldBack, server_machine}
-use Rattle.oa_decision.specs.States.{State}
-use Rattle.oa_decision.specs.Decided.{refusal}
-use Rattle.oa_record.specs.Replacement.{is_replacement}
-use Rattle.oa_turn.specs.Turns.{Ordinary}
+use Rattle.oa_turn.specs.promise.Plans.{HoldsSame}
+use Rattle.oa_turn.specs.Plans.{IsPlanned}
+use Rattle.oa_turn.specs.promise.Events.{HasEvent, held_of}
+use Rattle.oa_server.specs.ServerMachine.{HasTurn, IsHeldBack}
+use Rattle.oa_server.specs.promise.ServerMachine.{server_machine}
+use Rattle.oa_decision.specs.promise.States.{State}
+use Rattle.oa_decision.specs.promise.Decided.{refusal}
+use Rattle.oa_record.specs.promise.Replacement.{is_replacement}
+use Rattle.oa_turn.specs.promise.Turns.{Ordinary}
 use Rattle.oa_turn.proofs.Allowed.{is_allowed}
 use Rattle.oa_turn.proofs.Eventless.{has_event, undone}
 use Rattle.oa_turn.proofs.Changing.{done, refused}

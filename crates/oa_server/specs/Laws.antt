@@ -1,27 +1,25 @@
 -- Theorems about sessions of a server over a store, besides those of any groups. (This project's choice.)
 use Rattle.std.specs.Prelude.{◌≡◌, ◌≤◌, ℕ, IsTrue, false, List, [], ◌++◌, map}
-use Rattle.oa_disk.specs.Disk.{NothingPending}
+use Rattle.oa_disk.specs.promise.Disk.{NothingPending}
 use Rattle.oa_disk.specs.declared.disk.Disk.{Ghosts}
-use Rattle.oa_group_commit.specs.History.{MayBeLeft}
-use Rattle.oa_group_commit.specs.Runs.{HoldsPrefix, HoldsState}
-use Rattle.oa_group_commit.specs.Served.{IsServed}
-use Rattle.oa_group_commit.specs.Sessions.{AnsweredCall, IsSessionOn, OpenSession, answered_by}
-use Rattle.oa_group_commit.specs.Groups.{concat_groups}
-use Rattle.oa_group_commit.specs.StateMachines.{Exchange, StateMachine, body_of, reply_of}
-use Rattle.oa_printer.specs.Canonical.{canonical}
-use Rattle.oa_idl.specs.Trees.{TreeValue}
-use Rattle.oa_record.specs.Replies.{ReplyValue}
+use Rattle.oa_group_commit.specs.promise.Groups.{MayBeLeft, HoldsPrefix, HoldsState, IsServed, AnsweredCall}
+use Rattle.oa_group_commit.specs.promise.Groups.{IsSessionOn, OpenSession, concat_groups, Exchange, StateMachine}
+use Rattle.oa_group_commit.specs.promise.Groups.{body_of, reply_of}
+use Rattle.oa_group_commit.specs.Sessions.{answered_by}
+use Rattle.oa_printer.specs.promise.Canonical.{canonical}
+use Rattle.oa_idl.specs.promise.Trees.{TreeValue}
+use Rattle.oa_record.specs.promise.Replies.{ReplyValue}
 use Rattle.oa_journal.specs.declared.shape.BankFormat.TheVariants.{Two}
-use Rattle.oa_journal.specs.Shapes.{body_bytes}
-use Rattle.oa_store.specs.Stores.{IsStoreIn}
+use Rattle.oa_journal.specs.promise.Bank.{body_bytes}
+use Rattle.oa_store.specs.promise.Stores.{IsStoreIn}
 use Rattle.oa_store.specs.declared.store.Store.{Store}
-use Rattle.oa_table.specs.Tables.{TableValue, unlocked_table}
-use Rattle.oa_typelib.specs.Checked.{IsChecked}
-use Rattle.oa_server.specs.Openings.{IsOpened}
-use Rattle.oa_server.specs.ServerMachine.{opened, server_machine}
-use Rattle.oa_decision.specs.States.{State, state_of}
-use Rattle.oa_server.specs.Talks.{Part, Parts, calls_of}
-use Rattle.oa_turn.specs.Turns.{Run}
+use Rattle.oa_table.specs.promise.Tables.{TableValue, unlocked_table}
+use Rattle.oa_typelib.specs.promise.Checked.{IsChecked}
+use Rattle.oa_server.specs.promise.ServerMachine.{IsOpened, opened, server_machine}
+use Rattle.oa_decision.specs.promise.States.{State, state_of}
+use Rattle.oa_server.specs.promise.Storages.{Part, Parts}
+use Rattle.oa_server.specs.Talks.{calls_of}
+use Rattle.oa_turn.specs.promise.Turns.{Run}
 use Rattle.oa_server.specs.declared.storage.Storage.TheVariants.{Disk}
 
 -- If a crash may leave only the contents of the disk, an opening begins a session, of one client or of many, with the

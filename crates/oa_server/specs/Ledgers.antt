@@ -3,19 +3,17 @@ use Rattle.std.specs.Prelude.{◌≡◌, ℕ, true, List, [], map}
 use Rattle.std.specs.List.Sorted.{IsStrictlySortedBy}
 use Rattle.std.specs.Map.{keys_of}
 use Rattle.std.specs.Ordering.{nat_cmp}
-use Rattle.oa_group_commit.specs.Runs.{Trace}
-use Rattle.oa_group_commit.specs.StateMachines.{Exchange, body_of, reply_of}
-use Rattle.oa_image.specs.Tables.{is_numbered}
-use Rattle.oa_turn.specs.ClientLocks.{of_others}
+use Rattle.oa_group_commit.specs.promise.Groups.{Trace, Exchange, body_of, reply_of}
+use Rattle.oa_image.specs.promise.Tables.{is_numbered}
+use Rattle.oa_turn.specs.promise.ClientLocks.{of_others}
 use Rattle.oa_turn.specs.Counts.{IsLedger}
-use Rattle.oa_record.specs.Replies.{ReplyValue}
-use Rattle.oa_server.specs.SharedMachine.{opened_shared, shared_machine}
-use Rattle.oa_server.specs.Sharing.{ClientReply, IsSharedTurn, Replies, Shared, SharedTurnOf, TurnsFor, all_released}
-use Rattle.oa_server.specs.Sharing.{tagged_body}
-use Rattle.oa_mux.specs.Readers.{Body, Brought}
+use Rattle.oa_record.specs.promise.Replies.{ReplyValue}
+use Rattle.oa_server.specs.promise.SharedMachine.{opened_shared, shared_machine, ClientReply, IsSharedTurn, Replies}
+use Rattle.oa_server.specs.promise.SharedMachine.{Shared, SharedTurnOf, TurnsFor, all_released, tagged_body}
+use Rattle.oa_mux.specs.promise.Readers.{Body, Brought}
 use Rattle.oa_table.specs.Locks.{locks_at}
 use Rattle.oa_table.specs.declared.name.CellName.{CellName}
-use Rattle.oa_turn.specs.Turns.{Run, Turn}
+use Rattle.oa_turn.specs.promise.Turns.{Run, Turn}
 
 -- Each array of the table has the locks that clients have on it. The table's objects are numbered,
 -- in the order of their numbers.

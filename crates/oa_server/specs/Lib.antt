@@ -9,9 +9,9 @@ pub mod SharedSessions
 pub mod SharedCalls
 pub mod Ledgers
 pub mod OneClient
-pub mod Openings
 pub mod OpenGroups
 pub mod Answers
 pub mod Storages
 pub mod Talks
 pub mod Laws
+pub mod promise

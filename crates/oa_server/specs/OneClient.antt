@@ -2,23 +2,22 @@
 use Rattle.std.specs.Prelude.{◌≡◌, ℕ, false, List, [], ◌∷◌, ◌++◌, map, Option, Some, None}
 use Rattle.oa_disk.specs.declared.disk.Disk.{Ghosts}
 use Rattle.oa_frame.specs.declared.ends.End.{End}
-use Rattle.oa_record.specs.Replies.{ReplyValue, reply_record}
+use Rattle.oa_record.specs.promise.Replies.{ReplyValue, reply_record}
 use Rattle.oa_store.specs.declared.store.Store.{Store}
-use Rattle.oa_server.specs.SharedGroups.{frames_of}
+use Rattle.oa_server.specs.promise.SharedSessions.{frames_of, asked_written}
 use Rattle.oa_server.specs.Ledgers.{HasLedger, OwnsAll}
-use Rattle.oa_server.specs.SharedTalks.{asked_written}
-use Rattle.oa_server.specs.Sharing.{Leaves, Shared, shared}
-use Rattle.oa_server.specs.Stretches.{AnswersStretches, all_told}
+use Rattle.oa_server.specs.promise.SharedMachine.{Leaves, Shared, shared, all_told}
+use Rattle.oa_server.specs.Stretches.{AnswersStretches}
 use Rattle.oa_server.specs.declared.engine.ServerState.{ServerState}
 use Rattle.oa_server.specs.declared.storage.Storage.TheVariants.{Memory}
-use Rattle.oa_mux.specs.Marks.{Flush, Of, Tagged}
-use Rattle.oa_mux.specs.Readers.{Body, Brought, Ends}
-use Rattle.oa_mux.specs.Talking.{AllTurned}
-use Rattle.oa_decision.specs.States.{State}
+use Rattle.oa_mux.specs.promise.Marks.{Flush, Of, Tagged}
+use Rattle.oa_mux.specs.promise.Readers.{Body, Brought, Ends}
+use Rattle.oa_mux.specs.promise.Talking.{AllTurned}
+use Rattle.oa_decision.specs.promise.States.{State}
 use Rattle.oa_table.specs.Locks.{locks_at}
 use Rattle.oa_table.specs.declared.name.CellName.{CellName}
-use Rattle.oa_turn.specs.Plans.{HoldsSame}
-use Rattle.oa_turn.specs.Turns.{Run}
+use Rattle.oa_turn.specs.promise.Plans.{HoldsSame}
+use Rattle.oa_turn.specs.promise.Turns.{Run}
 
 -- these bodies of this client come, and then its end if there is one, with a *now* anywhere
 abbrev pub AsksBodies : ℕ → List (Tagged Brought) → List (List ℕ) → Option End → Type 0

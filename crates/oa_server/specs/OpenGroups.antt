@@ -1,29 +1,29 @@
 -- A server over a store, and the open group. (This project's choice.)
 use Rattle.std.specs.Prelude.{◌≡◌, ◌⊎◌, ◌-◌, ◌<◌, ◌≤◌, ◌++◌, ◌+◌, ◌*◌, ℕ, IsTrue, true, false, List, [], length}
 use Rattle.std.specs.Prelude.{vec_capacity, Result, IsOk, IsErrOf, OnOk, OnErr}
-use Rattle.oa_disk.specs.Disk.{HasCounted}
+use Rattle.oa_disk.specs.promise.Disk.{HasCounted}
 use Rattle.oa_disk.specs.declared.disk.Disk.{Ghosts}
-use Rattle.oa_group_commit.specs.GroupStates.{GroupState, IsDue}
-use Rattle.oa_image.specs.Events.{event_image}
-use Rattle.oa_journal.specs.Replays.{Replays}
-use Rattle.oa_journal.specs.Shapes.{ample_bytes, body_bytes}
-use Rattle.oa_store.specs.Holding.{PreservesCommitted}
+use Rattle.oa_group_commit.specs.promise.Groups.{GroupState, IsDue}
+use Rattle.oa_image.specs.promise.Events.{event_image}
+use Rattle.oa_journal.specs.promise.Bank.{Replays, ample_bytes, body_bytes}
+use Rattle.oa_store.specs.promise.Holding.{PreservesCommitted}
 use Rattle.oa_store.specs.Kept.{HasRoom}
-use Rattle.oa_model.specs.Limits.{group_bytes, max_event_bytes}
-use Rattle.oa_record.specs.Replies.{ReplyValue}
-use Rattle.oa_store.specs.Calls.{checkpoint_calls}
-use Rattle.oa_store.specs.Writing.{DeviceFrame}
+use Rattle.oa_model.specs.promise.Limits.{group_bytes, max_event_bytes}
+use Rattle.oa_record.specs.promise.Replies.{ReplyValue}
+use Rattle.oa_store.specs.promise.Stores.{checkpoint_calls}
+use Rattle.oa_store.specs.promise.Writing.{DeviceFrame}
 use Rattle.oa_store.specs.declared.store.Store.{Store}
 use Rattle.oa_table.specs.Events.{BringsNoLocks}
-use Rattle.oa_table.specs.Tables.{TableValue}
+use Rattle.oa_table.specs.promise.Tables.{TableValue}
 use Rattle.oa_table.specs.declared.event.Event.{Event}
 use Rattle.oa_server.specs.declared.fault.HoldFault.{HoldFault}
 use Rattle.oa_server.specs.declared.fault.HoldFault.TheVariants as faults
 use Rattle.oa_server.specs.declared.open_group.OpenGroup.{OpenGroup}
-use Rattle.oa_server.specs.ServerMachine.{HasTurn, server_machine}
-use Rattle.oa_turn.specs.Events.{held_of}
-use Rattle.oa_decision.specs.Limits.{allowed}
-use Rattle.oa_decision.specs.States.{State}
+use Rattle.oa_server.specs.ServerMachine.{HasTurn}
+use Rattle.oa_server.specs.promise.ServerMachine.{server_machine}
+use Rattle.oa_turn.specs.promise.Events.{held_of}
+use Rattle.oa_decision.specs.promise.Limits.{allowed}
+use Rattle.oa_decision.specs.promise.States.{State}
 
 -- the store, the state, the held replies, the events that are not committed
 abbrev pub grouping : {D : Type 0} {g : Ghosts D} → Store D g → State → List ReplyValue → List ℕ

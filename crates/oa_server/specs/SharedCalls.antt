@@ -1,21 +1,22 @@
 -- A session of many clients over a store, as calls of a session over that store. (This project's choice.)
 use Rattle.std.specs.Prelude.{◌≡◌, ◌⊎◌, ◌≤◌, ℕ, false, List, [], ◌∷◌, ◌++◌, length}
 use Rattle.oa_disk.specs.declared.disk.Disk.{Ghosts}
-use Rattle.oa_group_commit.specs.Sessions.{AnsweredCall, IsSessionOn, OpenSession, answered_by}
-use Rattle.oa_record.specs.Replacement.{is_replacement}
+use Rattle.oa_group_commit.specs.promise.Groups.{AnsweredCall, IsSessionOn, OpenSession}
+use Rattle.oa_group_commit.specs.Sessions.{answered_by}
+use Rattle.oa_record.specs.promise.Replacement.{is_replacement}
 use Rattle.oa_store.specs.declared.store.Store.{Store}
-use Rattle.oa_stream.specs.Sink.{Breaks, Output, Writes}
-use Rattle.oa_stream.specs.Source.{Input}
-use Rattle.oa_server.specs.SharedMachine.{shared_machine}
-use Rattle.oa_server.specs.SharedSessions.{IsSharedSession}
-use Rattle.oa_server.specs.Sharing.{ClientReply, Shared, all_released, shared}
-use Rattle.oa_server.specs.Stretches.{AnswersStretches, ServesStretches, Stretch, all_told}
+use Rattle.oa_stream.specs.promise.Sink.{Breaks, Output, Writes}
+use Rattle.oa_stream.specs.promise.Source.{Input}
+use Rattle.oa_server.specs.promise.SharedMachine.{shared_machine, ClientReply, Shared, all_released, shared, Stretch}
+use Rattle.oa_server.specs.promise.SharedMachine.{all_told}
+use Rattle.oa_server.specs.promise.SharedSessions.{IsSharedSession}
+use Rattle.oa_server.specs.Stretches.{AnswersStretches, ServesStretches}
 use Rattle.oa_server.specs.declared.engine.ServerState.{ServerState}
 use Rattle.oa_server.specs.declared.storage.Storage.TheVariants.{Disk}
-use Rattle.oa_mux.specs.Marks.{Flush, Tagged}
-use Rattle.oa_mux.specs.Outgoing.{spelled_told}
-use Rattle.oa_mux.specs.Readers.{Brought, ClientState}
-use Rattle.oa_mux.specs.Talking.{ends_at, ends_in, parted}
+use Rattle.oa_mux.specs.promise.Marks.{Flush, Tagged}
+use Rattle.oa_mux.specs.promise.Outgoing.{spelled_told}
+use Rattle.oa_mux.specs.promise.Readers.{Brought, ClientState}
+use Rattle.oa_mux.specs.promise.Talking.{ends_at, ends_in, parted}
 use Rattle.oa_mux.specs.declared.session_end.SessionEnd.{SessionEnd}
 use Rattle.oa_mux.specs.declared.session_end.SessionEnd.TheVariants.{WriteFault}
 

@@ -1,56 +1,14 @@
--- The open group of many clients: its replies, each with its client. (This project's choice.)
-use Rattle.std.specs.Prelude.{◌≡◌, ℕ, ◌≤◌, false, List, [], ◌∷◌, ◌++◌, length, map, Option, Some, None, vec_capacity}
+-- Definitions for contracts and proofs, beside promise/SharedSessions.
+use Rattle.std.specs.Prelude.{◌≡◌, ℕ, ◌≤◌, false, List, [], length, vec_capacity}
 use Rattle.oa_disk.specs.declared.disk.Disk.{Ghosts}
-use Rattle.oa_frame.specs.Sessions.{last_reply}
-use Rattle.oa_frame.specs.declared.ends.End.{End}
-use Rattle.oa_group_commit.specs.GroupStates.{GroupState, IsAdmitted}
-use Rattle.oa_group_commit.specs.StateMachines.{exchange}
-use Rattle.oa_turn.specs.ClientLocks.{ClientLock}
-use Rattle.oa_record.specs.Replies.{ReplyValue, reply_record}
+use Rattle.oa_group_commit.specs.promise.Groups.{GroupState, IsAdmitted, exchange}
 use Rattle.oa_server.specs.OpenGroups.{CanTake, CanTakeCleared}
-use Rattle.oa_server.specs.Serving.{last_written}
-use Rattle.oa_server.specs.Sharing.{ClientReply, IsSharedTurn, Leaves, Replies, Shared, shared}
-use Rattle.oa_server.specs.SharedMachine.{shared_machine}
-use Rattle.oa_server.specs.declared.desk.ReplyTo.{ReplyTo}
+use Rattle.oa_server.specs.promise.SharedMachine.{ClientReply, IsSharedTurn, Shared, shared_machine}
 use Rattle.oa_server.specs.declared.desk.SharedGroup.{SharedGroup}
 use Rattle.oa_store.specs.declared.store.Store.{Store}
-use Rattle.oa_decision.specs.States.{State}
-use Rattle.oa_turn.specs.Events.{held_of}
-
--- what one client receives: the reply, or its end
-abbrev pub told_with : ℕ → Option End → ReplyValue → ClientReply
-told_with client None reply = Replies client reply
-told_with client (Some why) reply = Leaves client why
-
--- the replies in the order of the requests
-abbrev pub told_to : List ReplyTo → List ReplyValue → List ClientReply
-told_to [] replies = []
-told_to (asker ∷ askers) [] = []
-told_to (asker ∷ askers) (reply ∷ replies) = told_with asker.client asker.why reply ∷ told_to askers replies
-
--- the frames that a client receives: a reply; at its end bad stub data, if it has that reply, and then the frame that
--- ends its replies
-abbrev pub frames_with : ℕ → List (List ℕ) → List (ℕ × List ℕ)
-frames_with client replies = map (λ bytes. (client, bytes)) replies
-
-abbrev pub frames_of : ClientReply → List (ℕ × List ℕ)
-frames_of (Replies client reply) = (client, reply_record reply) ∷ []
-frames_of (Leaves client why) = frames_with client (last_reply last_written why ++ [] ∷ [])
-
-unfoldable pub all_frames : List ClientReply → List (ℕ × List ℕ)
-all_frames [] = []
-all_frames (told ∷ tolds) = frames_of told ++ all_frames tolds
-
--- the store, the state, the held replies, and the events that are not committed
-abbrev pub shared_group_state : {D : Type 0} {g : Ghosts D} → Store D g → State → List ClientLock → List ReplyTo
-    → List ReplyValue → List ℕ → GroupState Shared ClientReply D g
-shared_group_state store state locks askers pending events =
-    record { store = store; state = shared state locks; pending = told_to askers pending; events = events }
-
-abbrev pub shared_group_state_of : {D : Type 0} {g : Ghosts D} → Store D g → State → SharedGroup
-    → GroupState Shared ClientReply D g
-shared_group_state_of store state desk =
-    shared_group_state store state desk.owners desk.askers.items desk.open_group.replies.items desk.open_group.batch
+use Rattle.oa_decision.specs.promise.States.{State}
+use Rattle.oa_turn.specs.promise.Events.{held_of}
+use Rattle.oa_server.specs.promise.SharedSessions.{told_to, shared_group_state}
 
 -- after the held replies were sent
 abbrev pub cleared_desk : {D : Type 0} {g : Ghosts D} → Store D g → State → SharedGroup

@@ -1,33 +1,11 @@
--- The replies to many clients from one *now* to the next. (This project's choice.)
-use Rattle.std.specs.Prelude.{◌≡◌, ℕ, true, false, List, [], ◌∷◌, ◌++◌, map}
+-- Definitions for contracts and proofs, beside promise/SharedMachine.
+use Rattle.std.specs.Prelude.{◌≡◌, ℕ, List, [], ◌∷◌, ◌++◌, map}
 use Rattle.oa_disk.specs.declared.disk.Disk.{Ghosts}
-use Rattle.oa_group_commit.specs.Served.{IsServed}
 use Rattle.oa_store.specs.declared.store.Store.{Store}
-use Rattle.oa_server.specs.SharedGroups.{all_frames}
-use Rattle.oa_server.specs.SharedMachine.{shared_machine}
-use Rattle.oa_server.specs.Sharing.{ClientReply, Shared, failed_client_reply, tagged_body}
-use Rattle.oa_mux.specs.Marks.{Tagged, Of, Flush}
-use Rattle.oa_mux.specs.Readers.{Brought}
-
--- the requests of all clients in their order, and the replies in the same order
-pub record Stretch : Type 0 where
-  pub bodies : List (List ℕ)
-  pub told : List ClientReply
-
--- After a fault of the device all get that reply, and nothing is done.
-pub record IsLateFor {D : Type 0} {g : Ghosts D} (old new : Store D g) (before after : Shared) (bodies : List (List ℕ))
-    (told : List ClientReply) : Type 0 where
-  pub told_is : told ≡ map failed_client_reply bodies
-  pub state : after ≡ before
-  pub disk : new.disk ≡ old.disk
-  pub stopped : new.stopped ≡ true
-
--- a stretch is a call that was served, in groups of a size
-pub record ServesStretch {D : Type 0} {g : Ghosts D} (size : ℕ) (old new : Store D g) (before : Shared)
-    (stretch : Stretch)
-    (after : Shared) : Type 0 where
-  pub served : old.stopped ≡ false → IsServed shared_machine size old new before after stretch.bodies stretch.told
-  pub late : old.stopped ≡ true → IsLateFor old new before after stretch.bodies stretch.told
+use Rattle.oa_server.specs.promise.SharedSessions.{all_frames}
+use Rattle.oa_server.specs.promise.SharedMachine.{ClientReply, Shared, tagged_body, Stretch, ServesStretch}
+use Rattle.oa_mux.specs.promise.Marks.{Tagged, Of, Flush}
+use Rattle.oa_mux.specs.promise.Readers.{Brought}
 
 -- one after the other
 abbrev pub ServesStretches : {D : Type 0} {g : Ghosts D} → ℕ → Store D g → Store D g → Shared → List Stretch → Shared
@@ -49,10 +27,6 @@ bodies_of stretch = stretch.bodies
 unfoldable pub told_in : List Stretch → List ClientReply
 told_in [] = []
 told_in (stretch ∷ stretches) = stretch.told ++ told_in stretches
-
-unfoldable pub all_told : List (List (ℕ × List ℕ)) → List (ℕ × List ℕ)
-all_told [] = []
-all_told (told ∷ tolds) = told ++ all_told tolds
 
 -- Over a store: the requests up to each *now* are a call that was served, and the frames are those of the replies of
 -- these calls, in order.

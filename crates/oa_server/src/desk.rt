@@ -1,15 +1,15 @@
 //! The open group of a session over a store, with the client of each reply and the owner of each
 //! lock.
 ghost use Rattle.std.specs.Prelude.{◌≡◌, ◌∷◌, [], ℕ, false, true};
-ghost use Rattle.oa_group_commit.specs.GroupStates.{IsAdmitted, IsEnded};
+ghost use Rattle.oa_group_commit.specs.promise.Groups.{IsAdmitted, IsEnded};
 ghost use Rattle.oa_decision.specs.declared.decision.LockChange.{LockChange as AChange};
-ghost use Rattle.oa_server.specs.SharedGroups.{DeskIsReady, DeskIsReadyCleared, HoldsFrom, cleared_desk, shared_group_state_of, told_at, told_with};
+ghost use Rattle.oa_server.specs.SharedGroups.{DeskIsReady, DeskIsReadyCleared, HoldsFrom, cleared_desk, told_at};
+ghost use Rattle.oa_server.specs.promise.SharedSessions.{shared_group_state_of, told_with};
 ghost use Rattle.oa_server.specs.OpenGroups.{HasBanks};
-ghost use Rattle.oa_server.specs.SharedMachine.{shared_machine};
-ghost use Rattle.oa_record.specs.Replacement.{is_replacement};
-ghost use Rattle.oa_server.specs.Sharing.{Replies, shared, tagged_body};
-ghost use Rattle.oa_mux.specs.Readers.{Body, Ends};
-ghost use Rattle.oa_turn.specs.Locking.{AsksLock};
+ghost use Rattle.oa_server.specs.promise.SharedMachine.{shared_machine, Replies, shared, tagged_body};
+ghost use Rattle.oa_record.specs.promise.Replacement.{is_replacement};
+ghost use Rattle.oa_mux.specs.promise.Readers.{Body, Ends};
+ghost use Rattle.oa_turn.specs.promise.Locking.{AsksLock};
 
 use crate::grouping::{admit, admit_barrier, commit_group, flush_held};
 use crate::locking::{let_go, lock_turn};

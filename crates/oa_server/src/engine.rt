@@ -1,7 +1,8 @@
 //! The state of a server.
 ghost use Rattle.std.specs.Prelude.{◌≡◌, ◌≤◌, map, IfOk, OnErr};
-ghost use Rattle.oa_server.specs.Storages.{AnswersOne, InMemory, Serves, bank_bytes_of, disk_of};
-ghost use Rattle.oa_turn.specs.Turns.{Run, Turn};
+ghost use Rattle.oa_server.specs.Storages.{AnswersOne, InMemory, bank_bytes_of};
+ghost use Rattle.oa_server.specs.promise.Storages.{Serves, disk_of};
+ghost use Rattle.oa_turn.specs.promise.Turns.{Run, Turn};
 
 use crate::desk::SharedGroup;
 use crate::grouping::{answer_over, run_over};

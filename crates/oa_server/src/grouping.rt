@@ -1,14 +1,13 @@
 //! Group commit: the events of a group of requests are committed together, and the replies are held
 //! back until then.
 ghost use Rattle.std.specs.Prelude.{◌≡◌, ◌≤◌, ◌<◌, ◌+◌, ◌++◌, ◌∷◌, [], IfOk, OnErr, false, length, map, true, vec_capacity};
-ghost use Rattle.oa_group_commit.specs.GroupStates.{IsAdmitted, IsEnded, IsGroupCommitted};
-ghost use Rattle.oa_group_commit.specs.Served.{IsServed};
-ghost use Rattle.oa_journal.specs.Shapes.{ample_bytes};
+ghost use Rattle.oa_group_commit.specs.promise.Groups.{IsAdmitted, IsEnded, IsGroupCommitted, IsServed};
+ghost use Rattle.oa_journal.specs.promise.Bank.{ample_bytes};
 ghost use Rattle.oa_store.specs.Kept.{HasRoom};
-ghost use Rattle.oa_record.specs.Replacement.{is_replacement};
-ghost use Rattle.oa_server.specs.Answers.{IsAnswered, AnswersAfterFault, IsReplacedOver, IsReplacedOrLate};
+ghost use Rattle.oa_record.specs.promise.Replacement.{is_replacement};
+ghost use Rattle.oa_server.specs.Answers.{IsAnswered, IsReplacedOver, IsReplacedOrLate};
+ghost use Rattle.oa_server.specs.promise.ServerMachine.{AnswersAfterFault, server_machine};
 ghost use Rattle.oa_server.specs.OpenGroups.{CanTake, CanTakeCleared, HandsOut, HasBanks, cleared_grouping, grouping_of};
-ghost use Rattle.oa_server.specs.ServerMachine.{server_machine};
 
 use crate::holding::turn_held;
 use crate::open_group::{OpenGroup, bare_reply, fail_replies};

@@ -1,14 +1,14 @@
 //! A turn over a store: its event is held in a batch until its group ends.
 ghost use Rattle.std.specs.Prelude.{◌≡◌, ◌++◌, List, ℕ, false, IfOk, IsErr, IsErrOf, OnErr, OnOk};
-ghost use Rattle.oa_image.specs.Events.{event_image};
+ghost use Rattle.oa_image.specs.promise.Events.{event_image};
 ghost use Rattle.oa_store.specs.Holding.{IsOpenFor};
-ghost use Rattle.oa_record.specs.Replacement.{is_replacement};
+ghost use Rattle.oa_record.specs.promise.Replacement.{is_replacement};
 ghost use Rattle.oa_server.specs.OpenGroups.{CallsForCheckpoint, CallsForRoom, CallsWhereDue, CanBeMade, HasBanks, HoldsOn, IsAdded};
 ghost use Rattle.oa_server.specs.OpenGroups.{IsCutOff, MakesWay};
 ghost use Rattle.oa_server.specs.ServerMachine.{IsHeldBack};
 ghost use Rattle.oa_server.specs.declared.fault.HoldFault.{HoldFault};
 ghost use Rattle.oa_turn.specs.Changes.{MakesChange};
-ghost use Rattle.oa_turn.specs.Events.{held_of};
+ghost use Rattle.oa_turn.specs.promise.Events.{held_of};
 ghost use Rattle.oa_turn.specs.Plans.{IsPlanned};
 
 use crate::fault::HoldFault;

@@ -2,16 +2,16 @@
 ghost use Rattle.std.specs.Prelude.{◌≡◌, [], false, true, List, ℕ, IfNone, IfSome, map};
 ghost use Rattle.oa_decision.specs.declared.decision.LockChange.{LockChange as AChange};
 ghost use Rattle.oa_decision.specs.declared.decision.LockChange.TheVariants.{Lock as ALock, Unlock as AnUnlock};
-ghost use Rattle.oa_turn.specs.ClientLocks.{without_one};
+ghost use Rattle.oa_turn.specs.promise.ClientLocks.{without_one, ClientLock as AClientLock};
 ghost use Rattle.oa_turn.specs.Counts.{locked_name};
 ghost use Rattle.oa_turn.specs.Kept.{copies};
-ghost use Rattle.oa_turn.specs.ClientLocks.{ClientLock as AClientLock};
-ghost use Rattle.oa_record.specs.Replacement.{is_replacement};
-ghost use Rattle.oa_server.specs.Sharing.{IsLockTurn, TurnsFor, all_released, behind_end, shared, taken_back};
-ghost use Rattle.oa_turn.specs.Events.{HasEvent, held_of, is_done};
-ghost use Rattle.oa_turn.specs.Locking.{AsksLock};
-ghost use Rattle.oa_turn.specs.Plans.{HoldsSame};
-ghost use Rattle.oa_turn.specs.Turns.{Ordinary};
+ghost use Rattle.oa_record.specs.promise.Replacement.{is_replacement};
+ghost use Rattle.oa_server.specs.Sharing.{IsLockTurn};
+ghost use Rattle.oa_server.specs.promise.SharedMachine.{TurnsFor, all_released, behind_end, shared, taken_back};
+ghost use Rattle.oa_turn.specs.promise.Events.{HasEvent, held_of, is_done};
+ghost use Rattle.oa_turn.specs.promise.Locking.{AsksLock};
+ghost use Rattle.oa_turn.specs.promise.Plans.{HoldsSame};
+ghost use Rattle.oa_turn.specs.promise.Turns.{Ordinary};
 
 use crate::open_group::bare_reply;
 use oa_decision::LockChange;

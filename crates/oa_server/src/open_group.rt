@@ -1,10 +1,10 @@
 //! The open group of a server over a store.
 ghost use Rattle.std.specs.Prelude.{◌≡◌, ◌<◌, ◌≤◌, [], None, IfOk, false, length, map, vec_capacity};
-ghost use Rattle.oa_decision.specs.Decided.{refusal};
-ghost use Rattle.oa_group_commit.specs.Groups.{fills};
-ghost use Rattle.oa_model.specs.Limits.{group_bytes};
-ghost use Rattle.oa_record.specs.Asks.{tag_at};
-ghost use Rattle.oa_server.specs.ServerMachine.{aborted_reply};
+ghost use Rattle.oa_decision.specs.promise.Decided.{refusal};
+ghost use Rattle.oa_group_commit.specs.promise.Groups.{fills};
+ghost use Rattle.oa_model.specs.promise.Limits.{group_bytes};
+ghost use Rattle.oa_record.specs.promise.Asks.{tag_at};
+ghost use Rattle.oa_server.specs.promise.ServerMachine.{aborted_reply};
 
 use oa_group_commit::is_full;
 use oa_model::HResult;

@@ -1,10 +1,10 @@
 //! REPLACE LIBRARY over a store.
 ghost use Rattle.std.specs.Prelude.{◌≡◌, false, true, IfOk, OnErr, OnOk};
-ghost use Rattle.oa_record.specs.Replies.{ReplyValue};
-ghost use Rattle.oa_server.specs.Answers.{ReplacesInStore};
+ghost use Rattle.oa_record.specs.promise.Replies.{ReplyValue};
+ghost use Rattle.oa_server.specs.promise.ServerMachine.{ReplacesInStore};
 ghost use Rattle.oa_server.specs.OpenGroups.{HasBanks};
-ghost use Rattle.oa_turn.specs.Events.{is_done};
-ghost use Rattle.oa_turn.specs.Replacing.{Replacement};
+ghost use Rattle.oa_turn.specs.promise.Events.{is_done};
+ghost use Rattle.oa_turn.specs.promise.Replacing.{Replacement};
 
 use crate::open_group::bare_reply;
 use crate::starting::text_of;

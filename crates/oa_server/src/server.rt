@@ -1,11 +1,13 @@
 //! The server: a library and a table in memory, and the storage of the table.
 ghost use Rattle.std.specs.Prelude.{◌≡◌, ◌≤◌, map, IfOk, OnErr};
 ghost use Rattle.oa_model.specs.Limits.{max_group};
-ghost use Rattle.oa_printer.specs.Canonical.{canonical};
-ghost use Rattle.oa_journal.specs.Shapes.{body_bytes, default_bank_bytes};
+ghost use Rattle.oa_printer.specs.promise.Canonical.{canonical};
+ghost use Rattle.oa_journal.specs.promise.Bank.{body_bytes};
+ghost use Rattle.oa_journal.specs.Shapes.{default_bank_bytes};
 ghost use Rattle.oa_turn.specs.Limits.{IsSoundTable};
-ghost use Rattle.oa_server.specs.Storages.{AnswersOne, InMemory, Serves, disk_of};
-ghost use Rattle.oa_turn.specs.Turns.{Run, Turn};
+ghost use Rattle.oa_server.specs.Storages.{AnswersOne, InMemory};
+ghost use Rattle.oa_server.specs.promise.Storages.{Serves, disk_of};
+ghost use Rattle.oa_turn.specs.promise.Turns.{Run, Turn};
 ghost use Rattle.oa_server.specs.declared.storage.Storage.TheVariants.{Disk as ADisk};
 ghost use Rattle.oa_table.specs.Tables.{first_table};
 

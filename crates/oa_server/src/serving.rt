@@ -4,10 +4,10 @@ ghost use Rattle.oa_model.specs.Limits.{max_group};
 ghost use Rattle.oa_stream.specs.BufferedSource.{ahead};
 ghost use Rattle.oa_stream.specs.Sink.{Puts};
 ghost use Rattle.oa_frame.specs.Beginnings.{AreUnbroken, HoldLongest};
-ghost use Rattle.oa_frame.specs.Framings.{frames, hex_lines, records};
-ghost use Rattle.oa_frame.specs.Sessions.{spelled_all};
-ghost use Rattle.oa_record.specs.Replacement.{is_replacement};
-ghost use Rattle.oa_record.specs.Replies.{reply_record};
+ghost use Rattle.oa_frame.specs.promise.Framings.{frames, hex_lines, records};
+ghost use Rattle.oa_frame.specs.promise.Sessions.{spelled_all};
+ghost use Rattle.oa_record.specs.promise.Replacement.{is_replacement};
+ghost use Rattle.oa_record.specs.promise.Replies.{reply_record};
 ghost use Rattle.oa_server.specs.Talks.{HasTalkedInMemory, IsStoreSession, TakesBodies, ended_written, taken_written};
 ghost use Rattle.oa_server.specs.Storages.{InMemory};
 

@@ -1,14 +1,15 @@
 //! Sessions of many clients over streams.
 ghost use Rattle.std.specs.Prelude.{◌≡◌, ◌<◌, ◌≤◌, [], IfOk, OnErr, OnOk, false, get_or, length};
 ghost use Rattle.oa_frame.specs.Beginnings.{AreUnbroken};
-ghost use Rattle.oa_frame.specs.Sessions.{is_answered};
+ghost use Rattle.oa_frame.specs.promise.Sessions.{is_answered};
 ghost use Rattle.oa_model.specs.Limits.{max_group};
-ghost use Rattle.oa_record.specs.Replacement.{is_replacement};
-ghost use Rattle.oa_server.specs.SharedGroups.{ClearsDesk, all_frames, frames_of, told_at, told_to, told_with};
-ghost use Rattle.oa_server.specs.SharedSessions.{IsSharedSession};
-ghost use Rattle.oa_server.specs.SharedTalks.{TakesAsked, asked_written};
-ghost use Rattle.oa_server.specs.Sharing.ClientReply.{Leaves as ALeave};
-ghost use Rattle.oa_mux.specs.Outgoing.{spelled_frames};
+ghost use Rattle.oa_record.specs.promise.Replacement.{is_replacement};
+ghost use Rattle.oa_server.specs.SharedGroups.{ClearsDesk, told_at};
+ghost use Rattle.oa_server.specs.promise.SharedSessions.{all_frames, frames_of, told_to, told_with, IsSharedSession};
+ghost use Rattle.oa_server.specs.promise.SharedSessions.{asked_written};
+ghost use Rattle.oa_server.specs.SharedTalks.{TakesAsked};
+ghost use Rattle.oa_server.specs.promise.SharedMachine.ClientReply.{Leaves as ALeave};
+ghost use Rattle.oa_mux.specs.promise.Outgoing.{spelled_frames};
 ghost use Rattle.oa_stream.specs.BufferedSource.{ahead};
 ghost use Rattle.oa_stream.specs.Sink.{Puts};
 

@@ -1,10 +1,11 @@
 //! Starting a server over a store: its table must fit the library and a bank.
 ghost use Rattle.std.specs.Prelude.{◌≡◌, ◌↔◌, ◌≤◌, IsTrue, length, IfOk, IfErr};
-ghost use Rattle.oa_model.specs.Limits.{max_library_bytes};
-ghost use Rattle.oa_printer.specs.Canonical.{canonical};
-ghost use Rattle.oa_turn.specs.Beginnings.{CanServe};
-ghost use Rattle.oa_server.specs.Openings.{IsNotOpened, IsOpened};
-ghost use Rattle.oa_server.specs.Storages.{OverStore, bank_bytes_of};
+ghost use Rattle.oa_model.specs.promise.Limits.{max_library_bytes};
+ghost use Rattle.oa_printer.specs.promise.Canonical.{canonical};
+ghost use Rattle.oa_turn.specs.promise.Beginnings.{CanServe};
+ghost use Rattle.oa_server.specs.promise.ServerMachine.{IsNotOpened, IsOpened};
+ghost use Rattle.oa_server.specs.promise.Storages.{OverStore};
+ghost use Rattle.oa_server.specs.Storages.{bank_bytes_of};
 
 use crate::Server;
 use oa_compat::fits;

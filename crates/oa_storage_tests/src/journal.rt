@@ -3,8 +3,7 @@
 ghost use Rattle.std.specs.Prelude.{◌≡◌, ◌+◌, ◌≤◌, false, length, IfOk};
 ghost use Rattle.oa_table.specs.Tables.{first_table};
 ghost use Rattle.oa_journal.specs.Append.{IsAt};
-ghost use Rattle.oa_journal.specs.Banks.{first_gate};
-ghost use Rattle.oa_journal.specs.Shapes.{body_bytes};
+ghost use Rattle.oa_journal.specs.promise.Bank.{first_gate, body_bytes};
 ghost use Rattle.oa_journal.specs.declared.shape.BankFormat.TheVariants.{Two};
 
 use oa_disk::{DeviceFault, Disk, MemoryDisk};

@@ -1,7 +1,7 @@
 //! An open store allocates nothing. The tests of the program, and those of oa_history_tests on
 //! disks in memory, check crashes at any point and calls of the device that fail.
 ghost use Rattle.std.specs.Prelude.{◌≡◌, true};
-ghost use Rattle.oa_image.specs.Tables.{is_numbered};
+ghost use Rattle.oa_image.specs.promise.Tables.{is_numbered};
 
 use oa_disk::{Disk, MemoryDisk};
 use oa_image::laws::images_are_counted;

@@ -3,24 +3,23 @@ use Rattle.std.proofs.lemmas.List.{append-nil}
 use Rattle.std.specs.List.{AllByRecursion, flat_map}
 use Rattle.std.proofs.Common.{◌≡◌, ◌⊎◌, ℕ, ◌+◌, List, [], ◌∷◌, length, Result, Ok, refl, sym, ◌∙◌, ap, inl, inr, ⊎_elim, arith}
 use Rattle.std.proofs.Common.{length-append, subst, IfOk, IsTrue}
-use Rattle.oa_disk.specs.Disk.{CrashInvariant}
+use Rattle.oa_disk.specs.promise.Disk.{CrashInvariant}
 use Rattle.oa_disk.specs.Moments.{started}
 use Rattle.oa_disk.specs.declared.disk.Disk.{Ghosts}
-use Rattle.oa_image.specs.Events.{event, event_image}
+use Rattle.oa_image.specs.promise.Events.{event, event_image}
 use Rattle.oa_image.proofs.Lengths.{event_bytes}
 use Rattle.oa_image.proofs.Unlocked.{brings_none}
-use Rattle.oa_journal.specs.Replays.{Replays, applied_all}
+use Rattle.oa_journal.specs.promise.Bank.{Replays, applied_all}
 use Rattle.oa_journal.specs.declared.shape.BankFormat.{BankFormat}
 use Rattle.oa_store.specs.Changes.{IsCommit, IsCommitted}
-use Rattle.oa_store.specs.Stores.{IsStoreAt, IsStoreIn}
+use Rattle.oa_store.specs.promise.Stores.{IsStoreAt, IsStoreIn}
 use Rattle.oa_store.specs.declared.store.Store.{Store}
 use Rattle.oa_table.proofs.Unlocked.{event_follows}
-use Rattle.oa_table.specs.Events.{applied}
-use Rattle.oa_table.specs.Tables.{TableValue, unlocked_table}
+use Rattle.oa_table.specs.promise.Events.{applied}
+use Rattle.oa_table.specs.promise.Tables.{TableValue, unlocked_table}
 use Rattle.oa_table.specs.declared.event.Event.{Event}
 use Rattle.oa_table.specs.declared.fault.TableFault.{TableFault}
-use Rattle.oa_store.specs.Holding.{PreservesCommitted}
-use Rattle.oa_store.specs.Kept.{EachIs}
+use Rattle.oa_store.specs.promise.Holding.{PreservesCommitted, EachIs}
 
 module _ (library : List ℕ) (before after : TableValue) (shape : BankFormat) (chosen gate : ℕ) (group : List ℕ) (image : List ℕ → Type 0) (makes : Replays group before after) (each : EachIs image shape chosen gate library before) where
   -- while a group is committed, an image holds the table with it or without it

@@ -2,17 +2,16 @@
 use Rattle.std.proofs.Common.{◌≡◌, ℕ, zero, suc, ◌+◌, ◌*◌, ◌%◌, ◌<◌, ◌≤◌, IsTrue, List, ◌++◌, length, get_or, sym, ◌∙◌, ap, subst, arith, length-append}
 use Rattle.std.proofs.lemmas.List.{get_or_append_left}
 use Rattle.std.proofs.lemmas.Nat.{mod_below}
-use Rattle.oa_disk.specs.Disk.{NothingPending, Only}
+use Rattle.oa_disk.specs.promise.Disk.{NothingPending, Only}
 use Rattle.oa_disk.specs.declared.disk.Disk.{Ghosts}
-use Rattle.oa_table.specs.Tables.{TableValue}
+use Rattle.oa_table.specs.promise.Tables.{TableValue}
 use Rattle.oa_journal.specs.declared.shape.BankFormat.{BankFormat}
 use Rattle.oa_journal.specs.declared.shape.BankFormat.TheVariants.{One, Two}
-use Rattle.oa_journal.specs.Bank.{from_place}
-use Rattle.oa_journal.specs.Shapes.{body_bytes, disk_bytes}
+use Rattle.oa_journal.specs.promise.Bank.{from_place, body_bytes, disk_bytes}
 use Rattle.oa_journal.proofs.Banks.{same_bank}
 use Rattle.oa_store.specs.declared.upgrading.OldStore.{OldStore}
 use Rattle.oa_store.specs.Bringing.{FindsOld, HoldsOld}
-use Rattle.oa_store.specs.Stores.{body_place, head_place, store_bytes, IsFormatted, IsStoreAt}
+use Rattle.oa_store.specs.promise.Stores.{body_place, head_place, store_bytes, IsFormatted, IsStoreAt}
 
 -- both banks lie within the bytes of their format
 body_within : (shape : BankFormat) (chosen : ℕ) → chosen < 2 → body_place shape chosen + body_bytes shape ≤ disk_bytes shape

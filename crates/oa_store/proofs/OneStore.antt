@@ -1,10 +1,10 @@
 -- An image is a store of one format, one library and one table.
 use Rattle.std.proofs.Common.{◌≡◌, ◌∙◌, ℕ, List, sym, subst}
-use Rattle.oa_table.specs.Tables.{TableValue}
+use Rattle.oa_table.specs.promise.Tables.{TableValue}
 use Rattle.oa_journal.specs.declared.shape.BankFormat.{BankFormat}
-use Rattle.oa_journal.specs.Bank.{from_place, IsBank}
+use Rattle.oa_journal.specs.promise.Bank.{from_place, IsBank}
 use Rattle.oa_journal.proofs.Banks.{one_bank, same_shape}
-use Rattle.oa_store.specs.Stores.{body_place, head_place, IsStoreAt, IsStore}
+use Rattle.oa_store.specs.promise.Stores.{body_place, head_place, IsStoreAt, IsStore}
 use Rattle.oa_store.specs.OneStore.{AreSameStores}
 
 pub record IsSameStore (shape : BankFormat) (chosen gate : ℕ) (library : List ℕ) (table : TableValue) (also : BankFormat) (number end : ℕ)

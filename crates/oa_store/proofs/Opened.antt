@@ -1,29 +1,33 @@
 -- What an opening finds.
 use Rattle.std.proofs.Common.{◌≡◌, ◌⊎◌, inl, inr, ⊎_elim, ◌∙◌, ℕ, zero, suc, ◌+◌, ◌*◌, ◌<◌, ◌≤◌, List, Bool, Option, Some, length, length-drop, take, drop, slice_index, refl, sym, ap, subst, arith}
 use Rattle.std.proofs.lemmas.List.{get_or-drop, get_or-take, length-take-le}
-use Rattle.oa_disk.specs.Disk.{Only}
+use Rattle.oa_disk.specs.promise.Disk.{Only}
 use Rattle.oa_disk.specs.declared.disk.DeviceFault.{DeviceFault}
 use Rattle.oa_disk.specs.declared.disk.DeviceFault.TheVariants as devices
-use Rattle.oa_table.specs.Tables.{TableValue}
+use Rattle.oa_table.specs.promise.Tables.{TableValue}
 use Rattle.oa_journal.specs.declared.shape.BankFormat.{BankFormat}
 use Rattle.oa_journal.specs.declared.shape.BankFormat.TheVariants.{One, Two}
 use Rattle.oa_journal.proofs.Banks.{bank_header}
 use Rattle.oa_journal.proofs.Unique.{one_head}
-use Rattle.oa_journal.specs.Bank.{from_place, Shows, IsBank, HasHead, HasHeader, HasLibrary}
+use Rattle.oa_journal.specs.promise.Bank.{from_place, Shows, IsBank, HasHead, HasHeader, HasLibrary, body_bytes}
+use Rattle.oa_journal.specs.promise.Bank.{disk_bytes}
 use Rattle.oa_journal.specs.declared.bank.Bank.{Bank}
 use Rattle.oa_journal.specs.declared.bank.BankFault.{BankFault}
 use Rattle.oa_journal.specs.declared.bank.BankFault.TheVariants as banks
 use Rattle.oa_journal.specs.Append.{IsAt}
-use Rattle.oa_journal.specs.Shapes.{body_bytes, disk_bytes}
-use Rattle.oa_journal.specs.Damages.{IsDamagedBank, IsDamagedHead}
+use Rattle.oa_journal.specs.Damages.{IsDamagedBank}
+use Rattle.oa_journal.specs.promise.Damages.{IsDamagedHead}
 use Rattle.oa_journal.proofs.Damages.{bank_library, not_damaged, one_library}
 use Rattle.oa_journal.specs.Replies.{IsCausedBankFault as IsBankCaused}
 use Rattle.oa_store.specs.declared.fault.FindFault.{FindFault}
 use Rattle.oa_store.specs.declared.fault.FindFault.TheVariants as finds
 use Rattle.oa_store.specs.declared.fault.OpenFault.{OpenFault}
 use Rattle.oa_store.specs.declared.fault.OpenFault.TheVariants.{NotAStore, OldFormat, LibraryDiffers, Damaged, Device, Memory}
-use Rattle.oa_store.specs.Faults.{SpeaksOfContents, HeadSays, IsBeheaded, IsCausedOpenFault, IsDamaged, IsFailed, IsSpoilt, HasWanted, IsOther, RefusalSays, DeviceTells, moments_until, finding_of_bank, of_bank, of_finding}
-use Rattle.oa_store.specs.Stores.{body_place, head_place, IsFormatted, IsStoreAt, IsNewStore}
+use Rattle.oa_store.specs.promise.Faults.{SpeaksOfContents, IsBeheaded, IsCausedOpenFault, IsDamaged, IsFailed}
+use Rattle.oa_store.specs.promise.Faults.{IsSpoilt, HasWanted, IsOther, RefusalSays, DeviceTells, moments_until}
+use Rattle.oa_store.specs.Faults.{HeadSays, finding_of_bank, of_bank, of_finding}
+use Rattle.oa_store.specs.promise.Stores.{body_place, head_place, IsFormatted, IsStoreAt}
+use Rattle.oa_store.specs.Stores.{IsNewStore}
 
 -- what holds of the bytes where a bank stands holds of them under other names
 pub carried : (P : BankFormat → (ℕ → ℕ) → (ℕ → ℕ) → Type 0) (bank : Bank) (shape : BankFormat) (head body gate : ℕ) (stopped : Bool)

@@ -1,15 +1,14 @@
 -- What an upgrade finds and leaves.
 use Rattle.std.proofs.Common.{◌≡◌, ◌⊎◌, inl, inr, ⊎_elim, ℕ, ◌-◌, List, Result, Ok, Err, OnOk, is_ok, false, true, true≢false, refl, sym, subst}
-use Rattle.oa_disk.specs.Disk.{Only}
+use Rattle.oa_disk.specs.promise.Disk.{Only}
 use Rattle.oa_disk.specs.declared.disk.DeviceFault.{DeviceFault}
 use Rattle.oa_disk.specs.declared.disk.DeviceFault.TheVariants as devices
-use Rattle.oa_table.specs.Tables.{TableValue, unlocked_table}
+use Rattle.oa_table.specs.promise.Tables.{TableValue, unlocked_table}
 use Rattle.oa_journal.specs.declared.bank.Bank.{Bank}
 use Rattle.oa_journal.specs.declared.shape.BankFormat.{BankFormat}
 use Rattle.oa_journal.specs.declared.shape.BankFormat.TheVariants.{One, Two}
-use Rattle.oa_journal.specs.Shapes.{body_bytes}
+use Rattle.oa_journal.specs.promise.Bank.{body_bytes, from_place, IsBank}
 use Rattle.oa_journal.specs.Append.{IsAt, TornBank}
-use Rattle.oa_journal.specs.Bank.{from_place, IsBank}
 use Rattle.oa_journal.proofs.Lockless.{no_locks}
 use Rattle.oa_journal.specs.declared.bank.BankFault.{BankFault}
 use Rattle.oa_journal.specs.declared.bank.BankFault.TheVariants as banks
@@ -18,10 +17,13 @@ use Rattle.oa_store.specs.declared.fault.FindFault.{FindFault}
 use Rattle.oa_store.specs.declared.fault.FindFault.TheVariants as finds
 use Rattle.oa_store.specs.declared.fault.UpgradeFault.{UpgradeFault}
 use Rattle.oa_store.specs.declared.fault.UpgradeFault.TheVariants as upgrades
-use Rattle.oa_store.specs.Changes.{IsMove, IsMoved, IsUpgrade}
-use Rattle.oa_store.specs.Faults.{HeadSays, HasOldShape, IsBeheaded, IsSpoilt, IsOld, IsCausedOpenFault, IsCausedUpgrade, IsFailed, IsFailedUpgrade, ReadingTells, UpgradeSays, DeviceTells, UpgradeDeviceTells, of_finding, upgrade_of_bank, upgrade_of_finding}
+use Rattle.oa_store.specs.Changes.{IsMove, IsMoved}
+use Rattle.oa_store.specs.promise.Changes.{IsUpgrade}
+use Rattle.oa_store.specs.Faults.{HeadSays, HasOldShape, IsCausedUpgrade, IsFailedUpgrade, ReadingTells, UpgradeSays}
+use Rattle.oa_store.specs.Faults.{UpgradeDeviceTells, of_finding, upgrade_of_bank, upgrade_of_finding}
+use Rattle.oa_store.specs.promise.Faults.{IsBeheaded, IsSpoilt, IsOld, IsCausedOpenFault, IsFailed, DeviceTells}
 use Rattle.oa_store.proofs.OneStore.{one_store_at}
-use Rattle.oa_store.specs.Stores.{body_place, head_place, IsStoreAt, IsStoreIn}
+use Rattle.oa_store.specs.promise.Stores.{body_place, head_place, IsStoreAt, IsStoreIn}
 
 -- a refusal before a bank is looked at, as one of an upgrade
 pub says_early : (bank size : ℕ) (contents : List ℕ) (e : FindFault) → (e ≡ finds.Memory → ⊥) → HeadSays size contents e

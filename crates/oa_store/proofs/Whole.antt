@@ -1,19 +1,20 @@
 -- What is refused of a disk that has a whole store.
 use Rattle.std.proofs.Common.{◌≡◌, ◌⊎◌, ⊎_elim, ◌+◌, ◌<◌, ◌≤◌, ℕ, List, None, length, arith, ap, subst}
-use Rattle.oa_image.specs.Tables.{table_image}
+use Rattle.oa_image.specs.promise.Tables.{table_image}
 use Rattle.oa_journal.specs.declared.shape.BankFormat.TheVariants.{One, Two}
 use Rattle.oa_store.specs.declared.fault.UpgradeFault.TheVariants as upgrades
 use Rattle.oa_store.proofs.OneStore.{one_store}
-use Rattle.oa_table.specs.Tables.{TableValue}
+use Rattle.oa_table.specs.promise.Tables.{TableValue}
 use Rattle.oa_journal.specs.declared.shape.BankFormat.{BankFormat}
 use Rattle.oa_journal.proofs.Banks.{bank_header}
 use Rattle.oa_journal.proofs.Damages.{not_damaged}
-use Rattle.oa_journal.specs.Bank.{from_place}
-use Rattle.oa_journal.specs.Damages.{IsDamagedBody}
+use Rattle.oa_journal.specs.promise.Bank.{from_place}
+use Rattle.oa_journal.specs.promise.Damages.{IsDamagedBody}
 use Rattle.oa_store.specs.declared.fault.OpenFault.{OpenFault}
 use Rattle.oa_store.specs.declared.fault.OpenFault.TheVariants.{NotAStore, OldFormat, LibraryDiffers, Damaged, Device, Memory}
-use Rattle.oa_store.specs.Faults.{CanBeBrought, RefusalSays, SpeaksOfContents, UpgradeSays}
-use Rattle.oa_store.specs.Stores.{body_place, head_place, IsStore, IsStoreAt}
+use Rattle.oa_store.specs.promise.Faults.{CanBeBrought, RefusalSays, SpeaksOfContents}
+use Rattle.oa_store.specs.Faults.{UpgradeSays}
+use Rattle.oa_store.specs.promise.Stores.{body_place, head_place, IsStore, IsStoreAt}
 use Rattle.oa_store.proofs.Opened.{its_bank, its_shape}
 
 -- a bank that is damaged in its body has a head of its format, so it is none of a store's

@@ -1,15 +1,12 @@
--- What a commit, a checkpoint, an upgrade and a format may leave, as relations from an old image to a new one. All
--- hold for each library and table that the old image has. (This project's choice.)
+-- Definitions for contracts and proofs, beside promise/Changes.
 use Rattle.std.specs.Prelude.{◌≡◌, ◌≢◌, ◌⊎◌, ℕ, ◌+◌, ◌-◌, ◌≤◌, List, length, slice_index}
-use Rattle.oa_disk.specs.Disk.{Torn}
-use Rattle.oa_table.specs.Tables.{TableValue, first_table}
+use Rattle.oa_disk.specs.promise.Disk.{Torn}
+use Rattle.oa_table.specs.promise.Tables.{TableValue}
+use Rattle.oa_table.specs.Tables.{first_table}
 use Rattle.oa_journal.specs.declared.shape.BankFormat.{BankFormat}
 use Rattle.oa_journal.specs.declared.shape.BankFormat.TheVariants.{One, Two}
-use Rattle.oa_journal.specs.Replays.{Replays}
-use Rattle.oa_journal.specs.Shapes.{disk_bytes}
-use Rattle.oa_journal.specs.Bank.{from_place, IsBank}
-use Rattle.oa_journal.specs.Banks.{first_gate}
-use Rattle.oa_store.specs.Stores.{body_place, head_place, IsStoreAt, IsStoreIn}
+use Rattle.oa_journal.specs.promise.Bank.{Replays, disk_bytes, from_place, IsBank, first_gate}
+use Rattle.oa_store.specs.promise.Stores.{body_place, head_place, IsStoreAt}
 
 -- the old store, with the group or without it
 abbrev pub IsCommit : BankFormat → ℕ → ℕ → List ℕ → List ℕ → List ℕ → Type 0
@@ -58,12 +55,6 @@ IsMove chosen size next text table old new = (shape : BankFormat) (gate : ℕ) (
 abbrev pub IsMoved : ℕ → ℕ → ℕ → List ℕ → TableValue → List ℕ → List ℕ → Type 0
 IsMoved chosen size next text table old new = (shape : BankFormat) (gate : ℕ) (library : List ℕ) → MayFollow size shape
     → IsReplaced shape chosen gate (Two size) next library text table old new
-
--- A store of the same library and the same table, in the old format or in format 2 with bodies of this size.
-abbrev pub IsUpgrade : ℕ → List ℕ → List ℕ → Type 0
-IsUpgrade size old new = (shape : BankFormat) (library : List ℕ) (table : TableValue)
-    → IsStoreIn shape old library table
-    → IsStoreIn shape new library table ⊎ IsStoreIn (Two size) new library table
 
 -- not formatted, or a new store without objects
 abbrev pub IsNoneOrFirst : ℕ → List ℕ → List ℕ → Type 0

@@ -9,3 +9,4 @@ pub mod Stores
 pub mod Writing
 pub mod Holding
 pub mod Kept
+pub mod promise

@@ -1,28 +1,27 @@
 -- What an opening and an inspection of a disk return. Everything but what is in memory is stated of a disk that is
 -- honest at the end. (This project's choice.)
 use Rattle.std.specs.Prelude.{◌≡◌, ℕ, ◌+◌, ◌<◌, ◌≤◌, IsTrue, true, false, List, length, Option, Some, None}
-use Rattle.oa_disk.specs.Disk.{Only}
+use Rattle.oa_disk.specs.promise.Disk.{Only}
 use Rattle.oa_disk.specs.declared.disk.Disk.{Ghosts}
-use Rattle.oa_image.specs.Tables.{is_numbered}
+use Rattle.oa_image.specs.promise.Tables.{is_numbered}
 use Rattle.oa_journal.specs.Append.{IsAt}
-use Rattle.oa_journal.specs.Bank.{from_place, HasHead, IsBank}
+use Rattle.oa_journal.specs.promise.Bank.{from_place, HasHead, IsBank, body_bytes, disk_bytes, IsShape}
 use Rattle.oa_journal.specs.ReadCalls.{IsStored}
-use Rattle.oa_journal.specs.Shapes.{body_bytes, disk_bytes, IsShape}
 use Rattle.oa_journal.specs.declared.head.BankHead.{BankHead}
 use Rattle.oa_journal.specs.declared.shape.BankFormat.{BankFormat}
 use Rattle.oa_journal.specs.declared.shape.BankFormat.TheVariants.{Two}
-use Rattle.oa_store.specs.Calls.{piece_bytes}
+use Rattle.oa_store.specs.promise.Stores.{piece_bytes, body_place, head_place, store_bytes, IsFormatted, IsForeign}
+use Rattle.oa_store.specs.promise.Stores.{IsStore, IsStoreAt}
 use Rattle.oa_store.specs.declared.fault.FindFault.{FindFault}
 use Rattle.oa_store.specs.declared.fault.OpenFault.{OpenFault}
 use Rattle.oa_store.specs.declared.fault.OpenFault.TheVariants.{LibraryDiffers, OldFormat}
 use Rattle.oa_store.specs.declared.reading.Found.{Found}
 use Rattle.oa_store.specs.declared.store.Store.{Store}
-use Rattle.oa_store.specs.Faults.{of_finding, IsCausedOpenFault, ComesOfForeign, SpeaksOfContents, HeadSays}
-use Rattle.oa_store.specs.Faults.{RefusalSays}
-use Rattle.oa_store.specs.Faults.{DeviceTells, moments_until}
-use Rattle.oa_store.specs.Stores.{body_place, head_place, store_bytes, IsFormatted, IsForeign, IsNewStore, IsStore}
-use Rattle.oa_store.specs.Stores.{IsStoreAt}
-use Rattle.oa_table.specs.Tables.{TableValue, unlocked_table}
+use Rattle.oa_store.specs.Faults.{of_finding, HeadSays}
+use Rattle.oa_store.specs.promise.Faults.{IsCausedOpenFault, ComesOfForeign, SpeaksOfContents, RefusalSays, DeviceTells}
+use Rattle.oa_store.specs.promise.Faults.{moments_until}
+use Rattle.oa_store.specs.Stores.{IsNewStore}
+use Rattle.oa_table.specs.promise.Tables.{TableValue, unlocked_table}
 
 -- The disk is formatted, and its selector names this bank. Nothing is pending.
 pub record FindsFormatted {D : Type 0} (g : Ghosts D) (chosen : ℕ) (old new : D) : Type 0 where

@@ -1,6 +1,6 @@
 //! The events of a group, as they will be written.
 ghost use Rattle.std.specs.Prelude.{◌≡◌, ◌⊎◌, ◌↔◌, ◌≤◌, ◌++◌, [], IsTrue, OnErr, OnOk, length, take};
-ghost use Rattle.oa_image.specs.Events.{event_image};
+ghost use Rattle.oa_image.specs.promise.Events.{event_image};
 ghost use Rattle.oa_journal.specs.Append.{group_of};
 
 use oa_image::{SizedEvent, write_event};

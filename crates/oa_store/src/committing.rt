@@ -1,11 +1,12 @@
 //! Committing the events of a batch to a store.
 ghost use Rattle.std.specs.Prelude.{◌≡◌, ◌⊎◌, ◌+◌, ◌*◌, ◌≤◌, IsTrue, [], length, vec_capacity};
 ghost use Rattle.oa_journal.specs.Append.{group_of};
-ghost use Rattle.oa_journal.specs.Shapes.{ample_bytes, body_bytes};
-ghost use Rattle.oa_store.specs.Holding.{CallsForGroup, CanBeKept, CommitsAtomically, IsOpenFor, MakesRoom, PreservesCommitted, StopsWhereRefused};
-ghost use Rattle.oa_store.specs.Calls.{checkpoint_calls};
-ghost use Rattle.oa_store.specs.Writing.{DeviceFrame};
-ghost use Rattle.oa_table.specs.Tables.{unlocked_table};
+ghost use Rattle.oa_journal.specs.promise.Bank.{ample_bytes, body_bytes};
+ghost use Rattle.oa_store.specs.Holding.{CallsForGroup, CanBeKept, IsOpenFor, MakesRoom, StopsWhereRefused};
+ghost use Rattle.oa_store.specs.promise.Holding.{CommitsAtomically, PreservesCommitted};
+ghost use Rattle.oa_store.specs.promise.Stores.{checkpoint_calls};
+ghost use Rattle.oa_store.specs.promise.Writing.{DeviceFrame};
+ghost use Rattle.oa_table.specs.promise.Tables.{unlocked_table};
 
 use crate::{DeviceFailed, EventBatch, Store};
 use oa_disk::Disk;

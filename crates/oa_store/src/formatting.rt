@@ -3,18 +3,19 @@ ghost use Rattle.std.specs.Prelude.{◌≡◌, ◌≢◌, ◌⊎◌, ◌+◌, �
 ghost use Rattle.std.specs.Prelude.{IsErrOf};
 ghost use Rattle.std.specs.Int.{div_ceil};
 ghost use Rattle.oa_disk.specs.After.{AfterAttempt, AfterWrites};
-ghost use Rattle.oa_disk.specs.Disk.{CrashInvariant, LeavesStep, Torn};
-ghost use Rattle.oa_model.specs.Limits.{max_library_bytes};
-ghost use Rattle.oa_table.specs.Tables.{first_table, unlocked_table};
-ghost use Rattle.oa_image.specs.Tables.{is_numbered};
+ghost use Rattle.oa_disk.specs.promise.Disk.{CrashInvariant, Torn};
+ghost use Rattle.oa_disk.specs.Disk.{LeavesStep};
+ghost use Rattle.oa_model.specs.promise.Limits.{max_library_bytes};
+ghost use Rattle.oa_table.specs.Tables.{first_table};
+ghost use Rattle.oa_table.specs.promise.Tables.{unlocked_table};
+ghost use Rattle.oa_image.specs.promise.Tables.{is_numbered};
 ghost use Rattle.oa_store.specs.declared.fault.FormatFault.{FormatFault};
 ghost use Rattle.oa_journal.specs.declared.shape.BankFormat.TheVariants.{Two};
-ghost use Rattle.oa_journal.specs.Shapes.{disk_bytes, least_bank_bytes, most_bank_bytes};
-ghost use Rattle.oa_store.specs.Stores.{IsStoreAt};
+ghost use Rattle.oa_journal.specs.promise.Bank.{disk_bytes, least_bank_bytes, most_bank_bytes, first_gate};
+ghost use Rattle.oa_store.specs.promise.Stores.{IsStoreAt};
 ghost use Rattle.oa_store.specs.Calls.{format_calls};
 ghost use Rattle.oa_store.specs.Changes.{IsFormatting, HasBank};
 ghost use Rattle.oa_store.specs.Making.{RefusesSmall};
-ghost use Rattle.oa_journal.specs.Banks.{first_gate};
 
 use crate::FormatFault;
 use crate::head::{SELECTOR, buffer};

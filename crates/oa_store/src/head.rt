@@ -1,16 +1,15 @@
 //! The bytes before the banks: the first one, and the selector.
 ghost use Rattle.std.specs.Prelude.{◌≡◌, ◌+◌, ◌<◌, ◌≤◌, IsTrue, length, vec_capacity, slice_index, IfOk, IfErr, IsErrOf};
 ghost use Rattle.oa_disk.specs.After.{AfterCalls};
-ghost use Rattle.oa_disk.specs.Disk.{CountsFailures};
+ghost use Rattle.oa_disk.specs.promise.Disk.{CountsFailures};
 ghost use Rattle.oa_disk.specs.declared.disk.DeviceFault.{DeviceFault};
-ghost use Rattle.oa_model.specs.Limits.{max_library_bytes};
+ghost use Rattle.oa_model.specs.promise.Limits.{max_library_bytes};
 ghost use Rattle.oa_store.specs.declared.fault.FindFault.{FindFault};
-ghost use Rattle.oa_store.specs.Calls.{piece_bytes};
-ghost use Rattle.oa_store.specs.Faults.{of_finding, moments_until};
+ghost use Rattle.oa_store.specs.promise.Stores.{piece_bytes, store_bytes, body_place, head_place};
+ghost use Rattle.oa_store.specs.Faults.{of_finding};
+ghost use Rattle.oa_store.specs.promise.Faults.{moments_until};
 ghost use Rattle.oa_store.specs.Openings.{FindsChosen, FindsFormatted, RefusesChosen, RefusesFormatted};
-ghost use Rattle.oa_journal.specs.Reads.{WritesNothing};
-ghost use Rattle.oa_journal.specs.Shapes.{body_bytes, disk_bytes, IsShape};
-ghost use Rattle.oa_store.specs.Stores.{store_bytes, body_place, head_place};
+ghost use Rattle.oa_journal.specs.promise.Bank.{WritesNothing, body_bytes, disk_bytes, IsShape};
 
 use crate::fault::FindFault;
 use oa_disk::{DeviceFault, Disk};

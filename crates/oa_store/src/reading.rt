@@ -1,15 +1,16 @@
 //! Reading a store.
 ghost use Rattle.std.specs.Prelude.{◌≡◌, ◌↔◌, ◌+◌, ◌-◌, ◌<◌, ◌≤◌, ℕ, false, Some, IsTrue, IfOk, IfErr, IsErrOf};
 ghost use Rattle.std.specs.Prelude.{length, vec_capacity};
-ghost use Rattle.oa_model.specs.Limits.{max_library_bytes};
+ghost use Rattle.oa_model.specs.promise.Limits.{max_library_bytes};
 ghost use Rattle.oa_disk.specs.After.{AfterCalls};
 ghost use Rattle.oa_journal.specs.Append.{IsAt};
 ghost use Rattle.oa_journal.specs.Damages.{IsDamagedBank};
-ghost use Rattle.oa_journal.specs.Reads.{AfterReads, WritesNothing};
-ghost use Rattle.oa_journal.specs.Shapes.{body_bytes, IsShape};
+ghost use Rattle.oa_journal.specs.Reads.{AfterReads};
+ghost use Rattle.oa_journal.specs.promise.Bank.{WritesNothing, body_bytes, IsShape};
 ghost use Rattle.oa_journal.specs.declared.bank.BankFault.{BankFault};
 ghost use Rattle.oa_store.specs.Openings.{Finds, FindsAny, FindsBank, Refuses, RefusesAny};
-ghost use Rattle.oa_store.specs.Stores.{body_place, head_place, BankWithin};
+ghost use Rattle.oa_store.specs.promise.Stores.{body_place, head_place};
+ghost use Rattle.oa_store.specs.Stores.{BankWithin};
 
 use crate::OpenFault;
 use crate::head::{Room, body_place, buffer, find_head, find_room, head_place};

@@ -1,16 +1,14 @@
 //! An open store.
 ghost use Rattle.std.specs.Prelude.{◌≡◌, ◌↔◌, ◌+◌, ◌*◌, ◌-◌, ◌<◌, ◌≤◌, false, true, IsTrue, length, IfErr, IfOk, OnOk, vec_capacity};
 ghost use Rattle.oa_disk.specs.After.{AfterCalls, Leaves};
-ghost use Rattle.oa_model.specs.Limits.{max_library_bytes};
-ghost use Rattle.oa_table.specs.Tables.{unlocked_table};
-ghost use Rattle.oa_image.specs.Tables.{is_numbered, reserved_bytes, table_image};
-ghost use Rattle.oa_journal.specs.Shapes.{ample_bytes, body_bytes, disk_bytes, format_of};
+ghost use Rattle.oa_model.specs.promise.Limits.{max_library_bytes};
+ghost use Rattle.oa_table.specs.promise.Tables.{unlocked_table};
+ghost use Rattle.oa_image.specs.promise.Tables.{is_numbered, reserved_bytes, table_image};
+ghost use Rattle.oa_journal.specs.promise.Bank.{ample_bytes, body_bytes, disk_bytes, format_of, first_gate};
+ghost use Rattle.oa_journal.specs.promise.Bank.{WritesNothing};
 ghost use Rattle.oa_journal.specs.Append.{group_of};
-ghost use Rattle.oa_journal.specs.Banks.{first_gate};
-ghost use Rattle.oa_journal.specs.Reads.{WritesNothing};
-ghost use Rattle.oa_store.specs.Calls.{piece_bytes, checkpoint_calls};
+ghost use Rattle.oa_store.specs.promise.Stores.{piece_bytes, checkpoint_calls, body_place, head_place};
 ghost use Rattle.oa_store.specs.Changes.{IsCommit, IsCommitted, IsReplacement, IsReplaced, IsSwitch, IsSwitched};
-ghost use Rattle.oa_store.specs.Stores.{body_place, head_place};
 
 use crate::reading::find_store;
 use crate::switching::switch_to;
@@ -47,7 +45,8 @@ pub struct Store<D: Disk> {
 impl<D: Disk> Store<D> {
     ghost use Rattle.oa_store.specs.declared.fault.WriteFault.{WriteFault};
     ghost use Rattle.oa_store.specs.Openings.{FindsStore, RefusesDisk, Starts};
-    ghost use Rattle.oa_store.specs.Writing.{AddsGroup, DeviceFrame, StopsAtFault, SwitchesBank};
+    ghost use Rattle.oa_store.specs.Writing.{AddsGroup, StopsAtFault, SwitchesBank};
+    ghost use Rattle.oa_store.specs.promise.Writing.{DeviceFrame};
 
     /// Opens the store of `library` on the disk, and returns it with its table, which has no locks.
     /// It writes nothing, and begins with a sync. An error returns the disk, too: `NotAStore`,

@@ -2,13 +2,14 @@
 ghost use Rattle.std.specs.Prelude.{◌≡◌, ◌+◌, ◌-◌, ◌<◌, length, IfOk, true, false};
 ghost use Rattle.std.specs.Int.{div_ceil};
 ghost use Rattle.oa_disk.specs.After.{AfterWrites, Leaves};
-ghost use Rattle.oa_image.specs.Tables.{is_numbered};
-ghost use Rattle.oa_table.specs.Tables.{unlocked_table};
+ghost use Rattle.oa_image.specs.promise.Tables.{is_numbered};
+ghost use Rattle.oa_table.specs.promise.Tables.{unlocked_table};
 ghost use Rattle.oa_journal.specs.Append.{IsAt};
-ghost use Rattle.oa_journal.specs.Banks.{first_gate};
+ghost use Rattle.oa_journal.specs.promise.Bank.{first_gate};
 ghost use Rattle.oa_journal.specs.declared.shape.BankFormat.TheVariants.{Two};
 ghost use Rattle.oa_store.specs.Changes.{IsMove, IsMoved};
-ghost use Rattle.oa_store.specs.Stores.{body_place, head_place, BankWithin};
+ghost use Rattle.oa_store.specs.promise.Stores.{body_place, head_place};
+ghost use Rattle.oa_store.specs.Stores.{BankWithin};
 
 use crate::head::SELECTOR;
 use crate::reading::bank_of;

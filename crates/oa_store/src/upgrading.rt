@@ -2,17 +2,15 @@
 ghost use Rattle.std.specs.Prelude.{◌≡◌, ◌+◌, ◌-◌, ◌<◌, ◌≤◌, ℕ, IsTrue, true, length, OnOk, IfOk, IfErr};
 ghost use Rattle.oa_disk.specs.After.{AfterCalls, AfterWrites, Leaves};
 ghost use Rattle.oa_disk.specs.Disk.{LeavesStep};
-ghost use Rattle.oa_image.specs.Tables.{FitsBank, is_numbered};
-ghost use Rattle.oa_model.specs.Limits.{max_library_bytes};
-ghost use Rattle.oa_journal.specs.Reads.{WritesNothing};
-ghost use Rattle.oa_journal.specs.Shapes.{disk_bytes, least_bank_bytes, most_bank_bytes};
+ghost use Rattle.oa_image.specs.promise.Tables.{FitsBank, is_numbered};
+ghost use Rattle.oa_model.specs.promise.Limits.{max_library_bytes};
+ghost use Rattle.oa_journal.specs.promise.Bank.{WritesNothing, disk_bytes, least_bank_bytes, most_bank_bytes};
 ghost use Rattle.oa_journal.specs.declared.shape.BankFormat.TheVariants.{Two};
 ghost use Rattle.oa_store.specs.declared.fault.UpgradeFault.{UpgradeFault};
-ghost use Rattle.oa_store.specs.Calls.{checkpoint_calls, piece_bytes};
-ghost use Rattle.oa_store.specs.Changes.{IsUpgrade};
-ghost use Rattle.oa_store.specs.Faults.{IsMigrated};
+ghost use Rattle.oa_store.specs.promise.Stores.{checkpoint_calls, piece_bytes, IsStoreIn};
+ghost use Rattle.oa_store.specs.promise.Changes.{IsUpgrade};
+ghost use Rattle.oa_store.specs.promise.Faults.{IsMigrated};
 ghost use Rattle.oa_store.specs.Making.{CallsForUpgrade, FindsFormatOne, RefusesReading, RefusesSmall, RefusesUpgrade};
-ghost use Rattle.oa_store.specs.Stores.{IsStoreIn};
 
 use crate::UpgradeFault;
 use crate::head::{buffer, find_head};

@@ -2,7 +2,8 @@
 use Rattle.std.proofs.Common.{◌≡◌, ℕ, ◌+◌, List, [], ◌++◌, Result, Ok, Err, length, sym, ap, ◌∙◌, append_assoc, arith}
 use Rattle.std.proofs.lemmas.List.{append-nil, length-append}
 use Rattle.oa_stream.specs.declared.sink.Unwritten.{Unwritten}
-use Rattle.oa_stream.specs.Sink.{Output, Writes, Breaks, Puts, Delivers}
+use Rattle.oa_stream.specs.promise.Sink.{Output, Writes, Breaks}
+use Rattle.oa_stream.specs.Sink.{Puts, Delivers}
 use Rattle.oa_stream.specs.BufferedSink.{with_back}
 use Rattle.oa_stream.proofs.Stretches.{writes_then, breaks_after}
 

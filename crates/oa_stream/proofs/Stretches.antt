@@ -6,7 +6,8 @@ use Rattle.std.specs.Io.KnownBytes.{Appends, Keeps}
 use Rattle.std.proofs.KnownBytes.{Appends-nil, Appends-trans}
 use lib.Seq.{take-add}
 use Rattle.oa_stream.specs.declared.sink.Unwritten.{Unwritten}
-use Rattle.oa_stream.specs.Sink.{Output, Writes, Breaks, Puts}
+use Rattle.oa_stream.specs.promise.Sink.{Output, Writes, Breaks}
+use Rattle.oa_stream.specs.Sink.{Puts}
 
 pub appends_kept : (a b c : Option (List ℕ)) (bytes : List ℕ) → Appends a b bytes → Keeps b c → Appends a c bytes
 appends_kept None b c bytes p k = tt

@@ -2,7 +2,7 @@
 use Rattle.std.specs.Prelude.{ℕ, ◌+◌, ◌-◌, ◌≤◌, List, ◌++◌, length, take}
 use Rattle.std.proofs.Common.{arith, length-append, length-take}
 use Rattle.oa_stream.specs.declared.behind.BufferedSink.{BufferedSink}
-use Rattle.oa_stream.specs.Sink.{Output}
+use Rattle.oa_stream.specs.promise.Sink.{Output}
 
 -- a writer with these bytes kept back before it
 abbrev pub with_back : Output → List ℕ → Output

@@ -4,7 +4,7 @@ use Rattle.std.specs.Io.KnownBytes.{Consumes, Keeps, IsAtEnd, prepend_known}
 use Rattle.oa_stream.specs.declared.ahead.BufferedSource.{BufferedSource}
 use Rattle.oa_stream.specs.declared.ahead.More.{More}
 use Rattle.oa_stream.specs.declared.ahead.More.TheVariants as more
-use Rattle.oa_stream.specs.Source.{Input, later}
+use Rattle.oa_stream.specs.promise.Source.{Input, later}
 
 -- the bytes that were read ahead
 abbrev pub read_ahead : {R : Type 0} → BufferedSource R → List ℕ

@@ -5,3 +5,4 @@ pub mod BufferedSource
 pub mod StdSink
 pub mod BufferedSink
 pub mod Memory
+pub mod promise

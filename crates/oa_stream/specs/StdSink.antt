@@ -4,7 +4,7 @@ use Rattle.std.specs.Io.KnownBytes.{Appends, Keeps}
 use Rattle.oa_stream.specs.declared.outlet.StdSink.{StdSink}
 use Rattle.oa_stream.specs.declared.outlet.Taken.{Taken}
 use Rattle.oa_stream.specs.declared.outlet.Taken.TheVariants.{Bytes, Again, Fault}
-use Rattle.oa_stream.specs.Sink.{Output}
+use Rattle.oa_stream.specs.promise.Sink.{Output}
 
 -- what the inner writer holds by the standard library has left; no space is promised
 abbrev pub outlet : {W : Type 0} → (W → Option (List ℕ)) → StdSink W → Output

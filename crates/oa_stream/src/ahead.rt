@@ -1,7 +1,7 @@
 //! A buffer between a reader and its caller.
 ghost use Rattle.std.specs.Prelude.{◌≡◌, ◌≤◌, ◌-◌, ◌++◌, [], false, length, drop, take, IfOk};
 ghost use Rattle.oa_stream.specs.BufferedSource.{TakesAhead, Waits, ahead, passed, read_ahead};
-ghost use Rattle.oa_stream.specs.Sink.{IsHandedOn};
+ghost use Rattle.oa_stream.specs.promise.Sink.{IsHandedOn};
 
 use crate::stretch::Front;
 use crate::{Next, Sink, Source};

@@ -1,7 +1,7 @@
 //! A writer in memory.
 ghost use Rattle.std.specs.Prelude.{◌≡◌, false};
 ghost use Rattle.std.proofs.Common.{le_refl};
-ghost use Rattle.oa_stream.specs.Memory.{gathered_output};
+ghost use Rattle.oa_stream.specs.promise.Memory.{gathered_output};
 
 use crate::{Sink, Unwritten};
 

@@ -1,6 +1,7 @@
 //! Writers that accept bytes as a whole.
 ghost use Rattle.std.specs.Prelude.{◌≡◌, ◌≤◌, false, length};
-ghost use Rattle.oa_stream.specs.Sink.{Delivers, Output, Puts};
+ghost use Rattle.oa_stream.specs.Sink.{Delivers, Puts};
+ghost use Rattle.oa_stream.specs.promise.Sink.{Output};
 
 use thiserror::Error;
 

@@ -1,6 +1,7 @@
 //! Readers that return some bytes with each call.
 ghost use Rattle.std.specs.Prelude.{◌≡◌, ◌<◌, false, length};
-ghost use Rattle.oa_stream.specs.Source.{Fills, Input, in_memory};
+ghost use Rattle.oa_stream.specs.Source.{Fills};
+ghost use Rattle.oa_stream.specs.promise.Source.{Input, in_memory};
 
 /// The result of one read call.
 #[derive(Clone, Copy, Debug, PartialEq, Eq)]

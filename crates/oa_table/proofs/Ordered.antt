@@ -10,8 +10,8 @@ use Rattle.std.proofs.lemmas.List.{map-append}
 use Rattle.std.proofs.lemmas.List.Elements.{All-head, All-tail}
 use Rattle.std.proofs.lemmas.List.Sums.{sum_by-append}
 use Rattle.oa_table.specs.Parts.{with_last}
-use Rattle.oa_table.specs.Sizes.{object_size, table_size}
-use Rattle.oa_table.specs.Tables.{ObjectValue, TableValue}
+use Rattle.oa_table.specs.promise.Sizes.{object_size, table_size}
+use Rattle.oa_table.specs.promise.Tables.{ObjectValue, TableValue}
 
 above : (k f : ℕ) → f < k → nat_cmp k f ≡ Greater
 above k f lt =

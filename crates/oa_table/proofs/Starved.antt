@@ -10,11 +10,12 @@ use Rattle.oa_table.specs.declared.event.Event.{Event}
 use Rattle.oa_table.specs.declared.event.Event.TheVariants.{Create, Release, Put, PutElement, Redim}
 use Rattle.oa_table.specs.declared.fault.TableFault.{TableFault}
 use Rattle.oa_table.specs.declared.fault.TableFault.TheVariants.{Array, Memory}
-use Rattle.oa_table.specs.Events.{released, released_if_live}
+use Rattle.oa_table.specs.promise.Events.{released, released_if_live}
 use Rattle.oa_table.specs.Memory.{MayWantMemory}
-use Rattle.oa_table.specs.Objects.{any_locked}
-use Rattle.oa_table.specs.Sizes.{largest_image, object_size, size_after, size_due, table_size}
-use Rattle.oa_table.specs.Tables.{ObjectValue, TableValue, object_at}
+use Rattle.oa_table.specs.promise.Objects.{any_locked}
+use Rattle.oa_table.specs.Sizes.{largest_image, size_after, size_due}
+use Rattle.oa_table.specs.promise.Sizes.{object_size, table_size}
+use Rattle.oa_table.specs.promise.Tables.{ObjectValue, TableValue, object_at}
 use Rattle.oa_table.proofs.Through.{told_by}
 
 -- by a release no image gets longer

@@ -15,17 +15,18 @@ use Rattle.std.proofs.lemmas.List.Sums.{sum_by-append, sum_by-set, sum_by-take-d
 use Rattle.std.proofs.lemmas.Map.Entries.{sum_by-insert_entry, sum_by-remove_entry, sum_by-set_value}
 use Rattle.std.proofs.lemmas.Option.{get_or_from_slice_get, slice_get_within}
 use Rattle.oa_model.specs.declared.bound.Bound.{Bound}
-use Rattle.oa_array.specs.Arrays.{ArrayValue, array_element, kept_by_position, redimensioned, with_cell, with_first, with_locks}
-use Rattle.oa_array.specs.Boxes.{box_size, position_of}
+use Rattle.oa_array.specs.promise.Arrays.{ArrayValue, array_element, kept_by_position, redimensioned, with_cell}
+use Rattle.oa_array.specs.promise.Arrays.{with_first, with_locks}
+use Rattle.oa_array.specs.promise.Boxes.{box_size, position_of}
 use Rattle.oa_array.specs.Boxes.{InBounds}
-use Rattle.oa_array.specs.Within.{in_bounds}
+use Rattle.oa_array.specs.promise.Within.{in_bounds}
 use Rattle.oa_array.proofs.Decided.{in_bounds_tells}
 use Rattle.oa_array.proofs.Fills.{kept_is}
-use Rattle.oa_model.specs.Limits.{greatest_object_number, max_cell_locks, max_cells}
+use Rattle.oa_model.specs.promise.Limits.{greatest_object_number, max_cell_locks, max_cells}
 use Rattle.std.proofs.lemmas.Bool.{eq-eqb, false_from_ne_true, le-leb, le-ltb}
 use Rattle.oa_model.specs.declared.var_type.VarType.{VarType}
-use Rattle.oa_formats.specs.Lengths.{element_size, value_size}
-use Rattle.oa_variant.specs.Scalars.{fits_type, zero_of}
+use Rattle.oa_formats.specs.promise.Lengths.{element_size, value_size}
+use Rattle.oa_variant.specs.promise.Scalars.{fits_type, zero_of}
 use Rattle.oa_variant.specs.declared.scalar.Scalar.{Scalar}
 use Rattle.oa_variant.specs.declared.variant.Variant.{Variant}
 use Rattle.oa_variant.specs.declared.variant.Variant.TheVariants.{One, Array as AnArray}
@@ -33,15 +34,21 @@ use Rattle.oa_array.specs.declared.fault.ArrayFault.TheVariants as arrays
 use Rattle.oa_table.specs.declared.fault.TableFault.{TableFault}
 use Rattle.oa_table.specs.declared.fault.TableFault.TheVariants.{Array}
 use Rattle.oa_table.specs.declared.name.CellName.{CellName}
-use Rattle.oa_table.specs.Elements.{with_element_put, locked_value, locks_of, redimensioned_value, released_value, replaced_value}
+use Rattle.oa_table.specs.promise.Elements.{with_element_put, locked_value, locks_of, redimensioned_value}
+use Rattle.oa_table.specs.promise.Elements.{released_value}
+use Rattle.oa_table.specs.Elements.{replaced_value}
 use Rattle.oa_table.specs.declared.event.Event.TheVariants.{Create, Release}
-use Rattle.oa_table.specs.Events.{applied, on_object, released_if_live, with_object}
-use Rattle.oa_table.specs.Locks.{locked_in, locks_at, with_lock, without_lock}
-use Rattle.oa_table.specs.Objects.{locks_of_cell, with_change, with_put, with_value}
-use Rattle.oa_table.specs.Outcomes.{CountsLocks, mapped}
-use Rattle.oa_table.specs.Places.{PlaceValue, place_cmp, places_total}
-use Rattle.oa_table.specs.Sizes.{HasKeptSize, cell_size, largest_image, object_size, place_size, size_due, size_in, table_size}
-use Rattle.oa_table.specs.Tables.{ObjectValue, TableValue, cell_at, object_at}
+use Rattle.oa_table.specs.promise.Events.{applied, on_object, released_if_live, with_object}
+use Rattle.oa_table.specs.Locks.{locked_in, locks_at}
+use Rattle.oa_table.specs.promise.Locks.{with_lock, without_lock}
+use Rattle.oa_table.specs.promise.Objects.{locks_of_cell, with_change, with_put, with_value}
+use Rattle.oa_table.specs.Outcomes.{CountsLocks}
+use Rattle.oa_table.specs.promise.Outcomes.{mapped}
+use Rattle.oa_table.specs.promise.Places.{PlaceValue, place_cmp}
+use Rattle.oa_table.specs.Places.{places_total}
+use Rattle.oa_table.specs.Sizes.{HasKeptSize, largest_image, size_due, size_in}
+use Rattle.oa_table.specs.promise.Sizes.{cell_size, object_size, place_size, table_size}
+use Rattle.oa_table.specs.promise.Tables.{ObjectValue, TableValue, cell_at, object_at}
 use Rattle.oa_table.proofs.Entries.{put_new, put_there, put_within, set_weight}
 
 -- ---- arrays

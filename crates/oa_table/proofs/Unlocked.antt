@@ -9,14 +9,14 @@ use Rattle.std.specs.Prelude.{if◌then◌else◌, ℤ}
 use Rattle.std.specs.declared.cmp.Ordering.{Ordering}
 use Rattle.std.specs.declared.cmp.Ordering.TheVariants.{Less, Equal, Greater}
 use Rattle.std.proofs.lemmas.Map.Made.{lookup-map_values}
-use Rattle.oa_model.specs.Limits.{greatest_object_number, max_cells}
+use Rattle.oa_model.specs.promise.Limits.{greatest_object_number, max_cells}
 use Rattle.oa_model.specs.declared.bound.Bound.{Bound}
-use Rattle.oa_array.specs.Arrays.{redimensioned, with_cell, with_first, with_locks}
-use Rattle.oa_array.specs.Boxes.{box_size}
-use Rattle.oa_array.specs.Within.{in_bounds}
+use Rattle.oa_array.specs.promise.Arrays.{redimensioned, with_cell, with_first, with_locks}
+use Rattle.oa_array.specs.promise.Boxes.{box_size}
+use Rattle.oa_array.specs.promise.Within.{in_bounds}
 use Rattle.oa_array.specs.declared.fault.ArrayFault.TheVariants as arrays
-use Rattle.oa_variant.specs.Scalars.{fits_type, zero_of}
-use Rattle.oa_variant.specs.Variants.{unlocked}
+use Rattle.oa_variant.specs.promise.Scalars.{fits_type, zero_of}
+use Rattle.oa_variant.specs.promise.Variants.{unlocked}
 use Rattle.oa_variant.specs.declared.scalar.Scalar.{Scalar}
 use Rattle.oa_variant.specs.declared.variant.Variant.{Variant}
 use Rattle.oa_variant.specs.declared.variant.Variant.TheVariants.{One, Array as AnArray}
@@ -24,13 +24,14 @@ use Rattle.oa_table.specs.declared.event.Event.{Event}
 use Rattle.oa_table.specs.declared.event.Event.TheVariants.{Create, Release, Put, PutElement, Redim}
 use Rattle.oa_table.specs.declared.fault.TableFault.{TableFault}
 use Rattle.oa_table.specs.declared.fault.TableFault.TheVariants.{Array, WrongNumber}
-use Rattle.oa_table.specs.Elements.{with_element_put, locks_in, locks_of, redimensioned_value}
-use Rattle.oa_table.specs.Events.{BringsNoLocks, applied, changed_if_live, on_object, released_if_live, with_object}
-use Rattle.oa_table.specs.Objects.{any_locked, changed_if_put, with_change, with_put, with_value}
-use Rattle.oa_table.specs.Outcomes.{mapped}
-use Rattle.oa_table.specs.Places.{PlaceValue, place_cmp}
-use Rattle.oa_table.specs.Tables.{ObjectValue, TableValue, cell_at, object_at, unlocked_cell, unlocked_entry, unlocked_object}
-use Rattle.oa_table.specs.Tables.{unlocked_table}
+use Rattle.oa_table.specs.promise.Elements.{with_element_put, locks_in, locks_of, redimensioned_value}
+use Rattle.oa_table.specs.Events.{BringsNoLocks}
+use Rattle.oa_table.specs.promise.Events.{applied, changed_if_live, on_object, released_if_live, with_object}
+use Rattle.oa_table.specs.promise.Objects.{any_locked, changed_if_put, with_change, with_put, with_value}
+use Rattle.oa_table.specs.promise.Outcomes.{mapped}
+use Rattle.oa_table.specs.promise.Places.{PlaceValue, place_cmp}
+use Rattle.oa_table.specs.promise.Tables.{ObjectValue, TableValue, cell_at, object_at, unlocked_cell, unlocked_entry}
+use Rattle.oa_table.specs.promise.Tables.{unlocked_object, unlocked_table}
 
 module _ {K X : Type 0} (g : X → X) where
   abbrev at_values : List (K × X) → List (K × X)

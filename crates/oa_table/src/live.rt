@@ -3,13 +3,14 @@ ghost use Rattle.std.specs.Prelude.{◌≡◌, ◌≤◌, ◌+◌, [], None, Ok,
 ghost use Rattle.std.specs.List.Sorted.{IsStrictlySortedBy};
 ghost use Rattle.std.specs.Map.{keys_of};
 ghost use Rattle.std.specs.Option.{option_map};
-ghost use Rattle.oa_formats.specs.Lengths.{value_size};
-ghost use Rattle.oa_table.specs.Elements.{with_element_put, locked_value, redimensioned_value, released_value};
-ghost use Rattle.oa_table.specs.Objects.{any_locked, locks_of_cell, with_change, with_put};
+ghost use Rattle.oa_formats.specs.promise.Lengths.{value_size};
+ghost use Rattle.oa_table.specs.promise.Elements.{with_element_put, locked_value, redimensioned_value, released_value};
+ghost use Rattle.oa_table.specs.promise.Objects.{any_locked, locks_of_cell, with_change, with_put};
 ghost use Rattle.oa_table.specs.Outcomes.{CountsLocks, Does};
-ghost use Rattle.oa_table.specs.Places.{place_cmp};
-ghost use Rattle.oa_table.specs.Sizes.{largest_cell, largest_image, largest_object, object_size, size_due};
-ghost use Rattle.oa_table.specs.Tables.{cell_at};
+ghost use Rattle.oa_table.specs.promise.Places.{place_cmp};
+ghost use Rattle.oa_table.specs.Sizes.{largest_cell, largest_image, largest_object, size_due};
+ghost use Rattle.oa_table.specs.promise.Sizes.{object_size};
+ghost use Rattle.oa_table.specs.promise.Tables.{cell_at};
 
 use crate::difference::{Difference, element_difference, no_difference, redim_difference};
 use crate::size::{place_size, value_size};
@@ -30,7 +31,7 @@ pub struct LiveObject {
 }
 
 impl Model for LiveObject {
-    ghost use Rattle.oa_table.specs.Tables.{ObjectValue};
+    ghost use Rattle.oa_table.specs.promise.Tables.{ObjectValue};
 
     ghost Value = { ObjectValue };
 
@@ -86,7 +87,7 @@ impl LiveObject {
     }
 
     /// Returns the length in bytes of the object's image. Reads each cell of the object.
-    #[tactic(auto, unfolding(crate::specs::Sizes::object_size))]
+    #[tactic(auto, unfolding(crate::specs::promise::Sizes::object_size))]
     pub(crate) fn size(&self) -> u128
         ensures value { result ≡ object_size self.now }
         ensures small { result ≤ largest_object }

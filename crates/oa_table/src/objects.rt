@@ -4,14 +4,17 @@ ghost use Rattle.std.specs.List.Sorted.{IsStrictlySortedBy};
 ghost use Rattle.std.specs.Map.{keys_of};
 ghost use Rattle.std.specs.Option.{option_map};
 ghost use Rattle.std.specs.Ordering.{nat_cmp};
-ghost use Rattle.oa_formats.specs.Lengths.{value_size};
-ghost use Rattle.oa_table.specs.Events.{BringsNoLocks, applied};
-ghost use Rattle.oa_table.specs.Locks.{locked_in, locks_at, with_lock, without_lock};
+ghost use Rattle.oa_formats.specs.promise.Lengths.{value_size};
+ghost use Rattle.oa_table.specs.Events.{BringsNoLocks};
+ghost use Rattle.oa_table.specs.promise.Events.{applied};
+ghost use Rattle.oa_table.specs.Locks.{locked_in, locks_at};
+ghost use Rattle.oa_table.specs.promise.Locks.{with_lock, without_lock};
 ghost use Rattle.oa_table.specs.Memory.{MayWantMemory};
 ghost use Rattle.oa_table.specs.Outcomes.{CountsLocks, Does};
 ghost use Rattle.oa_table.specs.Parts.{table_with_next, with_last};
-ghost use Rattle.oa_table.specs.Sizes.{largest_cell, largest_image, size_after, table_size};
-ghost use Rattle.oa_table.specs.Tables.{cell_in, object_at};
+ghost use Rattle.oa_table.specs.Sizes.{largest_cell, largest_image, size_after};
+ghost use Rattle.oa_table.specs.promise.Sizes.{table_size};
+ghost use Rattle.oa_table.specs.promise.Tables.{cell_in, object_at};
 
 use crate::difference::Difference;
 use crate::value::Room;
@@ -33,7 +36,7 @@ pub(crate) struct Objects {
 }
 
 impl Model for Objects {
-    ghost use Rattle.oa_table.specs.Tables.{TableValue};
+    ghost use Rattle.oa_table.specs.promise.Tables.{TableValue};
 
     ghost Value = { TableValue };
 

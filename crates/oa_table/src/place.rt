@@ -5,7 +5,8 @@ ghost use Rattle.std.specs.Cmp.Rules.{comparing};
 ghost use Rattle.std.specs.Ordering.{as_partial_cmp, eq_by_cmp, int_cmp, on, then_cmp};
 ghost use Rattle.std.proofs.Common.{rules};
 ghost use Rattle.oa_model.specs.Limits.{max_key_scalars};
-ghost use Rattle.oa_table.specs.Places.{IsPlace, key_cmp, place_cmp, places_total};
+ghost use Rattle.oa_table.specs.Places.{IsPlace, places_total};
+ghost use Rattle.oa_table.specs.promise.Places.{key_cmp, place_cmp};
 ghost use Rattle.oa_table.specs.Members.{dispid_in, key_in};
 
 use oa_variant::Scalar;
@@ -36,7 +37,8 @@ enum MemberKey {
 }
 
 impl Model for Place {
-    ghost use Rattle.oa_table.specs.Places.{IsPlace, PlaceValue};
+    ghost use Rattle.oa_table.specs.Places.{IsPlace};
+    ghost use Rattle.oa_table.specs.promise.Places.{PlaceValue};
     ghost use Rattle.oa_table.specs.Members.{dispid_in, key_in};
 
     ghost Value = { PlaceValue };

@@ -1,9 +1,11 @@
 //! Changes of the value in a cell.
 ghost use Rattle.std.specs.Prelude.{◌≡◌, ◌≤◌, ◌+◌, Ok, IfOk, IfErr, OnErr, OnOk};
 ghost use Rattle.oa_variant.specs.declared.variant.Variant.TheVariants as variants;
-ghost use Rattle.oa_formats.specs.Lengths.{max_value_image, value_size};
-ghost use Rattle.oa_table.specs.Elements.{with_element_put, locked_value, locks_of, of_array, redimensioned_value, released_value};
-ghost use Rattle.oa_table.specs.Elements.{replaced_value};
+ghost use Rattle.oa_formats.specs.Lengths.{max_value_image};
+ghost use Rattle.oa_formats.specs.promise.Lengths.{value_size};
+ghost use Rattle.oa_table.specs.promise.Elements.{with_element_put, locked_value, locks_of, redimensioned_value};
+ghost use Rattle.oa_table.specs.promise.Elements.{released_value};
+ghost use Rattle.oa_table.specs.Elements.{of_array, replaced_value};
 ghost use Rattle.oa_table.specs.Outcomes.{CountsLocks, Does};
 ghost use Rattle.oa_table.specs.Sizes.{largest_image};
 

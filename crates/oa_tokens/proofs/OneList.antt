@@ -3,8 +3,8 @@ use Rattle.std.proofs.Common.{◌≡◌, ℕ, ◌+◌, List, ◌∷◌, drop, re
 use Rattle.oa_tokens.specs.declared.lexer.TokenKind.{TokenKind}
 use Rattle.oa_tokens.specs.declared.lexer.Token.{Token}
 use Rattle.oa_tokens.specs.declared.lexer.Piece.TheVariants.{Word, Gap, Broken}
-use Rattle.oa_tokens.specs.Tokens.{token, AreTokens}
-use Rattle.oa_tokens.specs.Tokens.AreTokens.{End, Apart, Next, Rest}
+use Rattle.oa_tokens.specs.promise.Tokens.{token, AreTokens}
+use Rattle.oa_tokens.specs.promise.Tokens.AreTokens.{End, Apart, Next, Rest}
 
 gap_is : (m n : ℕ) → Gap m ≡ Gap n → m ≡ n
 gap_is m n e = cc

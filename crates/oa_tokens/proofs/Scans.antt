@@ -4,7 +4,7 @@ use Rattle.std.proofs.Common.{ap, ◌∙◌, arith}
 use Rattle.std.proofs.lemmas.List.{drop_more, drop_all}
 use Rattle.oa_tokens.specs.declared.scan.Class.{Class}
 use Rattle.oa_tokens.specs.declared.scan.Close.{Close}
-use Rattle.oa_tokens.specs.Bytes.{is_in, run, end_from, closes, marks, incremented}
+use Rattle.oa_tokens.specs.promise.Bytes.{is_in, run, end_from, closes, marks, incremented}
 
 pub run_goes_on : (class : Class) (bs : List ℕ) (n total : ℕ) → n < length bs → is_in class (get_or bs n 0) ≡ true
     → n + run (is_in class) (drop n bs) ≡ total → n + 1 + run (is_in class) (drop (n + 1) bs) ≡ total

@@ -12,9 +12,11 @@ use Rattle.oa_tokens.specs.declared.lexer.TokenKind.TheVariants as kinds
 use Rattle.oa_tokens.specs.declared.lexer.Token.{Token}
 use Rattle.oa_tokens.specs.declared.lexer.Piece.{Piece}
 use Rattle.oa_tokens.specs.declared.lexer.Piece.TheVariants.{Word, Gap}
-use Rattle.oa_tokens.specs.Bytes.{is_in, run, end_from, incremented, closes, marks, EndsInside, group, is_guid}
-use Rattle.oa_tokens.specs.Tokens.{closed, front, AreTokens, IsPiece, AreInOrder}
-use Rattle.oa_tokens.specs.Tokens.AreTokens.{End, Apart, Next, Rest}
+use Rattle.oa_tokens.specs.promise.Bytes.{is_in, run, end_from, incremented, closes, marks, group, is_guid}
+use Rattle.oa_tokens.specs.Bytes.{EndsInside}
+use Rattle.oa_tokens.specs.promise.Tokens.{closed, front, AreTokens}
+use Rattle.oa_tokens.specs.Tokens.{IsPiece, AreInOrder}
+use Rattle.oa_tokens.specs.promise.Tokens.AreTokens.{End, Apart, Next, Rest}
 
 -- ---- The first piece is inside the bytes.
 

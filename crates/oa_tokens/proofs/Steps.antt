@@ -6,8 +6,8 @@ use Rattle.oa_tokens.specs.declared.lexer.TokenKind.{TokenKind}
 use Rattle.oa_tokens.specs.declared.lexer.TokenKind.TheVariants.{Junk}
 use Rattle.oa_tokens.specs.declared.lexer.Token.{Token}
 use Rattle.oa_tokens.specs.declared.lexer.Piece.TheVariants.{Word, Gap, Broken}
-use Rattle.oa_tokens.specs.Tokens.{front, token, AreTokens}
-use Rattle.oa_tokens.specs.Tokens.AreTokens.{End, Apart, Next, Rest}
+use Rattle.oa_tokens.specs.promise.Tokens.{front, token, AreTokens}
+use Rattle.oa_tokens.specs.promise.Tokens.AreTokens.{End, Apart, Next, Rest}
 
 -- out are the tokens before a place
 abbrev pub SoFar : List ℕ → List Token → ℕ → Type 0

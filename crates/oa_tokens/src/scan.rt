@@ -1,6 +1,7 @@
 //! Classes of bytes, and the length of runs of them.
 ghost use Rattle.std.specs.Prelude.{◌≡◌, ◌≤◌, ◌<◌, length, drop, IsTrue, false};
-ghost use Rattle.oa_tokens.specs.Bytes.{is_in, run, end_from, is_guid, group, EndsInside, closes, marks};
+ghost use Rattle.oa_tokens.specs.promise.Bytes.{is_in, run, end_from, is_guid, group, closes, marks};
+ghost use Rattle.oa_tokens.specs.Bytes.{EndsInside};
 
 /// A class of bytes.
 #[derive(Clone, Copy)]
@@ -31,7 +32,7 @@ pub enum Close {
 }
 
 /// Returns whether a byte is in a class.
-#[tactic(auto, unfolding(crate::specs::Bytes::is_in))]
+#[tactic(auto, unfolding(crate::specs::promise::Bytes::is_in))]
 pub(crate) fn is_in(class: Class, byte: u8) -> bool
     ensures { result ≡ is_in class byte }
 {
@@ -115,7 +116,7 @@ pub(crate) fn after(bytes: &[u8], n: usize) -> &[u8]
 }
 
 /// Returns whether these bytes begin with exactly `n` hexadecimal digits and a hyphen.
-#[tactic(auto, unfolding(crate::specs::Bytes::group))]
+#[tactic(auto, unfolding(crate::specs::promise::Bytes::group))]
 fn group(n: usize, bytes: &[u8]) -> bool
     ensures { result ≡ group n bytes.now }
 {
@@ -123,7 +124,7 @@ fn group(n: usize, bytes: &[u8]) -> bool
 }
 
 /// Returns whether these bytes begin with the form 8-4-4-4-12 of a GUID.
-#[tactic(auto, unfolding(crate::specs::Bytes::is_guid))]
+#[tactic(auto, unfolding(crate::specs::promise::Bytes::is_guid))]
 pub(crate) fn is_guid(bytes: &[u8]) -> bool
     ensures long { IsTrue result → 36 ≤ length bytes.now }
     ensures value { result ≡ is_guid bytes.now }

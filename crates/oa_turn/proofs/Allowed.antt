@@ -4,37 +4,37 @@ use Rattle.std.proofs.Common.{◌∙◌, [], arith}
 use Rattle.std.specs.Prelude.{nat_lt, if◌then◌else◌}
 use Rattle.std.proofs.lemmas.Bool.{le-ltb, ltb-false}
 use Rattle.std.specs.Result.{IsErrAnd, MatchResult}
-use Rattle.oa_image.specs.Tables.{reserved_bytes}
-use Rattle.oa_model.specs.Limits.{max_event_bytes}
-use Rattle.oa_image.specs.Events.{event_image}
-use Rattle.oa_image.specs.Sizes.{event_size}
-use Rattle.oa_image.specs.Tables.{is_numbered, objects, table as a_table, table_image}
+use Rattle.oa_image.specs.promise.Tables.{reserved_bytes, is_numbered, objects, table as a_table, table_image}
+use Rattle.oa_model.specs.promise.Limits.{max_event_bytes}
+use Rattle.oa_image.specs.promise.Events.{event_image}
+use Rattle.oa_image.specs.promise.Sizes.{event_size}
 use Rattle.oa_image.proofs.Numbered.{numbers_stay, unlocked_numbers}
 use Rattle.oa_image.proofs.Sized.{event_sized, table_sized}
 use Rattle.oa_image.proofs.TablesWithImages.{same_table}
-use Rattle.oa_formats.specs.Formats.{only, made_where, counted, coded, next_by, times, raw}
-use Rattle.oa_formats.specs.Lengths.{value_size}
-use Rattle.oa_formats.specs.Numbers.{u32}
+use Rattle.oa_formats.specs.promise.Formats.{only, made_where, counted, coded, next_by, times, raw}
+use Rattle.oa_formats.specs.promise.Lengths.{value_size}
+use Rattle.oa_formats.specs.promise.Numbers.{u32}
 use Rattle.oa_variant.specs.declared.variant.Variant.{Variant}
 use Rattle.oa_turn.proofs.Relocked.{lock_stays, unlock_stays}
 use Rattle.oa_model.specs.declared.hresult.HResult.{HResult}
-use Rattle.oa_model.specs.Codes.{e_invalidarg, e_outofmemory, stg_e_mediumfull}
+use Rattle.oa_model.specs.promise.Codes.{e_invalidarg, e_outofmemory, stg_e_mediumfull}
 use Rattle.oa_table.specs.declared.event.Event.{Event}
 use Rattle.oa_table.specs.declared.event.Event.TheVariants.{Put}
 use Rattle.oa_table.specs.declared.name.CellName.{CellName}
 use Rattle.oa_table.specs.declared.fault.TableFault.{TableFault}
 use Rattle.oa_table.specs.declared.fault.TableFault.TheVariants.{Memory, NoObject, WrongNumber, NotArray, Array}
-use Rattle.oa_table.specs.Events.{applied}
-use Rattle.oa_table.specs.Faults.{table_code}
+use Rattle.oa_table.specs.promise.Events.{applied}
+use Rattle.oa_table.specs.promise.Faults.{table_code}
 use Rattle.oa_table.specs.Outcomes.{Because}
-use Rattle.oa_table.specs.Sizes.{place_size, table_size}
-use Rattle.oa_table.specs.Tables.{TableValue, first_table, unlocked_table}
+use Rattle.oa_table.specs.promise.Sizes.{place_size, table_size}
+use Rattle.oa_table.specs.promise.Tables.{TableValue, unlocked_table}
+use Rattle.oa_table.specs.Tables.{first_table}
 use Rattle.oa_decision.specs.declared.decision.LockChange.{LockChange}
 use Rattle.oa_decision.specs.declared.decision.LockChange.TheVariants.{Lock, Unlock}
 use Rattle.oa_turn.specs.Changes.{ChangesTable, MakesTable}
-use Rattle.oa_turn.specs.Steps.{relocked}
+use Rattle.oa_turn.specs.promise.Steps.{relocked}
 use Rattle.oa_turn.specs.Limits.{IsSoundTable, least_bank}
-use Rattle.oa_decision.specs.Limits.{allowed, limited, within_limits}
+use Rattle.oa_decision.specs.promise.Limits.{allowed, limited, within_limits}
 
 -- a table that is allowed
 pub record IsWithin (bank : ℕ) (event : Event) (made new : TableValue) : Type 0 where

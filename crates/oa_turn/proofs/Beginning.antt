@@ -1,28 +1,29 @@
 -- What was served can be served again.
 use Rattle.std.proofs.Common.{◌≡◌, ◌≤◌, ℕ, List, Option, Some, None, Result, Ok, Err, IfOk, IsOk, inl, inr, refl, sym, ap, subst, ◌∙◌}
-use Rattle.oa_idl.specs.Trees.{TreeValue}
+use Rattle.oa_idl.specs.promise.Trees.{TreeValue}
 use Rattle.oa_model.specs.declared.hresult.HResult.{HResult}
-use Rattle.oa_record.specs.Replies.{ReplyValue}
+use Rattle.oa_record.specs.promise.Replies.{ReplyValue}
 use Rattle.oa_table.specs.declared.event.Event.{Event}
 use Rattle.oa_table.specs.declared.fault.TableFault.{TableFault}
-use Rattle.oa_table.specs.Events.{applied}
-use Rattle.oa_table.specs.Tables.{TableValue, first_table}
-use Rattle.oa_typelib.specs.Checked.{IsChecked}
+use Rattle.oa_table.specs.promise.Events.{applied}
+use Rattle.oa_table.specs.promise.Tables.{TableValue}
+use Rattle.oa_table.specs.Tables.{first_table}
+use Rattle.oa_typelib.specs.promise.Checked.{IsChecked}
 use Rattle.oa_decision.specs.declared.decision.Decision.{Decision}
 use Rattle.oa_decision.specs.declared.decision.Decision.TheVariants.{Answer, Change, Relock}
 use Rattle.oa_decision.specs.declared.decision.LockChange.{LockChange}
 use Rattle.oa_decision.specs.declared.refusal.Refusal.{Refusal}
-use Rattle.oa_turn.specs.Steps.{after_outcome, changed, outcome_of, relocked, relocking, with_table}
+use Rattle.oa_turn.specs.promise.Steps.{after_outcome, changed, outcome_of, relocked, relocking, with_table}
 use Rattle.oa_turn.specs.Limits.{IsSoundTable, least_bank}
-use Rattle.oa_decision.specs.Limits.{allowed}
-use Rattle.oa_turn.specs.Beginnings.{CanBegin}
+use Rattle.oa_decision.specs.promise.Limits.{allowed}
+use Rattle.oa_turn.specs.promise.Beginnings.{CanBegin}
 use Rattle.oa_turn.proofs.SameLibrary.{turn_bank}
-use Rattle.oa_decision.specs.States.{State}
-use Rattle.oa_decision.specs.Decided.{decided}
-use Rattle.oa_compat.specs.Keeps.{first_lost}
+use Rattle.oa_decision.specs.promise.States.{State}
+use Rattle.oa_decision.specs.promise.Decided.{decided}
+use Rattle.oa_compat.specs.promise.Keeps.{first_lost}
 use Rattle.oa_compat.specs.declared.lost.Incompatibility.{Incompatibility}
-use Rattle.oa_turn.specs.Replacing.{Replacement, after_replacement}
-use Rattle.oa_turn.specs.Turns.{Ordinary, Turn}
+use Rattle.oa_turn.specs.promise.Replacing.{Replacement, after_replacement}
+use Rattle.oa_turn.specs.promise.Turns.{Ordinary, Turn}
 use Rattle.oa_turn.proofs.Allowed.{first_sound, relock_sound, stays_sound}
 use Rattle.oa_turn.proofs.Fitting.{EventKept, turn_fit}
 

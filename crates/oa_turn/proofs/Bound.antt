@@ -11,29 +11,30 @@ use Rattle.oa_model.specs.declared.var_type.ValueType.TheVariants as kinds
 use Rattle.oa_idl.specs.declared.parts.Literal.{Literal}
 use Rattle.oa_idl.specs.declared.parts.Literal.TheVariants as literals
 use Rattle.oa_idl.specs.declared.parts.Parameter.{Parameter}
-use Rattle.oa_variant.specs.Scalars.{fits_type}
-use Rattle.oa_variant.specs.Variants.{fits_declared}
+use Rattle.oa_variant.specs.promise.Scalars.{fits_type}
+use Rattle.oa_variant.specs.promise.Variants.{fits_declared}
 use Rattle.oa_variant.specs.declared.scalar.Scalar.{Scalar}
 use Rattle.oa_variant.specs.declared.scalar.Scalar.TheVariants as scalars
 use Rattle.oa_variant.specs.declared.variant.Variant.{Variant}
 use Rattle.oa_variant.specs.declared.variant.Variant.TheVariants.{One, Array}
-use Rattle.oa_coerce.specs.Answers.{coerced, coerced_scalar}
+use Rattle.oa_coerce.specs.promise.Answers.{coerced, coerced_scalar}
 use Rattle.oa_coerce.specs.declared.fault.CoerceFault.{CoerceFault}
 use Rattle.oa_coerce.proofs.Computed.{answer_scalar, answer_value}
 use Rattle.oa_coerce.proofs.Properties.{answer_fits, scalar_fits}
 use Rattle.oa_typelib.specs.Bindable.{AreScalars, IsBindable, IsOne}
-use Rattle.oa_sema.specs.Defaults.{default_of, number_as, text_as, truth_as, wide}
-use Rattle.oa_typelib.specs.MemberValues.{MemberValue}
+use Rattle.oa_sema.specs.promise.Defaults.{default_of, number_as, text_as, truth_as, wide}
+use Rattle.oa_typelib.specs.promise.MemberValues.{MemberValue}
 use Rattle.oa_typelib.specs.declared.access.Kind.{Kind}
 use Rattle.oa_typelib.specs.declared.access.Kind.TheVariants.{Get, Put}
 use Rattle.oa_bind.specs.declared.fault.BindFault.{BindFault}
-use Rattle.oa_bind.specs.Bindings.{bound_call, bound_to, given_new_value, new_value_of, parameter_value, scalar_type, told_of_argument, value_by_argument, value_of_parameter}
-use Rattle.oa_bind.specs.Bindings.{without_default}
-use Rattle.oa_bind.specs.Calls.{BoundCallValue}
-use Rattle.oa_bind.specs.Given.{Given, argument_for, given_argument, argument_index, new_value_id}
-use Rattle.oa_bind.specs.Names.{complete, well_named}
-use Rattle.oa_bind.specs.Refusals.{◌>>=◌, each_at}
-use Rattle.oa_compat.specs.Fits.{key_fits}
+use Rattle.oa_bind.specs.promise.Bindings.{bound_call, bound_to, given_new_value, new_value_of, parameter_value}
+use Rattle.oa_bind.specs.promise.Bindings.{scalar_type, told_of_argument, value_by_argument, value_of_parameter}
+use Rattle.oa_bind.specs.promise.Bindings.{without_default}
+use Rattle.oa_bind.specs.promise.Calls.{BoundCallValue}
+use Rattle.oa_bind.specs.promise.Given.{Given, argument_for, given_argument, argument_index, new_value_id}
+use Rattle.oa_bind.specs.promise.Names.{complete, well_named}
+use Rattle.oa_bind.specs.promise.Refusals.{◌>>=◌, each_at}
+use Rattle.oa_compat.specs.promise.Fits.{key_fits}
 use Rattle.oa_decision.proofs.Keys.{if_both}
 
 -- ---- defaults

@@ -7,8 +7,9 @@ use Rattle.std.specs.Ordering.{is_eq, match_ordering, nat_cmp, ordering_then}
 use Rattle.std.specs.declared.cmp.Ordering.{Ordering}
 use Rattle.std.specs.declared.cmp.Ordering.TheVariants.{Less, Equal, Greater}
 use Rattle.std.proofs.lemmas.Cmp.{and_equiv, eq_by_cmp_equiv, nat_eq_equiv, on_equiv}
-use Rattle.oa_turn.specs.ClientLocks.{cell_cmp, is_cell, with_more, without_first}
-use Rattle.oa_table.specs.Places.{place_cmp, places_total}
+use Rattle.oa_turn.specs.promise.ClientLocks.{cell_cmp, is_cell, with_more, without_first}
+use Rattle.oa_table.specs.promise.Places.{place_cmp}
+use Rattle.oa_table.specs.Places.{places_total}
 use Rattle.oa_table.specs.declared.name.CellName.{CellName}
 
 -- whether two names are those of one cell, as an equality

@@ -1,17 +1,17 @@
 -- A change that was decided, and is made, refused or lacks memory, is a turn.
 use Rattle.std.proofs.Common.{◌≡◌, inl, inr, ◌⊎◌, ℕ, List, None, Result, Ok, Err, IsOk, ap, refl, ◌∙◌}
 use Rattle.oa_table.specs.declared.event.Event.{Event}
-use Rattle.oa_table.specs.Tables.{TableValue}
+use Rattle.oa_table.specs.promise.Tables.{TableValue}
 use Rattle.oa_turn.specs.Changes.{MakesChange, MakesTable}
 use Rattle.oa_model.specs.declared.hresult.HResult.{HResult}
-use Rattle.oa_model.specs.Codes.{e_outofmemory, s_ok}
-use Rattle.oa_record.specs.Replies.{ReplyValue}
+use Rattle.oa_model.specs.promise.Codes.{e_outofmemory, s_ok}
+use Rattle.oa_record.specs.promise.Replies.{ReplyValue}
 use Rattle.oa_decision.specs.declared.plan.Planned.{Planned}
-use Rattle.oa_decision.specs.Limits.{allowed}
+use Rattle.oa_decision.specs.promise.Limits.{allowed}
 use Rattle.oa_turn.specs.Plans.{IsDrafted}
-use Rattle.oa_decision.specs.States.{State, state_of}
-use Rattle.oa_decision.specs.Decided.{refusal}
-use Rattle.oa_turn.specs.Turns.{Ordinary}
+use Rattle.oa_decision.specs.promise.States.{State, state_of}
+use Rattle.oa_decision.specs.promise.Decided.{refusal}
+use Rattle.oa_turn.specs.promise.Turns.{Ordinary}
 use Rattle.oa_turn.proofs.Allowed.{is_made}
 use Rattle.oa_turn.proofs.Wants.{wants}
 

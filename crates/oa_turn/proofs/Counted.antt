@@ -13,28 +13,34 @@ use Rattle.std.proofs.lemmas.Bool.{and_parts, eq-eqb, eqb-true}
 use Rattle.std.proofs.lemmas.Cmp.{eq_by_cmp_equiv, nat_cmp_total}
 use Rattle.std.proofs.lemmas.Map.{keys-set_value, lookup-remove_entry}
 use Rattle.std.proofs.lemmas.Map.Keys.{IsDistinct-from_sorted}
-use Rattle.oa_model.specs.Limits.{greatest_object_number, max_cell_locks, max_cells}
+use Rattle.oa_model.specs.promise.Limits.{greatest_object_number, max_cell_locks, max_cells}
 use Rattle.oa_model.specs.declared.bound.Bound.{Bound}
 use Rattle.oa_turn.proofs.CellOrder.{cell_laws, is_equal}
-use Rattle.oa_turn.specs.ClientLocks.{ClientLock, cell_cmp, cells_of, is_cell, is_lock_of, lock_cmp, of_others, owns, with_one, without_first, without_one}
+use Rattle.oa_turn.specs.promise.ClientLocks.{ClientLock, cell_cmp, cells_of, is_cell, is_lock_of, lock_cmp, of_others}
+use Rattle.oa_turn.specs.promise.ClientLocks.{owns, with_one, without_first, without_one}
 use Rattle.oa_turn.specs.Counts.{HasLocks, count_in, locked_name}
 use Rattle.std.proofs.lemmas.Map.Steps.{set_value_same}
 use Rattle.oa_turn.proofs.Finding.{found_again, found_put, found_set, same_found, set_twice, sorted_put, sorted_removed}
-use Rattle.oa_array.specs.Arrays.{redimensioned, with_cell, with_first, with_locks}
-use Rattle.oa_array.specs.Boxes.{box_size}
-use Rattle.oa_array.specs.Within.{in_bounds}
+use Rattle.oa_array.specs.promise.Arrays.{redimensioned, with_cell, with_first, with_locks}
+use Rattle.oa_array.specs.promise.Boxes.{box_size}
+use Rattle.oa_array.specs.promise.Within.{in_bounds}
 use Rattle.oa_array.specs.declared.fault.ArrayFault.TheVariants as arrays
-use Rattle.oa_variant.specs.Scalars.{fits_type, zero_of}
+use Rattle.oa_variant.specs.promise.Scalars.{fits_type, zero_of}
 use Rattle.oa_variant.specs.declared.scalar.Scalar.{Scalar}
 use Rattle.oa_variant.specs.declared.variant.Variant.{Variant}
 use Rattle.oa_variant.specs.declared.variant.Variant.TheVariants.{One, Array as AnArray}
-use Rattle.oa_table.specs.Elements.{is_locked, locked_value, locks_in, locks_of, redimensioned_value, released_value, with_element_put}
-use Rattle.oa_table.specs.Events.{BringsNoLocks, applied, changed_if_live, created, on_object, released, released_if_live, with_object}
-use Rattle.oa_table.specs.Locks.{locks_at, with_lock, without_lock}
-use Rattle.oa_table.specs.Objects.{any_locked, changed_if_put, with_change, with_put, with_value}
-use Rattle.oa_table.specs.Outcomes.{mapped}
-use Rattle.oa_table.specs.Places.{PlaceValue, place_cmp, places_total}
-use Rattle.oa_table.specs.Tables.{ObjectValue, TableValue, cell_at, cell_in, object_at}
+use Rattle.oa_table.specs.promise.Elements.{is_locked, locked_value, locks_in, locks_of, redimensioned_value}
+use Rattle.oa_table.specs.promise.Elements.{released_value, with_element_put}
+use Rattle.oa_table.specs.Events.{BringsNoLocks}
+use Rattle.oa_table.specs.promise.Events.{applied, changed_if_live, created, on_object, released, released_if_live}
+use Rattle.oa_table.specs.promise.Events.{with_object}
+use Rattle.oa_table.specs.Locks.{locks_at}
+use Rattle.oa_table.specs.promise.Locks.{with_lock, without_lock}
+use Rattle.oa_table.specs.promise.Objects.{any_locked, changed_if_put, with_change, with_put, with_value}
+use Rattle.oa_table.specs.promise.Outcomes.{mapped}
+use Rattle.oa_table.specs.promise.Places.{PlaceValue, place_cmp}
+use Rattle.oa_table.specs.Places.{places_total}
+use Rattle.oa_table.specs.promise.Tables.{ObjectValue, TableValue, cell_at, cell_in, object_at}
 use Rattle.oa_table.specs.declared.event.Event.{Event}
 use Rattle.oa_table.specs.declared.event.Event.TheVariants.{Create, Release, Put, PutElement, Redim}
 use Rattle.oa_table.specs.declared.fault.TableFault.{TableFault}

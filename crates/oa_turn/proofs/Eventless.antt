@@ -1,13 +1,13 @@
 -- What a body made of events.
 use Rattle.std.proofs.Common.{◌≡◌, ℕ, true, false, true≢false, List, [], None, Result, Ok, Err, refl, sym, ap, ◌∙◌}
-use Rattle.oa_image.specs.Events.{event_image}
+use Rattle.oa_image.specs.promise.Events.{event_image}
 use Rattle.oa_model.specs.declared.hresult.HResult.{HResult}
-use Rattle.oa_record.specs.Asks.{Asks}
-use Rattle.oa_record.specs.Replies.{ReplyValue}
+use Rattle.oa_record.specs.promise.Asks.{Asks}
+use Rattle.oa_record.specs.promise.Replies.{ReplyValue}
 use Rattle.oa_record.specs.declared.request.Request.{Request}
 use Rattle.oa_table.specs.declared.event.Event.{Event}
 use Rattle.oa_table.specs.declared.fault.TableFault.{TableFault}
-use Rattle.oa_table.specs.Tables.{TableValue}
+use Rattle.oa_table.specs.promise.Tables.{TableValue}
 use Rattle.oa_decision.specs.declared.decision.Decision.{Decision}
 use Rattle.oa_decision.specs.declared.decision.Decision.TheVariants as decisions
 use Rattle.oa_decision.specs.declared.decision.LockChange.{LockChange}
@@ -15,13 +15,12 @@ use Rattle.oa_decision.specs.declared.plan.Plan.{Plan}
 use Rattle.oa_decision.specs.declared.plan.Plan.TheVariants.{Answered, Change}
 use Rattle.oa_decision.specs.declared.plan.Planned.{Planned}
 use Rattle.oa_decision.specs.declared.refusal.Refusal.{Refusal}
-use Rattle.oa_turn.specs.Steps.{changed, outcome_of, relocked, relocking}
-use Rattle.oa_decision.specs.Limits.{allowed}
+use Rattle.oa_turn.specs.promise.Steps.{changed, outcome_of, relocked, relocking, outcome}
+use Rattle.oa_decision.specs.promise.Limits.{allowed}
 use Rattle.oa_turn.specs.Plans.{HasNoEvent, PlansChange}
-use Rattle.oa_turn.specs.Events.{HasEvent, change_bytes, is_done}
-use Rattle.oa_decision.specs.States.{State}
-use Rattle.oa_decision.specs.Decided.{decided}
-use Rattle.oa_turn.specs.Steps.{outcome}
+use Rattle.oa_turn.specs.promise.Events.{HasEvent, change_bytes, is_done}
+use Rattle.oa_decision.specs.promise.States.{State}
+use Rattle.oa_decision.specs.promise.Decided.{decided}
 
 module _ (old : State) (body : List ℕ) where
   -- a reply other than S_OK

@@ -6,35 +6,35 @@ use Rattle.std.specs.Option.{option_and_then}
 use Rattle.std.proofs.lemmas.Bool.{and_from}
 use Rattle.std.proofs.lemmas.Option.{none-some}
 use Rattle.uuid.specs.Parts.{is_nil_bytes}
-use Rattle.oa_model.specs.Codes.{disp_e_unknowninterface}
+use Rattle.oa_model.specs.promise.Codes.{disp_e_unknowninterface}
 use Rattle.oa_model.specs.declared.bound.Bound.{Bound}
 use Rattle.oa_model.specs.declared.hresult.HResult.{HResult}
 use Rattle.oa_model.specs.declared.var_type.ValueType.{ValueType}
 use Rattle.oa_model.specs.declared.var_type.ValueType.TheVariants as kinds
-use Rattle.oa_idl.specs.Trees.{TreeValue}
-use Rattle.oa_idl.specs.Values.{CoclassValue, InterfaceValue}
+use Rattle.oa_idl.specs.promise.Trees.{TreeValue}
+use Rattle.oa_idl.specs.promise.Values.{CoclassValue, InterfaceValue}
 use Rattle.oa_idl.specs.declared.items.Item.{Item}
 use Rattle.oa_idl.specs.declared.items.Item.TheVariants.{Interface, Coclass}
-use Rattle.oa_variant.specs.Variants.{fits_declared, unlocked, zero_value}
+use Rattle.oa_variant.specs.promise.Variants.{fits_declared, unlocked, zero_value}
 use Rattle.oa_variant.specs.declared.variant.Variant.{Variant}
 use Rattle.oa_typelib.specs.Bindable.{AreSound, IsBindable, IsSoundItem}
-use Rattle.oa_typelib.specs.Checked.{IsChecked}
-use Rattle.oa_sema.specs.Declarations.{declarations}
-use Rattle.oa_sema.specs.Libraries.{as_interface, class_of, item_guid, has_interface, if_entered, interface_of, item_with, same}
-use Rattle.oa_sema.specs.Libraries.{selected_in}
-use Rattle.oa_typelib.specs.MemberValues.{MemberValue}
-use Rattle.oa_typelib.specs.Members.{member_in, property_in}
+use Rattle.oa_typelib.specs.promise.Checked.{IsChecked}
+use Rattle.oa_sema.specs.promise.Declarations.{declarations}
+use Rattle.oa_sema.specs.promise.Libraries.{as_interface, class_of, item_guid, has_interface, if_entered, interface_of}
+use Rattle.oa_sema.specs.promise.Libraries.{item_with, same, selected_in}
+use Rattle.oa_typelib.specs.promise.MemberValues.{MemberValue}
+use Rattle.oa_typelib.specs.promise.Members.{member_in, property_in}
 use Rattle.oa_typelib.specs.declared.access.Access.{Access}
 use Rattle.oa_typelib.specs.declared.access.Access.TheVariants as accesses
 use Rattle.oa_typelib.specs.declared.access.Kind.{Kind}
 use Rattle.oa_typelib.specs.declared.access.MemberFault.{MemberFault}
 use Rattle.oa_typelib.proofs.Found.{find_all, member_bindable}
 use Rattle.oa_typelib.proofs.Sound.{tree_sound}
-use Rattle.oa_bind.specs.Bindings.{bound_to}
-use Rattle.oa_bind.specs.Calls.{BoundCallValue}
-use Rattle.oa_bind.specs.Given.{Given}
+use Rattle.oa_bind.specs.promise.Bindings.{bound_to}
+use Rattle.oa_bind.specs.promise.Calls.{BoundCallValue}
+use Rattle.oa_bind.specs.promise.Given.{Given}
 use Rattle.oa_bind.specs.declared.fault.BindFault.{BindFault}
-use Rattle.oa_record.specs.Replies.{ReplyValue}
+use Rattle.oa_record.specs.promise.Replies.{ReplyValue}
 use Rattle.oa_record.specs.declared.request.Call.{Call}
 use Rattle.oa_record.specs.declared.request.Request.{Request}
 use Rattle.oa_record.specs.declared.request.Request.TheVariants as requests
@@ -43,40 +43,40 @@ use Rattle.oa_record.specs.declared.opcode.ByNumber.TheVariants as by_number
 use Rattle.oa_table.specs.declared.event.Event.{Event}
 use Rattle.oa_table.specs.declared.event.Event.TheVariants as events
 use Rattle.oa_table.specs.declared.fault.TableFault.{TableFault}
-use Rattle.oa_table.specs.Elements.{redimensioned_value}
-use Rattle.oa_table.specs.Events.{applied}
-use Rattle.oa_table.specs.Places.{PlaceValue}
-use Rattle.oa_table.specs.Tables.{ObjectValue, TableValue, class_in, object_at}
+use Rattle.oa_table.specs.promise.Elements.{redimensioned_value}
+use Rattle.oa_table.specs.promise.Events.{applied}
+use Rattle.oa_table.specs.promise.Places.{PlaceValue}
+use Rattle.oa_table.specs.promise.Tables.{ObjectValue, TableValue, class_in, object_at}
 use Rattle.oa_compat.specs.Brings.{brings_fitting, put_fits}
-use Rattle.oa_compat.specs.Fits.{entered, fits, key_fits}
+use Rattle.oa_compat.specs.promise.Fits.{entered, fits, key_fits}
 use Rattle.oa_compat.proofs.Entered.{found_property, selected_entered}
 use Rattle.oa_compat.proofs.Kept.{lock_kept, redim_leaves, unlock_kept, unlocked_alike}
-use Rattle.oa_decision.specs.Limits.{allowed}
+use Rattle.oa_decision.specs.promise.Limits.{allowed}
 use Rattle.oa_decision.specs.declared.decision.Decision.{Decision}
 use Rattle.oa_decision.specs.declared.decision.Decision.TheVariants.{Answer, Change, Relock}
 use Rattle.oa_decision.specs.declared.decision.LockChange.{LockChange}
 use Rattle.oa_decision.specs.declared.decision.LockChange.TheVariants.{Lock, Unlock}
 use Rattle.oa_decision.specs.declared.refusal.Refusal.{Refusal}
 use Rattle.oa_decision.specs.declared.decider.cell.BoundCell.{BoundCell}
-use Rattle.oa_decision.specs.ArrayCells.{as_refused, element_in, locks_found, put_in}
-use Rattle.oa_decision.specs.Cells.{bound_as, call_found, cell_called, member_found, place_of}
-use Rattle.oa_decision.specs.Create.{class_found, is_used_up, fitting}
-use Rattle.oa_turn.specs.Steps.{after_outcome, changed, outcome_of, relocked, relocking, with_table}
-use Rattle.oa_decision.specs.Interfaces.{interface_found}
-use Rattle.oa_decision.specs.Invoke.{acting}
-use Rattle.oa_decision.specs.LookUps.{ids_found}
-use Rattle.oa_decision.specs.PutElement.{element_for}
-use Rattle.oa_decision.specs.Redimension.{resizing, zero_with}
-use Rattle.oa_decision.specs.Refusals.{◌>>=◌, known, unless}
-use Rattle.oa_decision.specs.States.{State}
-use Rattle.oa_decision.specs.Decided.{decided}
-use Rattle.oa_compat.specs.Keeps.{first_lost}
+use Rattle.oa_decision.specs.promise.ArrayCells.{as_refused, element_in, locks_found, put_in}
+use Rattle.oa_decision.specs.promise.Cells.{bound_as, call_found, cell_called, member_found, place_of}
+use Rattle.oa_decision.specs.promise.Create.{class_found, is_used_up, fitting}
+use Rattle.oa_turn.specs.promise.Steps.{after_outcome, changed, outcome_of, relocked, relocking, with_table}
+use Rattle.oa_decision.specs.promise.Interfaces.{interface_found}
+use Rattle.oa_decision.specs.promise.Invoke.{acting}
+use Rattle.oa_decision.specs.promise.LookUps.{ids_found}
+use Rattle.oa_decision.specs.promise.PutElement.{element_for}
+use Rattle.oa_decision.specs.promise.Redimension.{resizing, zero_with}
+use Rattle.oa_decision.specs.promise.Refusals.{◌>>=◌, known, unless}
+use Rattle.oa_decision.specs.promise.States.{State}
+use Rattle.oa_decision.specs.promise.Decided.{decided}
+use Rattle.oa_compat.specs.promise.Keeps.{first_lost}
 use Rattle.oa_compat.specs.declared.lost.Incompatibility.{Incompatibility}
 use Rattle.oa_compat.proofs.KeptFits.{kept_fits}
 use Rattle.oa_compat.proofs.Losses.{keeps_all}
-use Rattle.oa_turn.specs.Replacing.{Replacement, after_replacement}
-use Rattle.oa_turn.specs.Turns.{Ordinary, Run, Turn}
-use Rattle.oa_decision.specs.TypeInfo.{description_of}
+use Rattle.oa_turn.specs.promise.Replacing.{Replacement, after_replacement}
+use Rattle.oa_turn.specs.promise.Turns.{Ordinary, Run, Turn}
+use Rattle.oa_decision.specs.promise.TypeInfo.{description_of}
 use Rattle.oa_turn.proofs.Bound.{FitsMember, bound_fits}
 
 -- ---- answers one after another

@@ -12,7 +12,8 @@ use Rattle.std.specs.declared.cmp.Ordering.TheVariants.{Less, Equal, Greater}
 use Rattle.std.proofs.lemmas.Bool.{eqb-true}
 use Rattle.oa_turn.proofs.CellOrder.{any_at, fewer_at, is_cell_by, more_at, none_fewer}
 use Rattle.oa_turn.proofs.Finding.{above_all, none_above}
-use Rattle.oa_turn.specs.ClientLocks.{cell_cmp, cells_total, is_cell}
+use Rattle.oa_turn.specs.promise.ClientLocks.{cell_cmp, is_cell}
+use Rattle.oa_turn.specs.ClientLocks.{cells_total}
 use Rattle.oa_turn.specs.Kept.{AreCounted, copies, each_counted, has_cell, with_locked_cell, without_cell}
 use Rattle.oa_table.specs.declared.name.CellName.{CellName}
 

@@ -14,7 +14,8 @@ use Rattle.std.proofs.lemmas.Cmp.{nat_cmp_total, nat_eq_equiv}
 use Rattle.std.proofs.lemmas.Map.Steps.{set_value_same}
 use Rattle.oa_turn.proofs.CellOrder.{any_at, fewer_at, more_at, none_fewer}
 use Rattle.oa_turn.proofs.Finding.{Above, above_all, none_above}
-use Rattle.oa_turn.specs.ClientLocks.{ClientLock, cell_cmp, cells_of, is_cell, is_lock_of, lock_cmp, of_others, owns, with_one, without_one}
+use Rattle.oa_turn.specs.promise.ClientLocks.{ClientLock, cell_cmp, cells_of, is_cell, is_lock_of, lock_cmp, of_others}
+use Rattle.oa_turn.specs.promise.ClientLocks.{owns, with_one, without_one}
 use Rattle.oa_turn.specs.Counts.{locked_name}
 use Rattle.oa_turn.specs.Kept.{all_locked_cells, all_locks, client_locks, has_cell, with_locked_cell, without_cell}
 use Rattle.oa_table.specs.declared.name.CellName.{CellName}

@@ -2,14 +2,16 @@
 use Rattle.std.proofs.Common.{◌≡◌, inr, ℕ, ◌<◌, ◌≤◌, nat_lt, Bool, true, false, List, length, Option, Some, None, Result, Ok, Err, refl, sym, ap, ◌∙◌, arith}
 use Rattle.std.specs.Prelude.{if◌then◌else◌}
 use Rattle.std.proofs.lemmas.Bool.{ltb-true}
-use Rattle.oa_record.specs.Asks.{Asks, request_opcode}
-use Rattle.oa_record.specs.Opcodes.{opcode_at, opcode_in, opcode_named, opcode_number}
+use Rattle.oa_record.specs.promise.Asks.{Asks, request_opcode}
+use Rattle.oa_record.specs.promise.Opcodes.{opcode_at, opcode_named, opcode_number}
+use Rattle.oa_record.specs.Opcodes.{opcode_in}
 use Rattle.oa_record.specs.declared.request.Request.{Request}
 use Rattle.oa_record.proofs.OpcodeLaws.{named_back}
-use Rattle.oa_decision.specs.Decided.{decided}
-use Rattle.oa_decision.specs.States.{State}
+use Rattle.oa_decision.specs.promise.Decided.{decided}
+use Rattle.oa_decision.specs.promise.States.{State}
 use Rattle.oa_decision.specs.declared.decision.LockChange.{LockChange}
-use Rattle.oa_turn.specs.Locking.{AsksLock, FindsLock, FindsLockBy, asks_lock, changes_lock, is_lock_in, lock_asked_by, lock_decided}
+use Rattle.oa_turn.specs.promise.Locking.{AsksLock, changes_lock, lock_asked_by, lock_decided}
+use Rattle.oa_turn.specs.Locking.{FindsLock, FindsLockBy, asks_lock, is_lock_in}
 
 abbrev no_change : Option LockChange
 no_change = None

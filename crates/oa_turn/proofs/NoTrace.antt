@@ -5,23 +5,24 @@ use Rattle.std.specs.Prelude.{◌&&◌, not, if◌then◌else◌}
 use Rattle.std.proofs.lemmas.Bool.Decides.{eqb_tells}
 use Rattle.oa_model.specs.declared.hresult.HResult.{HResult}
 use Rattle.oa_record.specs.declared.request.Request.{Request}
-use Rattle.oa_record.specs.Asks.{tag_at}
-use Rattle.oa_record.specs.Replies.{ReplyValue}
+use Rattle.oa_record.specs.promise.Asks.{tag_at}
+use Rattle.oa_record.specs.promise.Replies.{ReplyValue}
 use Rattle.oa_table.specs.declared.fault.TableFault.{TableFault}
-use Rattle.oa_table.specs.Tables.{TableValue}
+use Rattle.oa_table.specs.promise.Tables.{TableValue}
 use Rattle.oa_decision.specs.declared.decision.Decision.{Decision}
 use Rattle.oa_decision.specs.declared.decision.Decision.TheVariants.{Answer, Change, Relock}
 use Rattle.oa_decision.specs.declared.refusal.Refusal.{Refusal}
-use Rattle.oa_turn.specs.Events.{is_done}
-use Rattle.oa_turn.specs.Steps.{IsQuiet, Outcome, after_outcome, changed, outcome_of, relocked, relocking}
-use Rattle.oa_decision.specs.Limits.{allowed}
-use Rattle.oa_decision.specs.States.{State}
-use Rattle.oa_decision.specs.Decided.{decided}
-use Rattle.oa_turn.specs.Steps.{outcome, reply_to}
-use Rattle.oa_compat.specs.Keeps.{first_lost}
+use Rattle.oa_turn.specs.promise.Events.{is_done}
+use Rattle.oa_turn.specs.Steps.{IsQuiet}
+use Rattle.oa_turn.specs.promise.Steps.{Outcome, after_outcome, changed, outcome_of, relocked, relocking, outcome}
+use Rattle.oa_turn.specs.promise.Steps.{reply_to}
+use Rattle.oa_decision.specs.promise.Limits.{allowed}
+use Rattle.oa_decision.specs.promise.States.{State}
+use Rattle.oa_decision.specs.promise.Decided.{decided}
+use Rattle.oa_compat.specs.promise.Keeps.{first_lost}
 use Rattle.oa_compat.specs.declared.lost.Incompatibility.{Incompatibility}
-use Rattle.oa_turn.specs.Replacing.{Replacement, after_replacement, replacement_reply}
-use Rattle.oa_turn.specs.Turns.{Ordinary, Turn, Run}
+use Rattle.oa_turn.specs.promise.Replacing.{Replacement, after_replacement, replacement_reply}
+use Rattle.oa_turn.specs.promise.Turns.{Ordinary, Turn, Run}
 use Rattle.oa_turn.specs.Traces.{done_bodies, done_replies, kept_bodies, kept_replies}
 
 -- a reply that is not told as done

@@ -1,18 +1,18 @@
 -- A turn that is told by this reply, and so a run that is told by these, leads to one state.
 use Rattle.std.proofs.Common.{◌≡◌, ℕ, List, [], ◌∷◌, inl, inr, true≢false, sym, ap, ◌∙◌, subst, arith}
 use Rattle.std.proofs.lemmas.Bool.Decides.{eqb_tells}
-use Rattle.oa_record.specs.Asks.{Asks}
-use Rattle.oa_record.specs.Replies.{ReplyValue}
+use Rattle.oa_record.specs.promise.Asks.{Asks}
+use Rattle.oa_record.specs.promise.Replies.{ReplyValue}
 use Rattle.oa_record.specs.declared.request.Request.{Request}
-use Rattle.oa_idl.specs.IsTree.{IsTree}
-use Rattle.oa_idl.specs.Trees.{TreeValue}
-use Rattle.oa_compat.specs.Keeps.{first_lost}
+use Rattle.oa_idl.specs.promise.IsTree.{IsTree}
+use Rattle.oa_idl.specs.promise.Trees.{TreeValue}
+use Rattle.oa_compat.specs.promise.Keeps.{first_lost}
 use Rattle.oa_turn.proofs.NoTrace.{quiet_turn}
-use Rattle.oa_turn.specs.Replacing.{Replaces, Replacement, after_replacement}
-use Rattle.oa_decision.specs.States.{State}
-use Rattle.oa_turn.specs.Steps.{state_after}
+use Rattle.oa_turn.specs.promise.Replacing.{Replaces, Replacement, after_replacement}
+use Rattle.oa_decision.specs.promise.States.{State}
+use Rattle.oa_turn.specs.promise.Steps.{state_after}
 use Rattle.oa_turn.proofs.Texts.{one_asked}
-use Rattle.oa_turn.specs.Turns.{Ordinary, Run, Steps, Turn}
+use Rattle.oa_turn.specs.promise.Turns.{Ordinary, Run, Steps, Turn}
 
 code_of : ReplyValue → ℕ
 code_of reply = reply.code.0

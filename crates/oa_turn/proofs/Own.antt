@@ -2,19 +2,19 @@
 use Rattle.std.proofs.Common.{◌≡◌, ◌-◌, inl, inr, ℕ, ◌+◌, Bool, true, false, if◌then◌else◌, List, [], ◌∷◌, Option, Some, None, Result, Ok, Err}
 use Rattle.std.proofs.Common.{refl, sym, ap, ◌∙◌}
 use Rattle.std.specs.Prelude.{ℤ, nat_lt, ⊤, length}
-use Rattle.oa_image.specs.Tables.{reserved_bytes}
-use Rattle.oa_model.specs.Limits.{max_event_bytes}
-use Rattle.oa_array.specs.Arrays.{ArrayValue}
-use Rattle.oa_array.specs.Faults.{array_code}
+use Rattle.oa_image.specs.promise.Tables.{reserved_bytes}
+use Rattle.oa_model.specs.promise.Limits.{max_event_bytes}
+use Rattle.oa_array.specs.promise.Arrays.{ArrayValue, array_element}
+use Rattle.oa_array.specs.promise.Faults.{array_code}
 use Rattle.oa_array.specs.declared.fault.ArrayFault.{ArrayFault}
 use Rattle.oa_array.specs.declared.fault.ArrayFault.TheVariants as arrays
-use Rattle.oa_bind.specs.Bindings as bindings
-use Rattle.oa_bind.specs.Calls.{BoundCallValue}
-use Rattle.oa_bind.specs.Given.{Given}
-use Rattle.oa_bind.specs.Names.{complete, well_named}
-use Rattle.oa_bind.specs.Refusals as binding
+use Rattle.oa_bind.specs.promise.Bindings as bindings
+use Rattle.oa_bind.specs.promise.Calls.{BoundCallValue}
+use Rattle.oa_bind.specs.promise.Given.{Given, argument_for, given_argument, by_position, argument_index, new_value_id}
+use Rattle.oa_bind.specs.promise.Names.{complete, well_named, is_consistent, lacks, most, names_none}
+use Rattle.oa_bind.specs.promise.Refusals as binding
 use Rattle.oa_bind.specs.declared.fault.BindFault.{BindFault}
-use Rattle.oa_coerce.specs.Refusals.{coercion_code}
+use Rattle.oa_coerce.specs.promise.Refusals.{coercion_code}
 use Rattle.oa_coerce.specs.declared.fault.CoerceFault.{CoerceFault}
 use Rattle.oa_coerce.specs.declared.fault.CoerceFault.TheVariants as coercions
 use Rattle.oa_model.specs.declared.hresult.HResult.{HResult}
@@ -27,69 +27,65 @@ use Rattle.oa_record.specs.declared.request.Request.{Request}
 use Rattle.oa_record.specs.declared.request.Request.TheVariants as requests
 use Rattle.oa_record.specs.declared.opcode.ByCall.TheVariants as by_call
 use Rattle.oa_record.specs.declared.opcode.ByNumber.TheVariants as by_number
-use Rattle.oa_record.specs.Replies.{ReplyValue}
+use Rattle.oa_record.specs.promise.Replies.{ReplyValue}
 use Rattle.oa_table.specs.declared.event.Event.{Event}
 use Rattle.oa_table.specs.declared.event.Event.TheVariants as events
 use Rattle.oa_table.specs.declared.fault.TableFault.{TableFault}
 use Rattle.oa_table.specs.declared.fault.TableFault.TheVariants as tables
-use Rattle.oa_table.specs.Elements.{redimensioned_value}
-use Rattle.oa_table.specs.Events.{applied}
-use Rattle.oa_table.specs.Faults.{table_code}
-use Rattle.oa_table.specs.Tables.{TableValue}
+use Rattle.oa_table.specs.promise.Elements.{redimensioned_value}
+use Rattle.oa_table.specs.promise.Events.{applied}
+use Rattle.oa_table.specs.promise.Faults.{table_code}
+use Rattle.oa_table.specs.promise.Tables.{TableValue, class_in, object_at}
 use Rattle.oa_typelib.specs.declared.access.Access.{Access}
 use Rattle.oa_typelib.specs.declared.access.Access.TheVariants as accesses
 use Rattle.oa_typelib.specs.declared.access.Kind.{Kind}
 use Rattle.oa_typelib.specs.declared.access.Kind.TheVariants as forms
 use Rattle.oa_typelib.specs.declared.access.MemberFault.{MemberFault}
 use Rattle.oa_typelib.specs.declared.access.MemberFault.TheVariants as members
-use Rattle.oa_typelib.specs.MemberValues.{MemberValue}
+use Rattle.oa_typelib.specs.promise.MemberValues.{MemberValue}
 use Rattle.oa_variant.specs.declared.scalar.Scalar.{Scalar}
 use Rattle.oa_variant.specs.declared.variant.Variant.{Variant}
 use Rattle.oa_variant.specs.declared.variant.Variant.TheVariants as variants
 use Rattle.std.specs.Prelude.{not}
 use Rattle.std.specs.List.{position_from}
-use Rattle.oa_array.specs.Arrays.{array_element}
-use Rattle.oa_array.specs.Within.{in_bounds}
-use Rattle.oa_bind.specs.Given.{argument_for, given_argument, by_position, argument_index, new_value_id}
-use Rattle.oa_bind.specs.Names.{is_consistent, lacks, most, names_none}
-use Rattle.oa_bind.specs.Refusals.{any_at, each_at}
-use Rattle.oa_coerce.specs.Answers.{coerced, coerced_scalar}
+use Rattle.oa_array.specs.promise.Within.{in_bounds}
+use Rattle.oa_bind.specs.promise.Refusals.{any_at, each_at}
+use Rattle.oa_coerce.specs.promise.Answers.{coerced, coerced_scalar}
 use Rattle.oa_idl.specs.declared.parts.Parameter.{Parameter}
-use Rattle.oa_image.specs.Sizes.{event_size}
-use Rattle.oa_table.specs.Sizes.{table_size}
-use Rattle.oa_model.specs.Codes.{disp_e_badindex, disp_e_badparamcount, disp_e_paramnotfound, disp_e_paramnotoptional}
-use Rattle.oa_model.specs.Codes.{disp_e_unknowninterface, disp_e_unknownname, e_invalidarg, e_nointerface, e_unexpected}
-use Rattle.oa_model.specs.Codes.{regdb_e_classnotreg, rpc_e_disconnected, s_ok, stg_e_mediumfull}
-use Rattle.oa_record.specs.Asks.{tag_at}
-use Rattle.oa_table.specs.Tables.{class_in, object_at}
-use Rattle.oa_sema.specs.Libraries.{class_of, selected_in}
-use Rattle.oa_typelib.specs.Members.{member_in}
-use Rattle.oa_variant.specs.Variants.{zero_value}
+use Rattle.oa_image.specs.promise.Sizes.{event_size}
+use Rattle.oa_table.specs.promise.Sizes.{table_size}
+use Rattle.oa_model.specs.promise.Codes.{disp_e_badindex, disp_e_badparamcount, disp_e_paramnotfound}
+use Rattle.oa_model.specs.promise.Codes.{disp_e_paramnotoptional, disp_e_unknowninterface, disp_e_unknownname}
+use Rattle.oa_model.specs.promise.Codes.{e_invalidarg, e_nointerface, e_unexpected, regdb_e_classnotreg}
+use Rattle.oa_model.specs.promise.Codes.{rpc_e_disconnected, s_ok, stg_e_mediumfull}
+use Rattle.oa_record.specs.promise.Asks.{tag_at}
+use Rattle.oa_sema.specs.promise.Libraries.{class_of, selected_in}
+use Rattle.oa_typelib.specs.promise.Members.{member_in}
+use Rattle.oa_variant.specs.promise.Variants.{zero_value}
 use Rattle.uuid.specs.Parts.{is_nil_bytes}
-use Rattle.oa_decision.specs.Cells.{bound_as, call_found, cell_called, member_found}
-use Rattle.oa_decision.specs.Create.{class_found, fitting, is_used_up}
-use Rattle.oa_decision.specs.Invoke.{acting}
-use Rattle.oa_decision.specs.TypeInfo.{description_of}
+use Rattle.oa_decision.specs.promise.Cells.{bound_as, call_found, cell_called, member_found}
+use Rattle.oa_decision.specs.promise.Create.{class_found, fitting, is_used_up}
+use Rattle.oa_decision.specs.promise.Invoke.{acting}
+use Rattle.oa_decision.specs.promise.TypeInfo.{description_of}
 use Rattle.oa_decision.specs.declared.decision.Decision.{Decision}
 use Rattle.oa_decision.specs.declared.decision.Decision.TheVariants.{Answer, Change, Relock}
 use Rattle.oa_decision.specs.declared.decider.cell.BoundCell.{BoundCell}
 use Rattle.oa_decision.specs.declared.refusal.Refusal.{Refusal}
-use Rattle.oa_decision.specs.ArrayCells as array_cells
-use Rattle.oa_turn.specs.Steps.{changed, outcome_of, relocked, relocking}
-use Rattle.oa_decision.specs.Interfaces.{interface_found}
-use Rattle.oa_decision.specs.Limits.{allowed, limited, within_limits}
-use Rattle.oa_decision.specs.LookUps.{ids_found}
+use Rattle.oa_decision.specs.promise.ArrayCells as array_cells
+use Rattle.oa_turn.specs.promise.Steps.{changed, outcome_of, relocked, relocking, reply_to}
+use Rattle.oa_decision.specs.promise.Interfaces.{interface_found}
+use Rattle.oa_decision.specs.promise.Limits.{allowed, limited, within_limits}
+use Rattle.oa_decision.specs.promise.LookUps.{ids_found}
 use Rattle.oa_turn.specs.OwnCodes.{is_own}
-use Rattle.oa_decision.specs.PutElement.{element_for}
-use Rattle.oa_decision.specs.Redimension.{resizing, zero_with}
-use Rattle.oa_decision.specs.Refusals.{◌>>=◌, known, unless}
-use Rattle.oa_decision.specs.States.{State}
-use Rattle.oa_decision.specs.Decided.{decided}
-use Rattle.oa_turn.specs.Steps.{reply_to}
-use Rattle.oa_compat.specs.Keeps.{first_lost}
+use Rattle.oa_decision.specs.promise.PutElement.{element_for}
+use Rattle.oa_decision.specs.promise.Redimension.{resizing, zero_with}
+use Rattle.oa_decision.specs.promise.Refusals.{◌>>=◌, known, unless}
+use Rattle.oa_decision.specs.promise.States.{State}
+use Rattle.oa_decision.specs.promise.Decided.{decided}
+use Rattle.oa_compat.specs.promise.Keeps.{first_lost}
 use Rattle.oa_compat.specs.declared.lost.Incompatibility.{Incompatibility}
-use Rattle.oa_turn.specs.Replacing.{Replacement, replacement_reply}
-use Rattle.oa_turn.specs.Turns.{Ordinary, Turn}
+use Rattle.oa_turn.specs.promise.Replacing.{Replacement, replacement_reply}
+use Rattle.oa_turn.specs.promise.Turns.{Ordinary, Turn}
 
 -- a refusal's code is own
 abbrev Own : {A : Type 0} → Result A Refusal → Type 0

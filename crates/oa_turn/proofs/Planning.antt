@@ -1,8 +1,8 @@
 -- The turn of a body, but for a planned change.
 use Rattle.std.proofs.Common.{◌≡◌, inl, ℕ, List, Result, Ok, refl, sym, ap, ◌∙◌}
 use Rattle.oa_record.specs.declared.request.Request.{Request}
-use Rattle.oa_record.specs.Asks.{Asks, tag_at}
-use Rattle.oa_record.specs.Replies.{ReplyValue}
+use Rattle.oa_record.specs.promise.Asks.{Asks, tag_at}
+use Rattle.oa_record.specs.promise.Replies.{ReplyValue}
 use Rattle.oa_table.specs.declared.event.Event.{Event}
 use Rattle.oa_table.specs.Events.{BringsNoLocks}
 use Rattle.oa_decision.specs.declared.decision.Decision.{Decision}
@@ -10,12 +10,11 @@ use Rattle.oa_decision.specs.declared.decision.Decision.TheVariants.{Change}
 use Rattle.oa_decision.specs.declared.plan.Plan.{Plan}
 use Rattle.oa_decision.specs.declared.plan.Plan.TheVariants.{Answered, Change as AChange}
 use Rattle.oa_decision.specs.declared.refusal.Refusal.{Refusal}
-use Rattle.oa_turn.specs.Steps.{after_outcome, outcome_of}
+use Rattle.oa_turn.specs.promise.Steps.{after_outcome, outcome_of, reply_with}
 use Rattle.oa_turn.specs.Plans.{Plans, PlansChange}
-use Rattle.oa_decision.specs.States.{State}
-use Rattle.oa_decision.specs.Decided.{decided}
-use Rattle.oa_turn.specs.Steps.{reply_with}
-use Rattle.oa_turn.specs.Turns.{Ordinary}
+use Rattle.oa_decision.specs.promise.States.{State}
+use Rattle.oa_decision.specs.promise.Decided.{decided}
+use Rattle.oa_turn.specs.promise.Turns.{Ordinary}
 
 module _ (old : State) (body : List ℕ) (request : Request) (asked : Asks body request) where
   -- what is decided is done

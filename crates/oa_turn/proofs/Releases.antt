@@ -5,35 +5,36 @@ use Rattle.std.specs.Prelude.{nat_lt}
 use Rattle.std.specs.Result.{IsErrAnd, MatchResult}
 use Rattle.std.proofs.lemmas.Bool.{le-ltb}
 use Rattle.oa_array.specs.declared.fault.ArrayFault.TheVariants as arrays
-use Rattle.oa_image.specs.Sizes.{event_size}
-use Rattle.oa_image.specs.Tables.{reserved_bytes}
-use Rattle.oa_table.specs.Sizes.{table_size}
-use Rattle.oa_model.specs.Codes.{e_invalidarg, e_outofmemory, stg_e_mediumfull}
-use Rattle.oa_model.specs.Limits.{max_event_bytes}
+use Rattle.oa_image.specs.promise.Sizes.{event_size}
+use Rattle.oa_image.specs.promise.Tables.{reserved_bytes}
+use Rattle.oa_table.specs.promise.Sizes.{table_size}
+use Rattle.oa_model.specs.promise.Codes.{e_invalidarg, e_outofmemory, stg_e_mediumfull}
+use Rattle.oa_model.specs.promise.Limits.{max_event_bytes}
 use Rattle.oa_model.specs.declared.hresult.HResult.{HResult}
-use Rattle.oa_record.specs.Asks.{Asks, IsRequest, request_opcode}
+use Rattle.oa_record.specs.promise.Asks.{Asks, request_opcode}
+use Rattle.oa_record.specs.Asks.{IsRequest}
 use Rattle.oa_record.specs.Faults.{record_code}
-use Rattle.oa_record.specs.Opcodes.{opcode_at, opcode_before_memory, opcode_number}
-use Rattle.oa_record.specs.Replacement.{is_replacement}
-use Rattle.oa_record.specs.Replies.{ReplyValue}
+use Rattle.oa_record.specs.promise.Opcodes.{opcode_at, opcode_before_memory, opcode_number}
+use Rattle.oa_record.specs.promise.Replacement.{is_replacement}
+use Rattle.oa_record.specs.promise.Replies.{ReplyValue}
 use Rattle.oa_record.specs.declared.fault.RecordFault.{RecordFault}
 use Rattle.oa_record.specs.declared.fault.RecordFault.TheVariants as records
 use Rattle.oa_record.specs.declared.request.Request.{Request}
 use Rattle.oa_record.specs.declared.opcode.ByNumber.TheVariants.{Release}
 use Rattle.oa_record.specs.declared.request.Request.TheVariants.{ByNumber}
-use Rattle.oa_table.specs.Events.{applied, released_if_live}
-use Rattle.oa_table.specs.Faults.{table_code}
+use Rattle.oa_table.specs.promise.Events.{applied, released_if_live}
+use Rattle.oa_table.specs.promise.Faults.{table_code}
 use Rattle.oa_table.specs.Memory.{MayWantMemory}
-use Rattle.oa_table.specs.Objects.{any_locked}
+use Rattle.oa_table.specs.promise.Objects.{any_locked}
 use Rattle.oa_table.specs.Outcomes.{Because}
-use Rattle.oa_table.specs.Tables.{ObjectValue, TableValue, object_at}
+use Rattle.oa_table.specs.promise.Tables.{ObjectValue, TableValue, object_at}
 use Rattle.oa_table.specs.declared.event.Event.{Event}
 use Rattle.oa_table.specs.declared.event.Event.TheVariants.{Release as ARelease}
 use Rattle.oa_table.specs.declared.fault.TableFault.{TableFault}
 use Rattle.oa_table.specs.declared.fault.TableFault.TheVariants.{NoObject, WrongNumber, NotArray, Array, Memory}
-use Rattle.oa_decision.specs.Decided.{DecidingTakesMemory, decided}
-use Rattle.oa_decision.specs.Limits.{allowed, limited}
-use Rattle.oa_decision.specs.States.{State}
+use Rattle.oa_decision.specs.promise.Decided.{DecidingTakesMemory, decided}
+use Rattle.oa_decision.specs.promise.Limits.{allowed, limited}
+use Rattle.oa_decision.specs.promise.States.{State}
 use Rattle.oa_decision.specs.declared.decision.Decision.{Decision}
 use Rattle.oa_decision.specs.declared.decision.Decision.TheVariants.{Answer, Change, Relock}
 use Rattle.oa_decision.specs.declared.plan.Plan.{Plan}

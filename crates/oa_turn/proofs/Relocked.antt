@@ -5,23 +5,23 @@ use Rattle.std.specs.Prelude.{if◌then◌else◌}
 use Rattle.std.specs.BTreeMap.{is_at}
 use Rattle.std.specs.Map.{lookup, set_value}
 use Rattle.std.specs.Ordering.{nat_cmp}
-use Rattle.oa_model.specs.Limits.{max_cell_locks}
-use Rattle.oa_array.specs.Arrays.{with_locks}
+use Rattle.oa_model.specs.promise.Limits.{max_cell_locks}
+use Rattle.oa_array.specs.promise.Arrays.{with_locks}
 use Rattle.oa_array.specs.declared.fault.ArrayFault.TheVariants as arrays
-use Rattle.oa_variant.specs.Variants.{unlocked}
+use Rattle.oa_variant.specs.promise.Variants.{unlocked}
 use Rattle.oa_variant.specs.declared.variant.Variant.{Variant}
 use Rattle.oa_variant.specs.declared.variant.Variant.TheVariants.{One, Array as AnArray}
 use Rattle.oa_table.specs.declared.fault.TableFault.{TableFault}
 use Rattle.oa_table.specs.declared.fault.TableFault.TheVariants.{Array}
 use Rattle.oa_table.specs.declared.name.CellName.{CellName}
-use Rattle.oa_table.specs.Elements.{locked_value, released_value}
-use Rattle.oa_table.specs.Events.{changed_if_live, on_object, with_object}
-use Rattle.oa_table.specs.Locks.{with_lock, without_lock}
-use Rattle.oa_table.specs.Objects.{changed_if_put, with_change, with_value}
-use Rattle.oa_table.specs.Outcomes.{mapped}
-use Rattle.oa_table.specs.Places.{PlaceValue, place_cmp}
-use Rattle.oa_table.specs.Tables.{ObjectValue, TableValue, cell_at, object_at, unlocked_cell, unlocked_entry, unlocked_object}
-use Rattle.oa_table.specs.Tables.{unlocked_table}
+use Rattle.oa_table.specs.promise.Elements.{locked_value, released_value}
+use Rattle.oa_table.specs.promise.Events.{changed_if_live, on_object, with_object}
+use Rattle.oa_table.specs.promise.Locks.{with_lock, without_lock}
+use Rattle.oa_table.specs.promise.Objects.{changed_if_put, with_change, with_value}
+use Rattle.oa_table.specs.promise.Outcomes.{mapped}
+use Rattle.oa_table.specs.promise.Places.{PlaceValue, place_cmp}
+use Rattle.oa_table.specs.promise.Tables.{ObjectValue, TableValue, cell_at, object_at, unlocked_cell, unlocked_entry}
+use Rattle.oa_table.specs.promise.Tables.{unlocked_object, unlocked_table}
 
 -- a change that is not seen through g
 abbrev Unseen : {A : Type 0} → (A → A) → (A → Result A TableFault) → A → Type 0

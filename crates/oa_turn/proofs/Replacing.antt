@@ -1,22 +1,23 @@
 -- A body that asks for another library.
 use Rattle.std.proofs.Common.{◌≡◌, ◌⊎◌, inl, inr, ℕ, false, List, Option, Some, None, Result, Ok, Err, refl, sym, ap, ◌∙◌, subst}
 use Rattle.std.specs.Result.{IsErrAnd, MatchResult}
-use Rattle.oa_idl.specs.Trees.{TreeValue}
-use Rattle.oa_compat.specs.Keeps.{first_lost}
+use Rattle.oa_idl.specs.promise.Trees.{TreeValue}
+use Rattle.oa_compat.specs.promise.Keeps.{first_lost}
 use Rattle.oa_compat.specs.declared.lost.Incompatibility.{Incompatibility}
-use Rattle.oa_compat.specs.LibraryTexts.{IsTextOf, MayBeLibrary, StandsFor}
+use Rattle.oa_compat.specs.LibraryTexts.{IsTextOf}
+use Rattle.oa_compat.specs.promise.LibraryTexts.{MayBeLibrary, StandsFor}
 use Rattle.oa_compat.specs.declared.library_text.TextError.{TextError}
 use Rattle.oa_compat.specs.declared.library_text.TextError.TheVariants.{NoLibrary, Memory}
-use Rattle.oa_model.specs.Codes.{bad_stub_data, e_outofmemory, s_ok}
+use Rattle.oa_model.specs.promise.Codes.{bad_stub_data, e_outofmemory, s_ok}
 use Rattle.oa_model.specs.declared.hresult.HResult.{HResult}
-use Rattle.oa_record.specs.Asks.{tag_at}
-use Rattle.oa_record.specs.Replacement.{text_in}
-use Rattle.oa_record.specs.Replies.{ReplyValue}
-use Rattle.oa_turn.specs.Events.{is_done}
+use Rattle.oa_record.specs.promise.Asks.{tag_at}
+use Rattle.oa_record.specs.promise.Replacement.{text_in}
+use Rattle.oa_record.specs.promise.Replies.{ReplyValue}
+use Rattle.oa_turn.specs.promise.Events.{is_done}
 use Rattle.oa_turn.specs.ReplacementPlans.{IsLibraryOf, IsNextLibrary, RefusesLoss, text_code}
-use Rattle.oa_turn.specs.Replacing.{AsksLibrary, BringsText, Replacement, after_replacement, replacement_reply}
-use Rattle.oa_decision.specs.States.{State}
-use Rattle.oa_decision.specs.Decided.{refusal}
+use Rattle.oa_turn.specs.promise.Replacing.{AsksLibrary, BringsText, Replacement, after_replacement, replacement_reply}
+use Rattle.oa_decision.specs.promise.States.{State}
+use Rattle.oa_decision.specs.promise.Decided.{refusal}
 
 -- ---- which library a body asks for
 one_text : (a b : List ℕ) → Some a ≡ Some b → b ≡ a

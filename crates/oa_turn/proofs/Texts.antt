@@ -1,17 +1,17 @@
 -- A text is that of one library, and a library is that of its canonical text.
 use Rattle.std.proofs.Common.{rules, ◌≡◌, ℕ, ◌≤◌, nat_le, Bool, true, false, if◌then◌else◌, List, length, Option, Some, None, refl, sym, ap, ◌∙◌, subst}
 use Rattle.std.specs.Option.{option_or}
-use Rattle.oa_printer.specs.Canonical.{canonical}
-use Rattle.oa_idl.specs.IsTree.{IsTree, MayBeText}
-use Rattle.oa_idl.specs.Trees.{TreeValue}
-use Rattle.oa_model.specs.Limits.{max_library_bytes}
+use Rattle.oa_printer.specs.promise.Canonical.{canonical}
+use Rattle.oa_idl.specs.promise.IsTree.{IsTree, MayBeText}
+use Rattle.oa_idl.specs.promise.Trees.{TreeValue}
+use Rattle.oa_model.specs.promise.Limits.{max_library_bytes}
 use Rattle.oa_sema.specs.declared.fault.CheckError.{CheckError}
 use Rattle.oa_sema.specs.declared.fault.CheckError.TheVariants.{TextTooLong}
-use Rattle.oa_sema.specs.Breaches.{text_breach, tree_breach}
-use Rattle.oa_typelib.specs.Checked.{IsChecked}
-use Rattle.oa_sema.specs.IsLibrary.{IsLibrary}
-use Rattle.oa_sema.specs.Libraries.{marked}
-use Rattle.oa_turn.specs.Replacing.{AsksLibrary}
+use Rattle.oa_sema.specs.promise.Breaches.{text_breach, tree_breach}
+use Rattle.oa_typelib.specs.promise.Checked.{IsChecked}
+use Rattle.oa_sema.specs.promise.IsLibrary.{IsLibrary}
+use Rattle.oa_sema.specs.promise.Libraries.{marked}
+use Rattle.oa_turn.specs.promise.Replacing.{AsksLibrary}
 
 second_none : (one two : Option CheckError) → option_or one two ≡ None → two ≡ None
 second_none None two is = is

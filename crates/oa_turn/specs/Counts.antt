@@ -4,9 +4,9 @@ use Rattle.std.specs.Prelude.{◌≡◌, ℕ, ◌+◌, if◌then◌else◌, List
 use Rattle.std.specs.List.Sorted.{IsStrictlySortedBy}
 use Rattle.std.specs.Map.{keys_of}
 use Rattle.std.specs.Ordering.{nat_cmp}
-use Rattle.oa_turn.specs.ClientLocks.{ClientLock, is_cell}
+use Rattle.oa_turn.specs.promise.ClientLocks.{ClientLock, is_cell}
 use Rattle.oa_table.specs.Locks.{locks_at}
-use Rattle.oa_table.specs.Tables.{TableValue}
+use Rattle.oa_table.specs.promise.Tables.{TableValue}
 use Rattle.oa_table.specs.declared.name.CellName.{CellName}
 
 -- how many of these names are those of a cell

@@ -1,7 +1,7 @@
 -- The representation of locks: a count for each client and cell. (This project's choice.)
 use Rattle.std.specs.Prelude.{ℕ, zero, suc, ◌<◌, Bool, List, [], ◌∷◌, ◌++◌}
 use Rattle.std.specs.List.{AllByRecursion, list_any}
-use Rattle.oa_turn.specs.ClientLocks.{ClientLock, cell_cmp, is_cell, with_more, without_first}
+use Rattle.oa_turn.specs.promise.ClientLocks.{ClientLock, cell_cmp, is_cell, with_more, without_first}
 use Rattle.oa_table.specs.declared.name.CellName.{CellName}
 
 -- a name a number of times, and then others

@@ -1,19 +1,19 @@
 -- The plan for a request to replace the library, before anything is changed. (This project's choice.)
 use Rattle.std.specs.Prelude.{◌≡◌, ◌⊎◌, ℕ, false, List, Some, None, Result, Ok, Err}
-use Rattle.oa_idl.specs.Trees.{TreeValue}
-use Rattle.oa_model.specs.Codes.{bad_stub_data, e_outofmemory}
+use Rattle.oa_idl.specs.promise.Trees.{TreeValue}
+use Rattle.oa_model.specs.promise.Codes.{bad_stub_data, e_outofmemory}
 use Rattle.oa_model.specs.declared.hresult.HResult.{HResult}
-use Rattle.oa_compat.specs.Keeps.{first_lost}
+use Rattle.oa_compat.specs.promise.Keeps.{first_lost}
 use Rattle.oa_compat.specs.declared.lost.Incompatibility.{Incompatibility}
 use Rattle.oa_compat.specs.declared.library_text.TextError.{TextError}
 use Rattle.oa_compat.specs.declared.library_text.TextError.TheVariants.{NoLibrary, Memory}
-use Rattle.oa_record.specs.Replies.{ReplyValue}
+use Rattle.oa_record.specs.promise.Replies.{ReplyValue}
 use Rattle.oa_turn.specs.declared.host.replacement.ReplacementPlan.{ReplacementPlan}
 use Rattle.oa_turn.specs.declared.host.replacement.ReplacementPlan.TheVariants.{Answered, Replaced}
-use Rattle.oa_turn.specs.Replacing.{AsksLibrary, BringsText, Replacement, replacement_reply}
-use Rattle.oa_turn.specs.Events.{is_done}
-use Rattle.oa_decision.specs.States.{State}
-use Rattle.oa_decision.specs.Decided.{refusal}
+use Rattle.oa_turn.specs.promise.Replacing.{AsksLibrary, BringsText, Replacement, replacement_reply}
+use Rattle.oa_turn.specs.promise.Events.{is_done}
+use Rattle.oa_decision.specs.promise.States.{State}
+use Rattle.oa_decision.specs.promise.Decided.{refusal}
 
 -- the code for a text that is no library
 abbrev pub text_code : TextError → HResult

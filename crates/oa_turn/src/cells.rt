@@ -3,7 +3,7 @@ ghost use Rattle.std.specs.Prelude.{◌≡◌, [], IfErr, OnErr, OnOk};
 ghost use Rattle.std.specs.BTreeMap.{is_at};
 ghost use Rattle.std.specs.Map.{lookup};
 ghost use Rattle.std.specs.Option.{unwrap_or};
-ghost use Rattle.oa_turn.specs.ClientLocks.{cell_cmp};
+ghost use Rattle.oa_turn.specs.promise.ClientLocks.{cell_cmp};
 ghost use Rattle.oa_turn.specs.Kept.{each_counted, has_cell, with_locked_cell, without_cell};
 
 use crate::CellKey;

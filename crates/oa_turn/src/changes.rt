@@ -1,16 +1,17 @@
 //! Changing a table.
 ghost use Rattle.std.specs.Prelude.{◌≡◌, [], ℕ, None, Ok, IfErr, IsOk, OnErr, OnOk};
-ghost use Rattle.oa_model.specs.Codes.{e_outofmemory};
+ghost use Rattle.oa_model.specs.promise.Codes.{e_outofmemory};
 ghost use Rattle.oa_turn.specs.Changes.{ChangesTable, MakesTable, RelocksTable};
 ghost use Rattle.oa_turn.specs.Limits.{IsSoundTable};
 ghost use Rattle.oa_turn.specs.Locking.{table_or};
-ghost use Rattle.oa_turn.specs.Steps.{relocked};
-ghost use Rattle.oa_decision.specs.Limits.{StaysWithin, allowed};
+ghost use Rattle.oa_turn.specs.promise.Steps.{relocked};
+ghost use Rattle.oa_decision.specs.Limits.{StaysWithin};
+ghost use Rattle.oa_decision.specs.promise.Limits.{allowed};
 ghost use Rattle.oa_decision.specs.declared.decision.LockChange.TheVariants.{Lock as ALock, Unlock as AnUnlock};
 ghost use Rattle.oa_table.specs.Events.{BringsNoLocks};
 ghost use Rattle.oa_table.specs.declared.event.Event.TheVariants.{Put as APut, Release as ARelease};
 ghost use Rattle.oa_table.specs.Memory.{MayWantMemory};
-ghost use Rattle.oa_table.specs.Tables.{cell_in, object_at, unlocked_table};
+ghost use Rattle.oa_table.specs.promise.Tables.{cell_in, object_at, unlocked_table};
 
 use oa_decision::{LockChange, limit_violation, max_table_image, surely_fits};
 use oa_image::SizedEvent;

@@ -2,17 +2,17 @@
 ghost use Rattle.std.specs.Prelude.{◌≡◌, ◌≤◌, List, ℕ, [], false, map, IsOk, IfOk, IfSome, OnErr};
 ghost use Rattle.oa_decision.specs.Decisions.{ChangesNoLocks, Decides};
 ghost use Rattle.oa_turn.specs.Changes.{MakesChange};
-ghost use Rattle.oa_turn.specs.Steps.{after_outcome, relocked, relocking};
+ghost use Rattle.oa_turn.specs.promise.Steps.{after_outcome, relocked, relocking, reply_with};
 ghost use Rattle.oa_turn.specs.Limits.{IsSoundTable, least_bank};
-ghost use Rattle.oa_decision.specs.Limits.{allowed};
+ghost use Rattle.oa_decision.specs.promise.Limits.{allowed};
 ghost use Rattle.oa_decision.specs.ValuePlans.{put_event};
-ghost use Rattle.oa_turn.specs.Plans.{Drafts, HasNoEvent, HoldsSame, IsDrafted, Plans, PlansCall, PlansChange, put_planned};
+ghost use Rattle.oa_turn.specs.Plans.{Drafts, HasNoEvent, IsDrafted, Plans, PlansCall, PlansChange, put_planned};
 ghost use Rattle.oa_turn.specs.Plans.{PlansWithoutMemory, ReleasesWithoutMemory};
-ghost use Rattle.oa_model.specs.Codes.{e_outofmemory};
-ghost use Rattle.oa_decision.specs.Decided.{DecidingTakesMemory, decided};
-ghost use Rattle.oa_record.specs.Replacement.{is_replacement};
-ghost use Rattle.oa_turn.specs.Steps.{reply_with};
-ghost use Rattle.oa_turn.specs.Turns.{Ordinary, Run, Turn};
+ghost use Rattle.oa_turn.specs.promise.Plans.{HoldsSame};
+ghost use Rattle.oa_model.specs.promise.Codes.{e_outofmemory};
+ghost use Rattle.oa_decision.specs.promise.Decided.{DecidingTakesMemory, decided};
+ghost use Rattle.oa_record.specs.promise.Replacement.{is_replacement};
+ghost use Rattle.oa_turn.specs.promise.Turns.{Ordinary, Run, Turn};
 ghost use Rattle.oa_table.specs.Events.{BringsNoLocks};
 ghost use Rattle.oa_table.specs.declared.event.Event.TheVariants.{Put, Release as ARelease};
 ghost use Rattle.oa_table.specs.Memory.{MayWantMemory};
@@ -59,7 +59,7 @@ impl Drop for Machine {
 }
 
 impl Model for Machine {
-    ghost use Rattle.oa_decision.specs.States.{State};
+    ghost use Rattle.oa_decision.specs.promise.States.{State};
     ghost use Rattle.oa_turn.specs.Limits.{IsSoundTable};
 
     ghost Value = { State };

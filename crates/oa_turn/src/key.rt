@@ -4,7 +4,8 @@ ghost use Rattle.std.specs.Cmp.{partial_order_from_total, partial_equiv_from_equ
 ghost use Rattle.std.specs.Cmp.Rules.{comparing};
 ghost use Rattle.std.specs.Ordering.{as_partial_cmp, eq_by_cmp};
 ghost use Rattle.std.proofs.Common.{rules};
-ghost use Rattle.oa_turn.specs.ClientLocks.{cell_cmp, cells_total};
+ghost use Rattle.oa_turn.specs.promise.ClientLocks.{cell_cmp};
+ghost use Rattle.oa_turn.specs.ClientLocks.{cells_total};
 
 use oa_table::CellName;
 use std::cmp::Ordering;

@@ -1,20 +1,20 @@
 //! Theorems about the definitions of turns.
 ghost use Rattle.std.specs.Prelude.{◌≡◌, ◌↔◌, ℕ, true, Bool, List, None, Ok};
 ghost use Rattle.oa_record.specs.declared.request.Request.{Request as ARequest};
-ghost use Rattle.oa_record.specs.Replies.{ReplyValue};
-ghost use Rattle.oa_compat.specs.Fits.{fits};
+ghost use Rattle.oa_record.specs.promise.Replies.{ReplyValue};
+ghost use Rattle.oa_compat.specs.promise.Fits.{fits};
 ghost use Rattle.oa_turn.specs.Steps.{IsQuiet};
 ghost use Rattle.oa_turn.specs.OwnCodes.{is_own};
-ghost use Rattle.oa_decision.specs.States.{State};
-ghost use Rattle.oa_turn.specs.Steps.{outcome, reply_to};
+ghost use Rattle.oa_decision.specs.promise.States.{State};
+ghost use Rattle.oa_turn.specs.promise.Steps.{outcome, reply_to};
 ghost use Rattle.oa_turn.specs.Traces.{done_bodies, done_replies, kept_bodies, kept_replies};
-ghost use Rattle.oa_turn.specs.Turns.{Run, Turn};
-ghost use Rattle.oa_idl.specs.Trees.{TreeValue};
-ghost use Rattle.oa_table.specs.Locks.{with_lock, without_lock};
-ghost use Rattle.oa_table.specs.Tables.{TableValue, unlocked_table};
+ghost use Rattle.oa_turn.specs.promise.Turns.{Run, Turn};
+ghost use Rattle.oa_idl.specs.promise.Trees.{TreeValue};
+ghost use Rattle.oa_table.specs.promise.Locks.{with_lock, without_lock};
+ghost use Rattle.oa_table.specs.promise.Tables.{TableValue, unlocked_table};
 ghost use Rattle.oa_table.specs.declared.name.CellName.{CellName as AName};
-ghost use Rattle.oa_typelib.specs.Checked.{IsChecked};
-ghost use Rattle.oa_compat.specs.Keeps.{KeepsLibrary, first_lost};
+ghost use Rattle.oa_typelib.specs.promise.Checked.{IsChecked};
+ghost use Rattle.oa_compat.specs.promise.Keeps.{KeepsLibrary, first_lost};
 
 use oa_compat::laws::changes_that_fit;
 use oa_idl::laws::one_tree;

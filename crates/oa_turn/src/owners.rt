@@ -1,6 +1,6 @@
 //! Locks with their owners.
 ghost use Rattle.std.specs.Prelude.{◌≡◌, [], IfErr, OnErr, OnOk, map};
-ghost use Rattle.oa_turn.specs.ClientLocks.{cells_of, of_others, owns, with_one, without_one};
+ghost use Rattle.oa_turn.specs.promise.ClientLocks.{cells_of, of_others, owns, with_one, without_one};
 ghost use Rattle.oa_turn.specs.Counts.{locked_name};
 ghost use Rattle.oa_turn.specs.Kept.{all_locked_cells};
 
@@ -21,7 +21,7 @@ pub struct LockTable {
 
 impl Model for LockTable {
     ghost use Rattle.std.specs.Prelude.{List};
-    ghost use Rattle.oa_turn.specs.ClientLocks.{ClientLock};
+    ghost use Rattle.oa_turn.specs.promise.ClientLocks.{ClientLock};
     ghost use Rattle.oa_turn.specs.Kept.{all_locks};
 
     ghost Value = { List ClientLock };

@@ -4,20 +4,22 @@ use Rattle.std.proofs.Common.{slice_get, nat_lt, Option, None, Some, is_some, Is
 use Rattle.std.proofs.lemmas.Bool.Decides.{nat_tests}
 use Rattle.std.specs.List.{AllByRecursion, list_any, position_or_len}
 use Rattle.std.specs.Option.{option_and_then}
-use Rattle.oa_model.specs.Folding.{folded_name}
-use Rattle.oa_model.specs.Limits.{max_interfaces}
-use Rattle.oa_idl.specs.Limits.{one_interface, how_many}
-use Rattle.oa_idl.specs.Trees.{TreeValue}
-use Rattle.oa_idl.specs.Values.{InterfaceValue}
+use Rattle.oa_model.specs.promise.Folding.{folded_name}
+use Rattle.oa_model.specs.promise.Limits.{max_interfaces}
+use Rattle.oa_idl.specs.promise.Limits.{one_interface, how_many}
+use Rattle.oa_idl.specs.promise.Trees.{TreeValue}
+use Rattle.oa_idl.specs.promise.Values.{InterfaceValue}
 use Rattle.oa_idl.specs.declared.parts.Entry.{Entry}
 use Rattle.oa_idl.specs.declared.items.Item.{Item}
 use Rattle.oa_idl.specs.declared.items.Item.TheVariants.{Interface, Coclass}
 use Rattle.oa_idl.specs.declared.stop.TreeLimit.TheVariants as limits
-use Rattle.oa_sema.specs.Breaches.{unknown_name, entry_breach}
-use Rattle.oa_typelib.specs.Checked.{IsChecked, HasClass, HasSoundItems}
-use Rattle.oa_typelib.specs.Descriptions.{described_entry, entry_description, interfaces_of}
-use Rattle.oa_sema.specs.Libraries.{same, same_name, item_name, item_guid, as_interface, as_class, interface_named}
-use Rattle.oa_sema.specs.Libraries.{item_with, class_of, default_interface, mark_first, marked_entries, marked_item}
+use Rattle.oa_sema.specs.promise.Breaches.{unknown_name, entry_breach}
+use Rattle.oa_typelib.specs.promise.Checked.{IsChecked}
+use Rattle.oa_typelib.specs.Checked.{HasClass, HasSoundItems}
+use Rattle.oa_typelib.specs.promise.Descriptions.{described_entry, entry_description, interfaces_of}
+use Rattle.oa_sema.specs.promise.Libraries.{same, same_name, item_name, item_guid, as_interface, as_class}
+use Rattle.oa_sema.specs.promise.Libraries.{interface_named, item_with, class_of, default_interface, mark_first}
+use Rattle.oa_sema.specs.promise.Libraries.{marked_entries, marked_item}
 use Rattle.oa_typelib.proofs.Found.{find_all}
 use Rattle.oa_typelib.proofs.Grouping.{any_place}
 use Rattle.oa_sema.proofs.Lists.{list_any-map, position-map}

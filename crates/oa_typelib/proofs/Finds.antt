@@ -5,22 +5,24 @@ use Rattle.std.proofs.Common.{slice_get, position, find, Option, None, Some, tru
 use Rattle.std.proofs.lemmas.Bool.Decides.{nat_tests}
 use Rattle.std.proofs.lemmas.Option.{none-some, slice_get-map}
 use Rattle.std.specs.Option.{option_map, option_map_or, option_and_then, unwrap_or}
-use Rattle.oa_model.specs.Limits.{max_library_bytes}
-use Rattle.oa_model.specs.Folding.{folded_name}
+use Rattle.oa_model.specs.promise.Limits.{max_library_bytes}
+use Rattle.oa_model.specs.promise.Folding.{folded_name}
 use Rattle.std.specs.Prelude.{nat_le, if◌then◌else◌}
-use Rattle.oa_idl.specs.Trees.{TreeValue}
-use Rattle.oa_printer.specs.Canonical.{canonical}
+use Rattle.oa_idl.specs.promise.Trees.{TreeValue}
+use Rattle.oa_printer.specs.promise.Canonical.{canonical}
 use Rattle.oa_idl.specs.declared.parts.Entry.{Entry}
 use Rattle.oa_idl.specs.declared.items.Item.{Item}
 use Rattle.oa_idl.specs.declared.items.Item.TheVariants.{Interface, Coclass}
-use Rattle.oa_sema.specs.Libraries.{same, item_name, item_guid, as_interface, as_class, has_interface, if_entered}
-use Rattle.oa_sema.specs.Libraries.{interface_of, class_of, interface_named, default_interface, marked_item, marked}
+use Rattle.oa_sema.specs.promise.Libraries.{same, item_name, item_guid, as_interface, as_class, has_interface}
+use Rattle.oa_sema.specs.promise.Libraries.{if_entered, interface_of, class_of, interface_named, default_interface}
+use Rattle.oa_sema.specs.promise.Libraries.{marked_item, marked}
 use Rattle.oa_sema.specs.declared.fault.CheckError.TheVariants.{TextTooLong}
-use Rattle.oa_sema.specs.Breaches.{RefusesBreach, first_breach, length_breach, text_breach}
-use Rattle.oa_sema.specs.IsLibrary.{IsLibrary}
+use Rattle.oa_sema.specs.Breaches.{RefusesBreach}
+use Rattle.oa_sema.specs.promise.Breaches.{first_breach, length_breach, text_breach}
+use Rattle.oa_sema.specs.promise.IsLibrary.{IsLibrary}
 use Rattle.oa_sema.specs.declared.fault.CheckError.{CheckError}
-use Rattle.oa_idl.specs.IsTree.{IsTree}
-use Rattle.oa_idl.specs.Values.{InterfaceValue, CoclassValue}
+use Rattle.oa_idl.specs.promise.IsTree.{IsTree}
+use Rattle.oa_idl.specs.promise.Values.{InterfaceValue, CoclassValue}
 use Rattle.oa_typelib.specs.Indexes.{default_in, enters, entered_in, flag_at, flag_of}
 use Rattle.oa_sema.specs.Libraries.{folded_names}
 use Rattle.oa_sema.proofs.Lists.{position_finds}

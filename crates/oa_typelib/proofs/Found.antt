@@ -6,19 +6,20 @@ use Rattle.std.specs.List.{AllByRecursion, filter}
 use Rattle.std.specs.Option.{option_map, option_and_then, option_or}
 use Rattle.std.specs.Ordering.{int_eq}
 use Rattle.oa_model.specs.declared.var_type.ValueType.{ValueType}
-use Rattle.oa_model.specs.Limits.{max_parameters}
+use Rattle.oa_model.specs.promise.Limits.{max_parameters}
 use Rattle.oa_variant.specs.Variants.{HasZero}
-use Rattle.oa_idl.specs.Values.{InterfaceValue}
+use Rattle.oa_idl.specs.promise.Values.{InterfaceValue}
 use Rattle.oa_idl.specs.declared.parts.Parameter.{Parameter}
 use Rattle.oa_idl.specs.declared.items.Item.{Item}
 use Rattle.oa_idl.specs.declared.items.Item.TheVariants.{Interface, Coclass}
 use Rattle.oa_typelib.specs.Bindable.{IsBindable, IsSoundDeclaration, AreSound, IsSoundItem}
-use Rattle.oa_sema.specs.DeclarationValues.{DeclarationValue}
-use Rattle.oa_sema.specs.Declarations.{declarations, is_put, own_parameters, type_of_value}
-use Rattle.oa_sema.specs.Libraries.{as_interface}
-use Rattle.oa_typelib.specs.Members.{forms_with, form_for, main_form, property_of, kind_asked, has_form, is_method, method_fault}
-use Rattle.oa_typelib.specs.Members.{if_formed, property_answer, answer, lets, member_in, property_in, property_with}
-use Rattle.oa_typelib.specs.MemberValues.{MemberValue}
+use Rattle.oa_sema.specs.promise.DeclarationValues.{DeclarationValue}
+use Rattle.oa_sema.specs.promise.Declarations.{declarations, is_put, own_parameters, type_of_value}
+use Rattle.oa_sema.specs.promise.Libraries.{as_interface}
+use Rattle.oa_typelib.specs.promise.Members.{forms_with, form_for, main_form, property_of, kind_asked, has_form}
+use Rattle.oa_typelib.specs.promise.Members.{is_method, method_fault, if_formed, property_answer, answer, lets}
+use Rattle.oa_typelib.specs.promise.Members.{member_in, property_in, property_with}
+use Rattle.oa_typelib.specs.promise.MemberValues.{MemberValue}
 use Rattle.oa_typelib.specs.Typed.{IsTypedDeclaration}
 use Rattle.oa_typelib.specs.declared.access.Access.{Access}
 use Rattle.oa_typelib.specs.declared.access.Kind.{Kind}

@@ -7,22 +7,23 @@ use Rattle.std.specs.Option.{option_map, option_and_then}
 use Rattle.std.proofs.lemmas.List.{append-nil}
 use Rattle.std.specs.List.{list_any, filter, filter_map, flat_map}
 use Rattle.std.specs.Ordering.{int_eq}
-use Rattle.oa_model.specs.Folding.{folded_name}
+use Rattle.oa_model.specs.promise.Folding.{folded_name}
 use Rattle.indexmap.specs.IndexSet.{insert_key}
-use Rattle.oa_idl.specs.Values.{InterfaceValue, CoclassValue}
+use Rattle.oa_idl.specs.promise.Values.{InterfaceValue, CoclassValue}
 use Rattle.oa_variant.specs.declared.scalar.Scalar.{Scalar}
-use Rattle.oa_idl.specs.Trees.{TreeValue}
+use Rattle.oa_idl.specs.promise.Trees.{TreeValue}
 use Rattle.oa_idl.specs.declared.parts.Entry.{Entry}
-use Rattle.oa_sema.specs.DeclarationValues.{DeclarationValue}
-use Rattle.oa_sema.specs.Declarations.{declarations}
-use Rattle.oa_typelib.specs.DescriptionValues.ContentDescription.{OfCoclass}
-use Rattle.oa_typelib.specs.Descriptions.{first_names, put_last, members_described, described_entry, entry_description}
-use Rattle.oa_typelib.specs.Descriptions.{interfaces_of, classes_of, interface_description, class_description, description_at}
+use Rattle.oa_sema.specs.promise.DeclarationValues.{DeclarationValue}
+use Rattle.oa_sema.specs.promise.Declarations.{declarations}
+use Rattle.oa_typelib.specs.promise.DescriptionValues.ContentDescription.{OfCoclass}
+use Rattle.oa_typelib.specs.promise.Descriptions.{first_names, put_last, members_described, described_entry}
+use Rattle.oa_typelib.specs.promise.Descriptions.{entry_description, interfaces_of, classes_of, interface_description}
+use Rattle.oa_typelib.specs.promise.Descriptions.{class_description, description_at}
 use Rattle.oa_typelib.specs.Groups.{GroupsValue, distinct, keys_with_places, places_of, places_in}
 use Rattle.oa_typelib.specs.IndexValues.{MembersValue, IndexValue}
 use Rattle.oa_typelib.specs.Indexes.{grouped, enters, first_in, entry_in, described_class}
 use Rattle.oa_sema.specs.Defaults.{defaults_of}
-use Rattle.oa_sema.specs.Libraries.{same, same_name}
+use Rattle.oa_sema.specs.promise.Libraries.{same, same_name}
 use Rattle.oa_typelib.proofs.Grouping.{any_place, at_places, first_place, group_of}
 use Rattle.oa_sema.proofs.Lists.{insert_key-map, list_any-map, position-map}
 use Rattle.oa_typelib.proofs.Named.{map_twice}

@@ -1,11 +1,11 @@
 -- The DISPIDs of names.
 use Rattle.std.proofs.Common.{◌≡◌, ℕ, ℤ, List, [], ◌∷◌, ◌++◌, map, Option, Some, slice_get, Vec, Global, refl, sym, ap, ◌∙◌}
-use Rattle.oa_idl.specs.Values.{InterfaceValue}
+use Rattle.oa_idl.specs.promise.Values.{InterfaceValue}
 use Rattle.oa_idl.specs.declared.parts.Parameter.{Parameter}
-use Rattle.oa_sema.specs.DeclarationValues.{DeclarationValue}
-use Rattle.oa_sema.specs.Declarations.{own_parameters}
-use Rattle.oa_typelib.specs.Members.{main_form, forms_named}
-use Rattle.oa_typelib.specs.Names.{parameter_named, ids_in, named_in}
+use Rattle.oa_sema.specs.promise.DeclarationValues.{DeclarationValue}
+use Rattle.oa_sema.specs.promise.Declarations.{own_parameters}
+use Rattle.oa_typelib.specs.promise.Members.{main_form, forms_named}
+use Rattle.oa_typelib.specs.promise.Names.{parameter_named, ids_in, named_in}
 
 pub map_twice : {A B C : Type 0} (f : A → B) (g : B → C) (xs : List A) → map g (map f xs) ≡ map (λ x. g (f x)) xs
 map_twice f g [] = refl

@@ -11,27 +11,28 @@ use Rattle.std.specs.Cmp.Lexicographic.{pointwise}
 use Rattle.std.specs.List.{AllByRecursion, filter, list_any, position_or_len}
 use Rattle.std.specs.Option.{option_map, option_and_then, option_or}
 use Rattle.std.specs.Ordering.{int_eq}
-use Rattle.oa_model.specs.Folding.{folded_name}
-use Rattle.oa_model.specs.Limits.{max_parameters}
-use Rattle.oa_idl.specs.Trees.{TreeValue}
-use Rattle.oa_idl.specs.Values.{InterfaceValue}
+use Rattle.oa_model.specs.promise.Folding.{folded_name}
+use Rattle.oa_model.specs.promise.Limits.{max_parameters}
+use Rattle.oa_idl.specs.promise.Trees.{TreeValue}
+use Rattle.oa_idl.specs.promise.Values.{InterfaceValue}
 use Rattle.oa_idl.specs.declared.parts.Parameter.{Parameter}
 use Rattle.oa_idl.specs.declared.items.Item.{Item}
 use Rattle.oa_idl.specs.declared.items.Item.TheVariants.{Interface, Coclass}
-use Rattle.oa_sema.specs.Agreement.{same_value_type, same_result, same_default, is_optional, same_parameter, agree}
+use Rattle.oa_sema.specs.promise.Agreement.{same_value_type, same_result, same_default, is_optional, same_parameter}
+use Rattle.oa_sema.specs.promise.Agreement.{agree}
 use Rattle.oa_typelib.specs.Bindable.{IsSoundDeclaration, AreSound, IsSoundItem}
-use Rattle.oa_sema.specs.Breaches.{repeated_name, clashes, declared_breach, item_breach, inner_breach, name_breach}
-use Rattle.oa_sema.specs.Breaches.{id_breach, guid_breach, key_breaches, tree_breach, text_breach, interface_breach}
-use Rattle.oa_sema.specs.Breaches.{form_breaches, in_interface, broken_by, first_broken, disagrees}
-use Rattle.oa_typelib.specs.Checked.{IsChecked}
-use Rattle.oa_sema.specs.DeclarationValues.{DeclarationValue}
-use Rattle.oa_sema.specs.Declarations.{declarations, is_put, own_parameters, type_of_value}
-use Rattle.oa_sema.specs.Repeats.{Has}
-use Rattle.oa_sema.specs.Libraries.{same, same_name, item_name, marked_item}
-use Rattle.oa_typelib.specs.Members.{form_for, forms_named, lets, main_form}
-use Rattle.oa_typelib.specs.Names.{ids_in, named_in, parameter_named, place_as_id}
+use Rattle.oa_sema.specs.promise.Breaches.{repeated_name, clashes, declared_breach, item_breach, inner_breach}
+use Rattle.oa_sema.specs.promise.Breaches.{name_breach, id_breach, guid_breach, key_breaches, tree_breach, text_breach}
+use Rattle.oa_sema.specs.promise.Breaches.{interface_breach, form_breaches, in_interface, broken_by, first_broken}
+use Rattle.oa_sema.specs.promise.Breaches.{disagrees}
+use Rattle.oa_typelib.specs.promise.Checked.{IsChecked}
+use Rattle.oa_sema.specs.promise.DeclarationValues.{DeclarationValue}
+use Rattle.oa_sema.specs.promise.Declarations.{declarations, is_put, own_parameters, type_of_value}
+use Rattle.oa_sema.specs.promise.Repeats.{Has, first_repeat, first_after}
+use Rattle.oa_sema.specs.promise.Libraries.{same, same_name, item_name, marked_item}
+use Rattle.oa_typelib.specs.promise.Members.{form_for, forms_named, lets, main_form}
+use Rattle.oa_typelib.specs.promise.Names.{ids_in, named_in, parameter_named, place_as_id}
 use Rattle.oa_typelib.specs.Naming.{Declares, IsMember, IsParameterOf}
-use Rattle.oa_sema.specs.Repeats.{first_repeat, first_after}
 use Rattle.oa_typelib.specs.declared.access.Kind.TheVariants as kinds
 use Rattle.oa_sema.specs.declared.fault.CheckError.TheVariants.{DuplicateName, DuplicateId, DuplicateGuid, UnknownInterface}
 use Rattle.oa_typelib.proofs.Grouping.{position_step}

@@ -6,14 +6,14 @@ use Rattle.std.proofs.lemmas.Bool.Decides.{nat_tests}
 use Rattle.std.specs.Cmp.Lexicographic.{same_text}
 use Rattle.std.specs.List.{list_any, list_all, filter_map, cons_option, flat_map}
 use Rattle.std.specs.Option.{option_and_then, option_map_or, option_or}
-use Rattle.oa_model.specs.Types.{vt_of, type_at, vt_of_value}
+use Rattle.oa_model.specs.promise.Types.{vt_of, type_at, vt_of_value}
 use Rattle.oa_model.specs.declared.var_type.VarType.{VarType}
 use Rattle.oa_model.specs.declared.var_type.VarType.TheVariants as types
 use Rattle.oa_model.specs.declared.var_type.ValueType.{ValueType}
 use Rattle.oa_model.specs.declared.var_type.ValueType.TheVariants.{One, Array}
-use Rattle.oa_sema.specs.Agreement.{same_value_type, same_result}
-use Rattle.oa_sema.specs.Libraries.{same}
-use Rattle.oa_sema.specs.Repeats.{first_answer}
+use Rattle.oa_sema.specs.promise.Agreement.{same_value_type, same_result}
+use Rattle.oa_sema.specs.promise.Libraries.{same}
+use Rattle.oa_sema.specs.promise.Repeats.{first_answer}
 use Rattle.oa_typelib.proofs.Sound.{neither}
 
 pub inside : {X : Type 0} (x y : X) → Some x ≡ Some y → x ≡ y

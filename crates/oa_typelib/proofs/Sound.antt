@@ -4,12 +4,12 @@ use Rattle.std.proofs.Common.{find, length, List, [], ◌∷◌, map, Option, So
 use Rattle.std.proofs.lemmas.Option.{none-some}
 use Rattle.std.specs.List.{AllByRecursion}
 use Rattle.std.specs.Option.{option_map, option_and_then, option_or}
-use Rattle.oa_model.specs.Limits.{max_parameters}
+use Rattle.oa_model.specs.promise.Limits.{max_parameters}
 use Rattle.oa_model.specs.declared.var_type.ValueType.{ValueType}
 use Rattle.oa_model.specs.declared.var_type.ValueType.TheVariants.{One, Array}
-use Rattle.oa_idl.specs.Limits.{HasFewParameters}
-use Rattle.oa_idl.specs.MethodValues.{MethodValue}
-use Rattle.oa_idl.specs.Trees.{TreeValue}
+use Rattle.oa_idl.specs.promise.Limits.{HasFewParameters}
+use Rattle.oa_idl.specs.promise.MethodValues.{MethodValue}
+use Rattle.oa_idl.specs.promise.Trees.{TreeValue}
 use Rattle.oa_idl.specs.declared.parts.Literal.{Literal}
 use Rattle.oa_idl.specs.declared.parts.MethodKind.{MethodKind}
 use Rattle.oa_idl.specs.declared.parts.MethodKind.TheVariants as forms
@@ -19,17 +19,18 @@ use Rattle.oa_idl.specs.declared.items.Item.{Item}
 use Rattle.oa_idl.specs.declared.items.Item.TheVariants.{Interface, Coclass}
 use Rattle.oa_idl.specs.declared.stop.TreeLimit.TheVariants as limits
 use Rattle.oa_typelib.specs.Bindable.{IsOne, AreScalars, HasGoodDefault, IsSoundDeclaration, AreSound, IsSoundItem}
-use Rattle.oa_sema.specs.Breaches.{first_breach, tree_breach, text_breach, key_breaches, interface_breach}
-use Rattle.oa_sema.specs.Breaches.{form_breaches, form_breach, array_breach, default_breach, in_interface}
-use Rattle.oa_sema.specs.Breaches.{first_array_parameter, named_first, is_array, is_bad, bad_default_in, if_optional}
-use Rattle.oa_typelib.specs.Checked.{IsChecked}
-use Rattle.oa_sema.specs.DeclarationValues.{DeclarationValue}
-use Rattle.oa_sema.specs.Declarations.{declarations, of_property, of_method, kind_of_method}
-use Rattle.oa_sema.specs.Declarations.{is_get_or_put, own_parameters, new_value}
-use Rattle.oa_sema.specs.Defaults.{default_of}
-use Rattle.oa_sema.specs.Libraries.{marked_item}
-use Rattle.oa_typelib.specs.Members.{is_method}
-use Rattle.oa_sema.specs.Repeats.{first_answer}
+use Rattle.oa_sema.specs.promise.Breaches.{first_breach, tree_breach, text_breach, key_breaches, interface_breach}
+use Rattle.oa_sema.specs.promise.Breaches.{form_breaches, form_breach, array_breach, default_breach, in_interface}
+use Rattle.oa_sema.specs.promise.Breaches.{first_array_parameter, named_first, is_array, is_bad, bad_default_in}
+use Rattle.oa_sema.specs.promise.Breaches.{if_optional}
+use Rattle.oa_typelib.specs.promise.Checked.{IsChecked}
+use Rattle.oa_sema.specs.promise.DeclarationValues.{DeclarationValue}
+use Rattle.oa_sema.specs.promise.Declarations.{declarations, of_property, of_method, kind_of_method, is_get_or_put}
+use Rattle.oa_sema.specs.promise.Declarations.{own_parameters, new_value}
+use Rattle.oa_sema.specs.promise.Defaults.{default_of}
+use Rattle.oa_sema.specs.promise.Libraries.{marked_item}
+use Rattle.oa_typelib.specs.promise.Members.{is_method}
+use Rattle.oa_sema.specs.promise.Repeats.{first_answer}
 use Rattle.oa_typelib.specs.Typed.{IsTypedDeclaration, IsTypedItem}
 use Rattle.oa_sema.specs.declared.fault.CheckError.TheVariants.{UnknownInterface, GetPutDisagree, ArrayParameter, BadDefault}
 use Rattle.oa_typelib.proofs.Found.{holds_typed}

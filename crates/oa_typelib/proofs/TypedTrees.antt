@@ -3,26 +3,27 @@ use Rattle.std.proofs.Common.{◌≡◌, ◌==◌, slice_get, true≢false, refl
 use Rattle.std.proofs.Common.{if◌then◌else◌, List, [], ◌∷◌, ◌++◌, map, Option, Some, None, is_some, IsSome, IfSome}
 use Rattle.std.proofs.lemmas.Option.{none-some}
 use Rattle.std.specs.List.{AllByRecursion}
-use Rattle.oa_model.specs.Types.{sf_type_of}
+use Rattle.oa_model.specs.promise.Types.{sf_type_of}
 use Rattle.oa_model.specs.declared.var_type.VarType.{VarType}
 use Rattle.oa_model.specs.declared.var_type.ValueType.{ValueType}
 use Rattle.oa_model.specs.declared.var_type.ValueType.TheVariants.{One, Array}
 use Rattle.oa_variant.specs.Variants.{HasZero}
-use Rattle.oa_idl.specs.Forms.{Word, Language, listed, nowhere}
-use Rattle.oa_idl.specs.Words.{word_type, type_named, if_cell}
-use Rattle.oa_idl.specs.Grammar.{value_type, property, result_type, parameter, separated, method, methods, members, entry}
-use Rattle.oa_idl.specs.Grammar.{entry_grow, last_entry, no_entry, item, LibraryContent, element, library_contents, items_in, library}
-use Rattle.oa_idl.specs.Grammar.LibraryContent.{Import, OfItem}
-use Rattle.oa_idl.specs.Trees.{TreeValue}
-use Rattle.oa_idl.specs.MethodValues.{MethodValue}
+use Rattle.oa_idl.specs.promise.Forms.{Word, Language, listed, nowhere}
+use Rattle.oa_idl.specs.promise.Words.{word_type, type_named, if_cell}
+use Rattle.oa_idl.specs.promise.Grammar.{value_type, property, result_type, parameter, separated, method, methods}
+use Rattle.oa_idl.specs.promise.Grammar.{members, entry, entry_grow, last_entry, no_entry, item, LibraryContent}
+use Rattle.oa_idl.specs.promise.Grammar.{element, library_contents, items_in, library}
+use Rattle.oa_idl.specs.promise.Grammar.LibraryContent.{Import, OfItem}
+use Rattle.oa_idl.specs.promise.Trees.{TreeValue}
+use Rattle.oa_idl.specs.promise.MethodValues.{MethodValue}
 use Rattle.oa_idl.specs.declared.parts.Entry.{Entry}
 use Rattle.oa_idl.specs.declared.parts.MethodKind.{MethodKind}
 use Rattle.oa_idl.specs.declared.parts.Parameter.{Parameter}
 use Rattle.oa_idl.specs.declared.parts.Property.{Property}
 use Rattle.oa_idl.specs.declared.items.Item.{Item}
 use Rattle.oa_idl.specs.declared.items.Item.TheVariants.{Interface, Coclass}
-use Rattle.oa_sema.specs.Declarations.{of_property, of_method}
-use Rattle.oa_sema.specs.Libraries.{marked, marked_item}
+use Rattle.oa_sema.specs.promise.Declarations.{of_property, of_method}
+use Rattle.oa_sema.specs.promise.Libraries.{marked, marked_item}
 use Rattle.oa_typelib.specs.Typed.{IsTypedDeclaration, IsTypedItem, IsTyped, IsOfText}
 
 -- a word that names the type of cells

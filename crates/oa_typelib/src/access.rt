@@ -1,6 +1,6 @@
 //! Which form of a member a call uses, and why there may be none.
 ghost use Rattle.std.specs.Prelude.{◌≡◌};
-ghost use Rattle.oa_typelib.specs.Members.{is_method, kind_asked, lets, method_fault};
+ghost use Rattle.oa_typelib.specs.promise.Members.{is_method, kind_asked, lets, method_fault};
 
 use oa_model::{GET_FLAG, METHOD_FLAG, PUT_FLAG};
 use oa_sema::DeclarationKind;

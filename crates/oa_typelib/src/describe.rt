@@ -2,12 +2,13 @@
 ghost use Rattle.std.specs.Prelude.{◌≡◌, ◌++◌, if◌then◌else◌, Some, None, IfOk, OnOk, map, length, option_copied, slice_get};
 ghost use Rattle.std.specs.List.{filter, filter_map};
 ghost use Rattle.std.specs.Option.{option_and_then};
-ghost use Rattle.oa_sema.specs.Declarations.{declarations};
-ghost use Rattle.oa_sema.specs.Defaults.{default_value};
+ghost use Rattle.oa_sema.specs.promise.Declarations.{declarations};
+ghost use Rattle.oa_sema.specs.promise.Defaults.{default_value};
 ghost use Rattle.oa_typelib.specs.Indexes.{described_class, entry_in, is_put_or_not};
-ghost use Rattle.oa_typelib.specs.Descriptions.{classes_of, described_entry, interface_description, interfaces_of};
-ghost use Rattle.oa_typelib.specs.Descriptions.{member_description, members_described, parameter_description, put_last};
-ghost use Rattle.oa_sema.specs.Libraries.{as_interface};
+ghost use Rattle.oa_typelib.specs.promise.Descriptions.{classes_of, described_entry, interface_description};
+ghost use Rattle.oa_typelib.specs.promise.Descriptions.{interfaces_of, member_description, members_described};
+ghost use Rattle.oa_typelib.specs.promise.Descriptions.{parameter_description, put_last};
+ghost use Rattle.oa_sema.specs.promise.Libraries.{as_interface};
 
 use crate::described::{Content, DescribedEntry, DescribedMember, DescribedParameter};
 use crate::dispinterface::Dispinterface;
@@ -32,7 +33,7 @@ pub struct Description<'a> {
 }
 
 impl<'a> Model for Description<'a> {
-    ghost use Rattle.oa_typelib.specs.DescriptionValues.{DescriptionValue};
+    ghost use Rattle.oa_typelib.specs.promise.DescriptionValues.{DescriptionValue};
     ghost use Rattle.oa_typelib.specs.Contents.{content_of};
 
     ghost Value = { DescriptionValue };

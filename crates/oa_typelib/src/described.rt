@@ -28,7 +28,7 @@ pub struct DescribedParameter<'a> {
 
 impl<'a> Model for DescribedParameter<'a> {
     ghost use Rattle.std.specs.Prelude.{option_copied};
-    ghost use Rattle.oa_typelib.specs.DescriptionValues.{ParameterDescription};
+    ghost use Rattle.oa_typelib.specs.promise.DescriptionValues.{ParameterDescription};
 
     ghost Value = { ParameterDescription };
 
@@ -58,7 +58,7 @@ pub struct DescribedMember<'a> {
 }
 
 impl<'a> Model for DescribedMember<'a> {
-    ghost use Rattle.oa_typelib.specs.DescriptionValues.{MemberDescription};
+    ghost use Rattle.oa_typelib.specs.promise.DescriptionValues.{MemberDescription};
 
     ghost Value = { MemberDescription };
 
@@ -81,7 +81,7 @@ pub struct DescribedEntry {
 }
 
 impl Model for DescribedEntry {
-    ghost use Rattle.oa_typelib.specs.DescriptionValues.{EntryDescription};
+    ghost use Rattle.oa_typelib.specs.promise.DescriptionValues.{EntryDescription};
 
     ghost Value = { EntryDescription };
 

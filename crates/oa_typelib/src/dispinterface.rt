@@ -2,13 +2,13 @@
 ghost use Rattle.std.specs.Prelude.{◌≡◌, true, IfOk, IfSome, map, slice_get};
 ghost use Rattle.std.specs.List.{filter, filter_map};
 ghost use Rattle.std.specs.Option.{option_map};
-ghost use Rattle.oa_model.specs.Folding.{folded_name};
-ghost use Rattle.oa_sema.specs.Declarations.{declarations};
-ghost use Rattle.oa_sema.specs.Libraries.{same};
+ghost use Rattle.oa_model.specs.promise.Folding.{folded_name};
+ghost use Rattle.oa_sema.specs.promise.Declarations.{declarations};
+ghost use Rattle.oa_sema.specs.promise.Libraries.{same};
 ghost use Rattle.oa_typelib.specs.Bindable.{AreSound, IsBindable};
 ghost use Rattle.oa_typelib.specs.Indexes.{grouped};
-ghost use Rattle.oa_typelib.specs.Members.{forms_with, has_form, member_in, property_in};
-ghost use Rattle.oa_typelib.specs.Names.{names_told};
+ghost use Rattle.oa_typelib.specs.promise.Members.{forms_with, has_form, member_in, property_in};
+ghost use Rattle.oa_typelib.specs.promise.Names.{names_told};
 
 use crate::access::{Access, Kind, MemberFault};
 use crate::forms::{Form, Forms, declaration_at};
@@ -31,9 +31,9 @@ pub struct Dispinterface<'a> {
 
 impl<'a> Model for Dispinterface<'a> {
     ghost use Rattle.std.specs.Prelude.{◌≡◌};
-    ghost use Rattle.oa_idl.specs.Values.{InterfaceValue};
+    ghost use Rattle.oa_idl.specs.promise.Values.{InterfaceValue};
     ghost use Rattle.oa_typelib.specs.Bindable.{AreSound};
-    ghost use Rattle.oa_sema.specs.Declarations.{declarations};
+    ghost use Rattle.oa_sema.specs.promise.Declarations.{declarations};
     ghost use Rattle.oa_typelib.specs.Indexes.{grouped};
 
     ghost Value = { InterfaceValue };

@@ -1,10 +1,10 @@
 //! The declarations of a member.
 ghost use Rattle.std.specs.Prelude.{◌≡◌, is_some, map, slice_get};
 ghost use Rattle.std.specs.List.{filter_map};
-ghost use Rattle.oa_sema.specs.Declarations.{declarations, own_parameters};
-ghost use Rattle.oa_sema.specs.Defaults.{default_value};
+ghost use Rattle.oa_sema.specs.promise.Declarations.{declarations, own_parameters};
+ghost use Rattle.oa_sema.specs.promise.Defaults.{default_value};
 ghost use Rattle.oa_sema.specs.Defaults.{defaults_of};
-ghost use Rattle.oa_typelib.specs.Members.{form_for, main_form};
+ghost use Rattle.oa_typelib.specs.promise.Members.{form_for, main_form};
 
 use crate::access::{Kind, lets};
 use crate::dispinterface::Dispinterface;
@@ -37,7 +37,7 @@ pub struct Form<'a> {
 
 impl<'a> Model for Form<'a> {
     ghost use Rattle.std.specs.Prelude.{◌≡◌};
-    ghost use Rattle.oa_sema.specs.DeclarationValues.{DeclarationValue};
+    ghost use Rattle.oa_sema.specs.promise.DeclarationValues.{DeclarationValue};
     ghost use Rattle.oa_sema.specs.Defaults.{defaults_of};
 
     ghost Value = { DeclarationValue };
@@ -125,8 +125,8 @@ pub(crate) struct Forms<'a> {
 impl<'a> Model for Forms<'a> {
     ghost use Rattle.std.specs.Prelude.{List, slice_get};
     ghost use Rattle.std.specs.List.{filter_map};
-    ghost use Rattle.oa_sema.specs.DeclarationValues.{DeclarationValue};
-    ghost use Rattle.oa_sema.specs.Declarations.{declarations};
+    ghost use Rattle.oa_sema.specs.promise.DeclarationValues.{DeclarationValue};
+    ghost use Rattle.oa_sema.specs.promise.Declarations.{declarations};
 
     ghost Value = { List DeclarationValue };
 

@@ -8,8 +8,8 @@ ghost use Rattle.std.specs.List.{position_or_len};
 ghost use Rattle.std.specs.Ordering.{int_eq};
 ghost use Rattle.std.proofs.Common.{rules};
 ghost use Rattle.indexmap.specs.IndexSet.{insert_key};
-ghost use Rattle.oa_model.specs.Folding.{folded_name};
-ghost use Rattle.oa_sema.specs.Libraries.{same};
+ghost use Rattle.oa_model.specs.promise.Folding.{folded_name};
+ghost use Rattle.oa_sema.specs.promise.Libraries.{same};
 ghost use Rattle.oa_typelib.specs.Groups.{keys_with_places, places_in, with_place};
 
 use indexmap::{Equivalent, IndexMap};

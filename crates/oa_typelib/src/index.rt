@@ -1,8 +1,9 @@
 //! The index of a library's members and interfaces.
 ghost use Rattle.std.specs.Prelude.{◌≡◌, IfOk, map, slice_get, is_some, option_copied};
-ghost use Rattle.oa_model.specs.Folding.{folded_name};
-ghost use Rattle.oa_sema.specs.Libraries.{folded_names, same};
-ghost use Rattle.oa_typelib.specs.Descriptions.{interfaces_of};
+ghost use Rattle.oa_model.specs.promise.Folding.{folded_name};
+ghost use Rattle.oa_sema.specs.Libraries.{folded_names};
+ghost use Rattle.oa_sema.specs.promise.Libraries.{same};
+ghost use Rattle.oa_typelib.specs.promise.Descriptions.{interfaces_of};
 ghost use Rattle.oa_typelib.specs.Groups.{keys_with_places};
 ghost use Rattle.oa_typelib.specs.Indexes.{entered_in, enters, first_in, flag_at, index_of, members_in};
 

@@ -1,9 +1,10 @@
 //! Theorems about the definitions alone.
 ghost use Rattle.std.specs.Prelude.{◌≡◌, ℕ, Some, slice_get};
-ghost use Rattle.oa_idl.specs.Trees.{TreeValue};
-ghost use Rattle.oa_idl.specs.Values.{InterfaceValue};
+ghost use Rattle.oa_idl.specs.promise.Trees.{TreeValue};
+ghost use Rattle.oa_idl.specs.promise.Values.{InterfaceValue};
 ghost use Rattle.oa_idl.specs.declared.items.Item.TheVariants.{Interface};
-ghost use Rattle.oa_typelib.specs.Checked.{IsChecked, HasSoundItems};
+ghost use Rattle.oa_typelib.specs.promise.Checked.{IsChecked};
+ghost use Rattle.oa_typelib.specs.Checked.{HasSoundItems};
 ghost use Rattle.oa_typelib.specs.Naming.{NamesMembers, NamesParameters};
 
 /// In a library a call can be bound to each property, each coclass has a default interface, and

@@ -1,19 +1,20 @@
 //! Libraries.
 ghost use Rattle.std.specs.Prelude.{◌≡◌, true, List, ℕ, IfOk, IsSome, nat_le, length, map, position, option_copied, slice_get};
-ghost use Rattle.oa_printer.specs.Canonical.{canonical};
+ghost use Rattle.oa_printer.specs.promise.Canonical.{canonical};
 ghost use Rattle.std.specs.Option.{option_and_then, option_map};
-ghost use Rattle.oa_idl.specs.IsTree.{IsTree};
-ghost use Rattle.oa_model.specs.Limits.{max_library_bytes};
-ghost use Rattle.oa_sema.specs.Breaches.{RefusesBreach, first_breach, length_breach, text_breach, tree_breach};
-ghost use Rattle.oa_typelib.specs.Checked.{IsChecked};
+ghost use Rattle.oa_idl.specs.promise.IsTree.{IsTree};
+ghost use Rattle.oa_model.specs.promise.Limits.{max_library_bytes};
+ghost use Rattle.oa_sema.specs.Breaches.{RefusesBreach};
+ghost use Rattle.oa_sema.specs.promise.Breaches.{first_breach, length_breach, text_breach, tree_breach};
+ghost use Rattle.oa_typelib.specs.promise.Checked.{IsChecked};
 ghost use Rattle.uuid.specs.Parts.{is_nil_bytes};
 ghost use Rattle.oa_typelib.specs.Contents.{Describes};
-ghost use Rattle.oa_typelib.specs.Descriptions.{description_at, interfaces_of};
-ghost use Rattle.oa_sema.specs.Libraries.{as_class, as_interface, same, item_guid, class_of, if_entered};
-ghost use Rattle.oa_sema.specs.Libraries.{interface_of, default_interface, selected_in, marked};
+ghost use Rattle.oa_typelib.specs.promise.Descriptions.{description_at, interfaces_of};
+ghost use Rattle.oa_sema.specs.promise.Libraries.{as_class, as_interface, same, item_guid, class_of, if_entered};
+ghost use Rattle.oa_sema.specs.promise.Libraries.{interface_of, default_interface, selected_in, marked};
 ghost use Rattle.oa_typelib.specs.Indexes.{default_in, entered_in, flag_at, index_of, members_in};
 ghost use Rattle.oa_sema.specs.Libraries.{folded_names};
-ghost use Rattle.oa_sema.specs.IsLibrary.{IsLibrary};
+ghost use Rattle.oa_sema.specs.promise.IsLibrary.{IsLibrary};
 ghost use Rattle.oa_typelib.specs.Typed.{IsOfText};
 
 use crate::defaults::find_defaults;
@@ -67,9 +68,9 @@ impl Drop for Library {
 }
 
 impl Model for Library {
-    ghost use Rattle.oa_idl.specs.IsTree.{IsTree};
-    ghost use Rattle.oa_idl.specs.Trees.{TreeValue};
-    ghost use Rattle.oa_typelib.specs.Checked.{IsChecked};
+    ghost use Rattle.oa_idl.specs.promise.IsTree.{IsTree};
+    ghost use Rattle.oa_idl.specs.promise.Trees.{TreeValue};
+    ghost use Rattle.oa_typelib.specs.promise.Checked.{IsChecked};
     ghost use Rattle.oa_typelib.specs.Indexes.{IsIndexed};
     ghost use Rattle.oa_typelib.specs.Typed.{IsTyped};
 

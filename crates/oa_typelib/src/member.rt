@@ -1,9 +1,9 @@
 //! Properties of interfaces, as a call uses them.
 ghost use Rattle.std.specs.Prelude.{◌≡◌, map, option_copied, slice_get};
 ghost use Rattle.std.specs.Option.{option_and_then, option_map};
-ghost use Rattle.oa_sema.specs.Declarations.{type_of_value};
-ghost use Rattle.oa_sema.specs.Defaults.{default_value};
-ghost use Rattle.oa_typelib.specs.Members.{answer, has_form, main_form, property_of, property_with};
+ghost use Rattle.oa_sema.specs.promise.Declarations.{type_of_value};
+ghost use Rattle.oa_sema.specs.promise.Defaults.{default_value};
+ghost use Rattle.oa_typelib.specs.promise.Members.{answer, has_form, main_form, property_of, property_with};
 
 use crate::access::{Access, Kind, MemberFault, is_method};
 use crate::forms::{Form, Forms};
@@ -34,8 +34,8 @@ pub struct Member<'a> {
 
 impl<'a> Model for Member<'a> {
     ghost use Rattle.std.specs.Prelude.{◌≡◌, map};
-    ghost use Rattle.oa_sema.specs.Defaults.{default_value};
-    ghost use Rattle.oa_typelib.specs.MemberValues.{MemberValue};
+    ghost use Rattle.oa_sema.specs.promise.Defaults.{default_value};
+    ghost use Rattle.oa_typelib.specs.promise.MemberValues.{MemberValue};
 
     ghost Value = { MemberValue };
 

@@ -1,8 +1,9 @@
 //! The members of an interface: its declarations by their names and by their DISPIDs.
 ghost use Rattle.std.specs.Prelude.{◌≡◌, IfOk, map};
-ghost use Rattle.oa_model.specs.Folding.{folded_name};
-ghost use Rattle.oa_sema.specs.Defaults.{default_value, defaults_of};
-ghost use Rattle.oa_sema.specs.Libraries.{same};
+ghost use Rattle.oa_model.specs.promise.Folding.{folded_name};
+ghost use Rattle.oa_sema.specs.promise.Defaults.{default_value};
+ghost use Rattle.oa_sema.specs.Defaults.{defaults_of};
+ghost use Rattle.oa_sema.specs.promise.Libraries.{same};
 ghost use Rattle.oa_typelib.specs.Groups.{keys_with_places};
 ghost use Rattle.oa_typelib.specs.Indexes.{grouped, members_in};
 

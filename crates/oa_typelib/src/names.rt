@@ -1,8 +1,8 @@
 //! Looks up DISPIDs by names.
 ghost use Rattle.std.specs.Prelude.{◌≡◌, ◌++◌, IfOk, OnOk, map, position, None, Some};
-ghost use Rattle.oa_model.specs.Folding.{folded, folded_name};
-ghost use Rattle.oa_sema.specs.Libraries.{same_name};
-ghost use Rattle.oa_typelib.specs.Names.{dispids_reply, ids_in, named_in, or_unknown, parameter_named};
+ghost use Rattle.oa_model.specs.promise.Folding.{folded, folded_name};
+ghost use Rattle.oa_sema.specs.promise.Libraries.{same_name};
+ghost use Rattle.oa_typelib.specs.promise.Names.{dispids_reply, ids_in, named_in, or_unknown, parameter_named};
 
 use crate::dispinterface::Dispinterface;
 use oa_idl::Parameter;
@@ -21,7 +21,7 @@ pub struct DispIds {
 }
 
 impl Model for DispIds {
-    ghost use Rattle.oa_typelib.specs.NamedValues.{DispIdsValue};
+    ghost use Rattle.oa_typelib.specs.promise.NamedValues.{DispIdsValue};
 
     ghost Value = { DispIdsValue };
 

@@ -1,6 +1,6 @@
 //! Arrays for values and cells.
 ghost use Rattle.std.specs.Prelude.{◌≡◌, IfSome};
-ghost use Rattle.oa_table.specs.Elements.{locks_of};
+ghost use Rattle.oa_table.specs.promise.Elements.{locks_of};
 
 use oa_array::SafeArray;
 use oa_model::{Bound, VarType};

@@ -1,7 +1,7 @@
 //! The condition of the theorem about encodings, for callers that have a value.
-ghost use Rattle.oa_variant.specs.Variants.{unlocked};
-ghost use Rattle.oa_wire_variant.specs.Variants.{Spells};
-ghost use Rattle.oa_wire_variant.specs.Canon.{canon};
+ghost use Rattle.oa_variant.specs.promise.Variants.{unlocked};
+ghost use Rattle.oa_wire_variant.specs.promise.Variants.{Spells};
+ghost use Rattle.oa_wire_variant.specs.promise.Canon.{canon};
 
 use oa_variant::Variant;
 use oa_wire_variant::laws;

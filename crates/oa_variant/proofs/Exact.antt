@@ -7,11 +7,11 @@ use Rattle.std.specs.declared.cmp.Ordering.{Ordering}
 use Rattle.std.specs.declared.cmp.Ordering.TheVariants.{Less, Equal, Greater}
 use Rattle.std.proofs.lemmas.Map.Lookups.{CmpEqualImpliesEq, exact_unsigned, exact_signed, exact_bytes}
 use Rattle.oa_model.specs.declared.var_type.VarType.{VarType}
-use Rattle.oa_model.specs.Types.{type_at}
-use Rattle.oa_bstr.specs.Text.{text_cmp}
-use Rattle.oa_variant.specs.Decimals.{DecimalValue, decimal_cmp}
-use Rattle.oa_variant.specs.Scalars.{text_of}
-use Rattle.oa_variant.specs.Keys.{key_number, decimal_of, scalar_of, scalar_again, key_type, scalar_cmp}
+use Rattle.oa_model.specs.promise.Types.{type_at}
+use Rattle.oa_bstr.specs.promise.Text.{text_cmp}
+use Rattle.oa_variant.specs.promise.Decimals.{DecimalValue, decimal_cmp}
+use Rattle.oa_variant.specs.promise.Scalars.{text_of}
+use Rattle.oa_variant.specs.promise.Keys.{key_number, decimal_of, scalar_of, scalar_again, key_type, scalar_cmp}
 use Rattle.oa_variant.specs.declared.scalar.Scalar.{Scalar}
 use Rattle.oa_variant.specs.declared.scalar.Scalar.TheVariants as scalars
 

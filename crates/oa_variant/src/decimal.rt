@@ -2,7 +2,8 @@
 ghost use Rattle.std.specs.Prelude.{◌≡◌, ◌≤◌, ◌<◌, ◌^◌};
 ghost use Rattle.std.specs.Cmp.{partial_equiv_from_equiv, eq_by_cmp_equiv};
 ghost use Rattle.std.specs.Ordering.{eq_by_cmp};
-ghost use Rattle.oa_variant.specs.Decimals.{decimal_cmp, decimals_total};
+ghost use Rattle.oa_variant.specs.promise.Decimals.{decimal_cmp};
+ghost use Rattle.oa_variant.specs.Decimals.{decimals_total};
 
 use std::cmp::Ordering;
 use std::marker::Model;
@@ -26,7 +27,7 @@ pub struct Decimal {
 
 impl Model for Decimal {
     ghost use Rattle.std.specs.Prelude.{◌≤◌, ◌<◌, ◌^◌, ◌+◌, ◌*◌};
-    ghost use Rattle.oa_variant.specs.Decimals.{DecimalValue, high_of, low_of, halves};
+    ghost use Rattle.oa_variant.specs.promise.Decimals.{DecimalValue, high_of, low_of, halves};
 
     ghost Value = { DecimalValue };
 

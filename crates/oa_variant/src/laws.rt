@@ -3,9 +3,10 @@ ghost use Rattle.std.specs.Prelude.{◌≡◌, ◌↔◌, true, All};
 ghost use Rattle.std.specs.declared.cmp.Ordering.TheVariants.{Equal};
 ghost use Rattle.oa_variant.specs.declared.scalar.Scalar.{Scalar as AScalar};
 ghost use Rattle.oa_variant.specs.Scalars.{IsScalar};
-ghost use Rattle.oa_variant.specs.Variants.{IsBound, IsVariant, unlocked};
+ghost use Rattle.oa_variant.specs.Variants.{IsBound, IsVariant};
+ghost use Rattle.oa_variant.specs.promise.Variants.{unlocked};
 ghost use Rattle.oa_variant.specs.declared.variant.Variant.{Variant as AVariant};
-ghost use Rattle.oa_variant.specs.Keys.{scalar_cmp};
+ghost use Rattle.oa_variant.specs.promise.Keys.{scalar_cmp};
 
 use crate::{Scalar, Variant};
 use oa_model::Bound;

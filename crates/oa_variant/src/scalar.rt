@@ -4,9 +4,11 @@ ghost use Rattle.std.specs.Cmp.{partial_order_from_total, partial_equiv_from_equ
 ghost use Rattle.std.specs.Cmp.Rules.{comparing};
 ghost use Rattle.std.specs.Ordering.{as_partial_cmp, eq_by_cmp};
 ghost use Rattle.std.proofs.Common.{rules};
-ghost use Rattle.oa_variant.specs.Scalars.{type_of, text_of, zero_of, FitsType, fits_type, zero_fits};
+ghost use Rattle.oa_variant.specs.promise.Scalars.{type_of, text_of, zero_of, FitsType, fits_type};
+ghost use Rattle.oa_variant.specs.Scalars.{zero_fits};
 ghost use Rattle.std.specs.Option.{option_map};
-ghost use Rattle.oa_variant.specs.Keys.{key_number, decimal_of, scalar_cmp, scalars_total};
+ghost use Rattle.oa_variant.specs.promise.Keys.{key_number, decimal_of, scalar_cmp};
+ghost use Rattle.oa_variant.specs.Keys.{scalars_total};
 
 use crate::Decimal;
 use oa_array::Cell;

@@ -2,8 +2,9 @@
 ghost use Rattle.std.specs.Prelude.{◌≡◌, IsOk, IfOk, None};
 ghost use Rattle.oa_model.specs.declared.var_type.VarType.{VarType as AType};
 ghost use Rattle.oa_model.specs.declared.var_type.ValueType.TheVariants as kinds;
-ghost use Rattle.oa_variant.specs.Scalars.{text_of};
-ghost use Rattle.oa_variant.specs.Variants.{value_type_of, fits_declared, unlocked, zero_value, HasZero};
+ghost use Rattle.oa_variant.specs.promise.Scalars.{text_of};
+ghost use Rattle.oa_variant.specs.promise.Variants.{value_type_of, fits_declared, unlocked, zero_value};
+ghost use Rattle.oa_variant.specs.Variants.{HasZero};
 ghost use Rattle.oa_variant.specs.declared.variant.Variant.TheVariants.{One};
 
 use crate::Scalar;

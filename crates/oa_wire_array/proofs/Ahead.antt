@@ -5,13 +5,14 @@ use Rattle.std.specs.Prelude.{pos}
 use Rattle.std.proofs.lemmas.Bool.{leb-false}
 use Rattle.std.proofs.lemmas.Option.{none-some}
 use Rattle.std.specs.Int.{Width, cast_signed}
-use Rattle.oa_ndr.specs.Reading.{Cursor, Decoder, and_then, bind, give, unit_at, many}
+use Rattle.oa_ndr.specs.promise.Reading.{Cursor, Decoder, and_then, bind, give, many}
+use Rattle.oa_ndr.specs.Reading.{unit_at}
 use Rattle.oa_model.specs.declared.var_type.VarType.{VarType}
 use Rattle.oa_model.specs.declared.var_type.VarType.TheVariants as types
-use Rattle.oa_model.specs.Types.{is_signed_type}
-use Rattle.oa_variant.specs.Decimals.{zero_decimal}
-use Rattle.oa_variant.specs.Keys.{scalar_of}
-use Rattle.oa_wire_array.specs.Scalars.{width_of}
+use Rattle.oa_model.specs.promise.Types.{is_signed_type}
+use Rattle.oa_variant.specs.promise.Decimals.{zero_decimal}
+use Rattle.oa_variant.specs.promise.Keys.{scalar_of}
+use Rattle.oa_wire_array.specs.promise.Scalars.{width_of}
 use Rattle.oa_wire_array.proofs.Widths.{number_bytes}
 use Rattle.oa_variant.specs.declared.scalar.Scalar.{Scalar}
 use Rattle.oa_variant.specs.declared.scalar.Scalar.TheVariants as scalars

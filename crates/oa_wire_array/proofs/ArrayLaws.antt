@@ -6,24 +6,25 @@ use Rattle.std.specs.List.{AllByRecursion}
 use Rattle.std.proofs.lemmas.Bool.{eqb-true, eq-eqb, leb-true, le-leb, ltb-true, lt-ltb, and_parts, and_from, true≢false}
 use Rattle.std.proofs.lemmas.Bool.{false_from_ne_true}
 use Rattle.std.proofs.lemmas.List.Elements.{All-from_recursion, All-head, All-tail}
-use Rattle.oa_model.specs.Limits.{max_dimensions, max_cells}
-use Rattle.oa_ndr.specs.Forms.{◌▸◌, unit, referent, each, given, made}
-use Rattle.oa_ndr.specs.Reading.{Cursor, Decoder, many}
+use Rattle.oa_model.specs.promise.Limits.{max_dimensions, max_cells}
+use Rattle.oa_ndr.specs.promise.Forms.{◌▸◌, unit, referent, each, given, made}
+use Rattle.oa_ndr.specs.promise.Reading.{Cursor, Decoder, many}
 use Rattle.oa_ndr.proofs.Laws.{Reads, Always, all_always, give_reads, fail_reads, choose_reads, unit_reads, referent_reads, bind_reads}
 use Rattle.oa_ndr.proofs.Laws.{with_reads, ignored_then, same_values, made_reads, made_from, many_reads, pairwise_reads, pairwise_length}
 use Rattle.oa_model.specs.declared.bound.Bound.{Bound}
 use Rattle.oa_model.specs.declared.var_type.VarType.{VarType}
 use Rattle.oa_model.specs.declared.var_type.VarType.TheVariants as types
-use Rattle.oa_model.specs.Types.{sf_type_of}
-use Rattle.oa_array.specs.Arrays.{ArrayValue, IsArrayShape}
-use Rattle.oa_array.specs.Boxes.{box_size}
-use Rattle.oa_variant.specs.Scalars.{type_of, FitsType}
+use Rattle.oa_model.specs.promise.Types.{sf_type_of}
+use Rattle.oa_array.specs.promise.Arrays.{ArrayValue, IsArrayShape}
+use Rattle.oa_array.specs.promise.Boxes.{box_size}
+use Rattle.oa_variant.specs.promise.Scalars.{type_of, FitsType}
 use Rattle.oa_variant.specs.declared.scalar.Scalar.{Scalar}
 use Rattle.oa_variant.specs.declared.scalar.Scalar.TheVariants as scalars
-use Rattle.oa_wire_text.specs.Texts.{pointee}
-use Rattle.oa_wire_array.specs.Scalars.{arm}
+use Rattle.oa_wire_text.specs.promise.Texts.{pointee}
+use Rattle.oa_wire_array.specs.promise.Scalars.{arm}
 use Rattle.oa_wire_array.specs.Reading.{arm_at}
-use Rattle.oa_wire_array.specs.Arrays.{bound, cell_pointee, pointed, elements, IsUnlockedArray, dimensions, header, array}
+use Rattle.oa_wire_array.specs.promise.Arrays.{bound, cell_pointee, pointed, elements, IsUnlockedArray, dimensions}
+use Rattle.oa_wire_array.specs.promise.Arrays.{header, array}
 use Rattle.oa_wire_array.specs.ArrayReading.{bound_at, text_cell_at, variant_cell_at, pointee_at, pointed_at, elements_at, is_number}
 use Rattle.oa_wire_array.specs.ArrayReading.{has_sf_type, is_count, array_with, cells_at, data_at, header_at, array_at}
 use Rattle.oa_wire_text.proofs.TextLaws.{pointee_reads}

@@ -8,24 +8,26 @@ use Rattle.std.proofs.lemmas.Bool.{eqb-true, true≢false}
 use Rattle.std.proofs.lemmas.List.{length-append, length-replicate, drop_more, drop_all}
 use Rattle.byteorder.specs.Endian.{little_bytes}
 use Rattle.byteorder.specs.Numbers.{length-bytes_low_first}
-use Rattle.oa_ndr.specs.Forms.{padding}
-use Rattle.oa_ndr.specs.Writing.{put_align, put_unit, put_bytes, put_referent, put_all}
-use Rattle.oa_model.specs.Types.{vt_of, is_signed_type, sf_type_of, element_size_of}
+use Rattle.oa_ndr.specs.promise.Forms.{padding}
+use Rattle.oa_ndr.specs.promise.Writing.{put_align, put_unit, put_bytes, put_referent, put_all}
+use Rattle.oa_model.specs.promise.Types.{vt_of, is_signed_type, sf_type_of, element_size_of}
 use Rattle.oa_model.specs.declared.bound.Bound.{Bound}
 use Rattle.oa_model.specs.declared.var_type.VarType.{VarType}
 use Rattle.oa_model.specs.declared.var_type.VarType.TheVariants as types
-use Rattle.oa_array.specs.Arrays.{ArrayValue}
-use Rattle.oa_variant.specs.Decimals.{DecimalValue}
-use Rattle.oa_variant.specs.Keys.{key_number}
-use Rattle.oa_variant.specs.Scalars.{type_of, FitsType}
+use Rattle.oa_array.specs.promise.Arrays.{ArrayValue}
+use Rattle.oa_variant.specs.promise.Decimals.{DecimalValue}
+use Rattle.oa_variant.specs.promise.Keys.{key_number}
+use Rattle.oa_variant.specs.promise.Scalars.{type_of, FitsType}
 use Rattle.oa_variant.specs.declared.scalar.Scalar.{Scalar}
 use Rattle.oa_variant.specs.declared.scalar.Scalar.TheVariants as scalars
-use Rattle.oa_wire_text.specs.Texts.{units}
-use Rattle.oa_wire_array.specs.Scalars.{scalar_vt, sign_of}
-use Rattle.oa_wire_text.specs.Canon.{put_blob, put_bstr}
-use Rattle.oa_wire_array.specs.Canon.{put_decimal, put_number, put_arm, put_sized, put_scalar, scalar_len, cl_size}
-use Rattle.oa_wire_array.specs.ArrayCanon.{put_bound, has_pointee, put_pointee, put_cell_referent, put_pointed, is_pointed, put_elements}
-use Rattle.oa_wire_array.specs.ArrayCanon.{features_of, put_shape, put_size}
+use Rattle.oa_wire_text.specs.promise.Texts.{units}
+use Rattle.oa_wire_array.specs.promise.Scalars.{scalar_vt, sign_of}
+use Rattle.oa_wire_text.specs.promise.Canon.{put_blob, put_bstr}
+use Rattle.oa_wire_array.specs.promise.Canon.{put_decimal, put_number, put_arm, put_sized, put_scalar, scalar_len}
+use Rattle.oa_wire_array.specs.promise.Canon.{cl_size}
+use Rattle.oa_wire_array.specs.promise.ArrayCanon.{put_bound, has_pointee, put_pointee, put_cell_referent, put_pointed}
+use Rattle.oa_wire_array.specs.promise.ArrayCanon.{put_elements, features_of, put_shape, put_size}
+use Rattle.oa_wire_array.specs.ArrayCanon.{is_pointed}
 use Rattle.oa_wire_array.proofs.ArrayLaws.{Fits, by_recursion}
 use Rattle.oa_wire_array.proofs.Widths.{IsWidth, of_width, one, two, four, eight, width_by, number_bytes}
 

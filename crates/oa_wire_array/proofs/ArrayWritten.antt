@@ -4,22 +4,24 @@ use Rattle.std.specs.Option.{unwrap_or}
 use Rattle.std.specs.List.{AllByRecursion}
 use Rattle.std.proofs.Common.{inl, inr}
 use Rattle.std.proofs.lemmas.List.Elements.{All-head, All-tail}
-use Rattle.oa_ndr.specs.Forms.{referent, each, pairwise, made}
-use Rattle.oa_ndr.specs.Writing.{put_all, put_unit}
+use Rattle.oa_ndr.specs.promise.Forms.{referent, each, pairwise, made}
+use Rattle.oa_ndr.specs.promise.Writing.{put_all, put_unit}
 use Rattle.oa_ndr.proofs.WritingLaws.{Writes, then_writes, with_writes, unit_writes, ignored_writes, nothing_writes, given_writes, referent_writes}
 use Rattle.oa_ndr.proofs.WritingLaws.{each_writes}
-use Rattle.oa_model.specs.Types.{vt_of, sf_type_of, element_size_of}
+use Rattle.oa_model.specs.promise.Types.{vt_of, sf_type_of, element_size_of}
 use Rattle.oa_model.specs.declared.bound.Bound.{Bound}
 use Rattle.oa_model.specs.declared.var_type.VarType.{VarType}
 use Rattle.oa_model.specs.declared.var_type.VarType.TheVariants as types
-use Rattle.oa_array.specs.Arrays.{ArrayValue, IsArray, with_locks}
-use Rattle.oa_variant.specs.Scalars.{type_of, FitsType, IsScalar}
+use Rattle.oa_array.specs.promise.Arrays.{ArrayValue, IsArray, with_locks}
+use Rattle.oa_variant.specs.promise.Scalars.{type_of, FitsType}
+use Rattle.oa_variant.specs.Scalars.{IsScalar}
 use Rattle.oa_variant.specs.Variants.{IsBound}
 use Rattle.oa_variant.specs.declared.scalar.Scalar.{Scalar}
 use Rattle.oa_variant.specs.declared.scalar.Scalar.TheVariants as scalars
-use Rattle.oa_wire_array.specs.Arrays.{bound, cell_pointee, pointed, elements, IsUnlockedArray, dimensions, array}
-use Rattle.oa_wire_array.specs.ArrayCanon.{put_bound, has_pointee, put_pointee, put_cell_referent, put_pointed, put_elements, features_of}
-use Rattle.oa_wire_array.specs.ArrayCanon.{put_array}
+use Rattle.oa_wire_array.specs.promise.Arrays.{bound, cell_pointee, pointed, elements, IsUnlockedArray, dimensions}
+use Rattle.oa_wire_array.specs.promise.Arrays.{array}
+use Rattle.oa_wire_array.specs.promise.ArrayCanon.{put_bound, has_pointee, put_pointee, put_cell_referent, put_pointed}
+use Rattle.oa_wire_array.specs.promise.ArrayCanon.{put_elements, features_of, put_array}
 use Rattle.oa_wire_array.proofs.Written.{signed32_writes, blob_writes, arm_writes, scalar_writes}
 
 bound_writes : (b : Bound) → IsBound b → Writes (bound b) (put_bound b)

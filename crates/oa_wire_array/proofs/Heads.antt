@@ -5,12 +5,14 @@ use Rattle.std.proofs.Common.{OnOk, refl, sym, ap, ◌∙◌, arith}
 use Rattle.std.proofs.lemmas.List.{take_at, drop_at, drop-drop, length-append}
 use Rattle.byteorder.specs.Endian.{little_bytes, little_number, little_from}
 use Rattle.byteorder.specs.Numbers.{little_from-take}
-use Rattle.oa_ndr.specs.Forms.{padding}
-use Rattle.oa_ndr.specs.Writing.{FieldOutput, in_field, put_align, put_bytes, put_unit}
-use Rattle.oa_ndr.specs.Reading.{Cursor, align_at, unit_at}
+use Rattle.oa_ndr.specs.promise.Forms.{padding}
+use Rattle.oa_ndr.specs.Writing.{FieldOutput, in_field}
+use Rattle.oa_ndr.specs.promise.Writing.{put_align, put_bytes, put_unit}
+use Rattle.oa_ndr.specs.promise.Reading.{Cursor}
+use Rattle.oa_ndr.specs.Reading.{align_at, unit_at}
 use Rattle.oa_ndr.proofs.Laws.{unit_reads, align_reads}
-use Rattle.oa_wire_array.specs.Scalars.{own_vt}
-use Rattle.oa_wire_array.specs.Canon.{put_head}
+use Rattle.oa_wire_array.specs.promise.Scalars.{own_vt}
+use Rattle.oa_wire_array.specs.promise.Canon.{put_head}
 use Rattle.oa_wire_text.specs.Reading.{from_multiple}
 use Rattle.oa_wire_array.proofs.ArrayLengths.{align_len, lands, no_padding}
 use Rattle.oa_wire_array.proofs.Widths.{eight}

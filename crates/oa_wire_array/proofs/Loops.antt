@@ -2,7 +2,8 @@
 use Rattle.std.proofs.Common.{◌≡◌, ℕ, ◌+◌, ◌-◌, ◌<◌, ◌≤◌, List, length, get_or, set, take, drop, Option, Some, Err, arith}
 use Rattle.std.proofs.lemmas.List.{take_more_set, take_all}
 use Rattle.std.specs.Global.{Vec}
-use Rattle.oa_ndr.specs.Reading.{Cursor, Decoder, many, map_at}
+use Rattle.oa_ndr.specs.promise.Reading.{Cursor, Decoder, many}
+use Rattle.oa_ndr.specs.Reading.{map_at}
 use Rattle.oa_ndr.proofs.Loop.{with_front, many_goes_on, many_ends, many_is_done, map_goes_on, map_ends, map_is_done}
 use Rattle.oa_wire_text.specs.declared.fault.StubFault.{StubFault}
 use Rattle.oa_wire_text.specs.declared.fault.StubFault.TheVariants.{BadStub, Memory}

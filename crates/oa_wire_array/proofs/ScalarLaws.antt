@@ -4,19 +4,20 @@ use Rattle.std.proofs.Common.{sym, ap, subst, ◌∙◌, arith}
 use Rattle.std.proofs.lemmas.Bool.{eqb-true, eqb-false, leb-true, leb-false}
 use Rattle.std.specs.Prelude.{ℤ, pos, unsigned_abs}
 use Rattle.std.specs.Int.{Width, cast_signed}
-use Rattle.oa_ndr.specs.Forms.{unit}
-use Rattle.oa_ndr.specs.Reading.{Cursor, at}
+use Rattle.oa_ndr.specs.promise.Forms.{unit}
+use Rattle.oa_ndr.specs.promise.Reading.{Cursor, at}
 use Rattle.oa_ndr.proofs.Laws.{Takes, Reads, Always, give_reads, fail_reads, choose_reads, unit_reads, bind_reads, with_reads, ignored_then}
 use Rattle.oa_ndr.proofs.Laws.{align_then, same_values, made_reads, made_takes, made_again, nothing_takes, nothing_again}
-use Rattle.oa_model.specs.Types.{vt_of, type_at, is_signed_type}
+use Rattle.oa_model.specs.promise.Types.{vt_of, type_at, is_signed_type}
 use Rattle.oa_model.specs.declared.var_type.VarType.{VarType}
 use Rattle.oa_model.specs.declared.var_type.VarType.TheVariants as types
-use Rattle.oa_variant.specs.Decimals.{DecimalValue, zero_decimal}
-use Rattle.oa_variant.specs.Keys.{key_number, scalar_of}
-use Rattle.oa_variant.specs.Scalars.{type_of}
+use Rattle.oa_variant.specs.promise.Decimals.{DecimalValue, zero_decimal}
+use Rattle.oa_variant.specs.promise.Keys.{key_number, scalar_of}
+use Rattle.oa_variant.specs.promise.Scalars.{type_of}
 use Rattle.oa_variant.specs.declared.scalar.Scalar.{Scalar}
 use Rattle.oa_variant.specs.declared.scalar.Scalar.TheVariants as scalars
-use Rattle.oa_wire_array.specs.Scalars.{signed_unit, truth, sign_of, sign, decimal, width_of, integer, arm, scalar_vt, union, scalar}
+use Rattle.oa_wire_array.specs.promise.Scalars.{signed_unit, truth, sign_of, sign, decimal, width_of, integer, arm}
+use Rattle.oa_wire_array.specs.promise.Scalars.{scalar_vt, union, scalar}
 use Rattle.oa_wire_array.specs.Reading.{signed_at, truth_at, sign_at, the_decimal, decimal_at, integer_at, arm_at, arm_of, union_at, scalar_at}
 use Rattle.oa_wire_text.proofs.TextLaws.{bstr_reads}
 use Rattle.oa_wire_array.proofs.Widths.{number_bytes}

@@ -3,7 +3,7 @@ use Rattle.std.proofs.Common.{◌≡◌, ℕ, ◌⊎◌, inl, inr, Bool, true, f
 use Rattle.std.specs.Prelude.{◌||◌}
 use Rattle.std.specs.Option.{unwrap_or}
 use Rattle.std.proofs.lemmas.Bool.{eqb-true, false≢true}
-use Rattle.oa_model.specs.Types.{element_size_of}
+use Rattle.oa_model.specs.promise.Types.{element_size_of}
 use Rattle.oa_model.specs.declared.var_type.VarType.{VarType}
 
 abbrev pub IsWidth : ℕ → Type 0

@@ -4,23 +4,26 @@ use Rattle.std.proofs.Common.{arith, ℤ}
 use Rattle.std.specs.Prelude.{FitsSigned, unsigned_abs}
 use Rattle.std.specs.Int.{w8, w16, w32, w64, cast_unsigned}
 use mir.Facts.{Fits-of_z, to_z-of_z}
-use Rattle.oa_ndr.specs.Writing.{put_unit}
+use Rattle.oa_ndr.specs.promise.Writing.{put_unit}
 use Rattle.oa_ndr.proofs.WritingLaws.{Writes, then_writes, with_writes, unit_writes, ignored_writes, align_writes, any_writes, bytes_writes}
 use Rattle.oa_ndr.proofs.WritingLaws.{nothing_writes, given_writes, referent_writes}
-use Rattle.oa_model.specs.Types.{vt_of, is_signed_type}
+use Rattle.oa_model.specs.promise.Types.{vt_of, is_signed_type}
 use Rattle.oa_model.specs.declared.var_type.VarType.{VarType}
 use Rattle.oa_model.specs.declared.var_type.VarType.TheVariants as types
-use Rattle.oa_model.specs.Limits.{max_text_bytes}
-use Rattle.oa_bstr.specs.Text.{bytes_of}
-use Rattle.oa_variant.specs.Decimals.{DecimalValue}
-use Rattle.oa_variant.specs.Keys.{key_number}
-use Rattle.oa_variant.specs.Scalars.{type_of, IsScalar}
+use Rattle.oa_model.specs.promise.Limits.{max_text_bytes}
+use Rattle.oa_bstr.specs.promise.Text.{bytes_of}
+use Rattle.oa_variant.specs.promise.Decimals.{DecimalValue}
+use Rattle.oa_variant.specs.promise.Keys.{key_number}
+use Rattle.oa_variant.specs.promise.Scalars.{type_of}
+use Rattle.oa_variant.specs.Scalars.{IsScalar}
 use Rattle.oa_variant.specs.declared.scalar.Scalar.{Scalar}
 use Rattle.oa_variant.specs.declared.scalar.Scalar.TheVariants as scalars
-use Rattle.oa_wire_text.specs.Texts.{units, blob, bstr}
-use Rattle.oa_wire_array.specs.Scalars.{signed_unit, truth, sign_of, sign, decimal, width_of, integer, arm, scalar_vt, scalar}
-use Rattle.oa_wire_text.specs.Canon.{put_blob, put_bstr}
-use Rattle.oa_wire_array.specs.Canon.{put_truth, put_decimal, put_number, put_arm, put_sized, cl_size, put_scalar}
+use Rattle.oa_wire_text.specs.promise.Texts.{units, blob, bstr}
+use Rattle.oa_wire_array.specs.promise.Scalars.{signed_unit, truth, sign_of, sign, decimal, width_of, integer, arm}
+use Rattle.oa_wire_array.specs.promise.Scalars.{scalar_vt, scalar}
+use Rattle.oa_wire_text.specs.promise.Canon.{put_blob, put_bstr}
+use Rattle.oa_wire_array.specs.promise.Canon.{put_truth, put_decimal, put_number, put_arm, put_sized, cl_size}
+use Rattle.oa_wire_array.specs.promise.Canon.{put_scalar}
 use Rattle.oa_wire_array.proofs.Widths.{IsWidth, of_width, four, width_by, number_bytes}
 
 pub vt_small : (t : VarType) → vt_of t < 32

@@ -2,14 +2,15 @@
 use Rattle.std.specs.Prelude.{◌≡◌, ℕ, ◌==◌, ◌&&◌, nat_lt, nat_le, is_some, Bool, false, List, length, Option, Some}
 use Rattle.std.specs.Prelude.{None, Result, Ok, Err}
 use Rattle.std.specs.Int.{w32}
-use Rattle.oa_model.specs.Limits.{max_dimensions, max_cells}
-use Rattle.oa_ndr.specs.Reading.{Cursor, Decoder, ◌>>=◌, give, fail, choose, unit_at, referent_at, many, map_at}
+use Rattle.oa_model.specs.promise.Limits.{max_dimensions, max_cells}
+use Rattle.oa_ndr.specs.promise.Reading.{Cursor, Decoder, ◌>>=◌, give, fail, many}
+use Rattle.oa_ndr.specs.Reading.{choose, unit_at, referent_at, map_at}
 use Rattle.oa_model.specs.declared.bound.Bound.{Bound}
 use Rattle.oa_model.specs.declared.var_type.VarType.{VarType}
 use Rattle.oa_model.specs.declared.var_type.VarType.TheVariants as types
-use Rattle.oa_model.specs.Types.{sf_type_of}
-use Rattle.oa_array.specs.Arrays.{ArrayValue}
-use Rattle.oa_array.specs.Boxes.{box_size}
+use Rattle.oa_model.specs.promise.Types.{sf_type_of}
+use Rattle.oa_array.specs.promise.Arrays.{ArrayValue}
+use Rattle.oa_array.specs.promise.Boxes.{box_size}
 use Rattle.oa_variant.specs.declared.scalar.Scalar.{Scalar}
 use Rattle.oa_variant.specs.declared.scalar.Scalar.TheVariants as scalars
 use Rattle.oa_wire_text.specs.declared.fault.StubFault.{StubFault}

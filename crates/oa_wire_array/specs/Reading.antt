@@ -2,16 +2,17 @@
 use Rattle.std.specs.Prelude.{ℕ, ℤ, ◌+◌, ◌*◌, ◌^◌, ◌==◌, nat_le, pos, Bool, true, false, not, Option, Some, None}
 use Rattle.std.specs.Option.{unwrap_or}
 use Rattle.std.specs.Int.{Width, cast_signed}
-use Rattle.oa_ndr.specs.Reading.{Decoder, ◌>>=◌, give, fail, choose, align_at, unit_at}
-use Rattle.oa_model.specs.Types.{type_at, is_signed_type, element_size_of}
+use Rattle.oa_ndr.specs.promise.Reading.{Decoder, ◌>>=◌, give, fail}
+use Rattle.oa_ndr.specs.Reading.{choose, align_at, unit_at}
+use Rattle.oa_model.specs.promise.Types.{type_at, is_signed_type, element_size_of}
 use Rattle.oa_model.specs.declared.var_type.VarType.{VarType}
 use Rattle.oa_model.specs.declared.var_type.VarType.TheVariants as types
-use Rattle.oa_variant.specs.Decimals.{DecimalValue, zero_decimal}
-use Rattle.oa_variant.specs.Keys.{scalar_of}
+use Rattle.oa_variant.specs.promise.Decimals.{DecimalValue, zero_decimal}
+use Rattle.oa_variant.specs.promise.Keys.{scalar_of}
 use Rattle.oa_variant.specs.declared.scalar.Scalar.{Scalar}
 use Rattle.oa_variant.specs.declared.scalar.Scalar.TheVariants as scalars
 use Rattle.oa_wire_text.specs.Reading.{bstr_at}
-use Rattle.oa_wire_array.specs.Scalars.{width_of}
+use Rattle.oa_wire_array.specs.promise.Scalars.{width_of}
 
 -- Reads a signed number of the width w, in n bytes.
 unfoldable pub signed_at : ℕ → Width → Decoder ℤ

@@ -1,7 +1,8 @@
 //! Decodes arrays.
 
 ghost use Rattle.std.specs.Prelude.{◌≡◌, ◌*◌, ◌≤◌, ◌<◌, true, IfOk, length, nat_le};
-ghost use Rattle.oa_ndr.specs.Reading.{many, map_at, referent_at};
+ghost use Rattle.oa_ndr.specs.promise.Reading.{many};
+ghost use Rattle.oa_ndr.specs.Reading.{map_at, referent_at};
 ghost use Rattle.oa_wire_text.specs.Reading.{ReadsField, OnMemory};
 ghost use Rattle.oa_wire_array.specs.Reading.{arm_at};
 ghost use Rattle.oa_wire_array.specs.Arrays.{IsArrayFront};
@@ -102,7 +103,7 @@ fn variant_cell(alloc: Global, is_set: bool, r: &mut Ndr<'_>) -> Result<Scalar, 
 }
 
 /// Reads the pointee of an element's referent. Errors: `BadStub`, `Memory`.
-#[tactic(auto, unfolding(oa_ndr::specs::Reading::fail, crate::specs::ArrayReading::pointee_at))]
+#[tactic(auto, unfolding(oa_ndr::specs::promise::Reading::fail, crate::specs::ArrayReading::pointee_at))]
 fn pointee(alloc: Global, elem: VarType, is_set: bool, r: &mut Ndr<'_>) -> Result<Scalar, StubFault>
     ensures { ReadsField result r.new (pointee_at elem is_set r.old) }
 {
@@ -167,7 +168,7 @@ fn plain(
 
 /// Reads `count` elements with pointees: first all referents, then the pointees. Errors: `BadStub`,
 /// `Memory`.
-#[tactic(auto, unfolding(oa_ndr::specs::Reading::bind, crate::specs::ArrayReading::pointed_at))]
+#[tactic(auto, unfolding(oa_ndr::specs::promise::Reading::bind, crate::specs::ArrayReading::pointed_at))]
 fn pointed(
     alloc: Global,
     elem: VarType,

@@ -1,15 +1,16 @@
 //! The length of encoded arrays, computed without encoding them.
 
 ghost use Rattle.std.specs.Prelude.{◌≡◌, ◌≤◌, ◌<◌, ◌+◌, ◌*◌, ◌%◌, ◌^◌, All, length, List, ℕ};
-ghost use Rattle.oa_ndr.specs.Forms.{padding};
-ghost use Rattle.oa_ndr.specs.Writing.{put_all};
-ghost use Rattle.oa_variant.specs.Scalars.{text_of, FitsType};
+ghost use Rattle.oa_ndr.specs.promise.Forms.{padding};
+ghost use Rattle.oa_ndr.specs.promise.Writing.{put_all};
+ghost use Rattle.oa_variant.specs.promise.Scalars.{text_of, FitsType};
 ghost use Rattle.std.specs.Option.{IsSome};
 ghost use Rattle.std.specs.Prelude.{false, Some, ◌⊎◌};
-ghost use Rattle.oa_model.specs.Limits.{max_cells};
-ghost use Rattle.oa_model.specs.Types.{sf_type_of, element_size_of};
-ghost use Rattle.oa_wire_array.specs.Canon.{put_arm};
-ghost use Rattle.oa_wire_array.specs.ArrayCanon.{is_pointed, max_wire_cell, max_wire_pointee, put_text, put_pointee, put_elements, put_array};
+ghost use Rattle.oa_model.specs.promise.Limits.{max_cells};
+ghost use Rattle.oa_model.specs.promise.Types.{sf_type_of, element_size_of};
+ghost use Rattle.oa_wire_array.specs.promise.Canon.{put_arm};
+ghost use Rattle.oa_wire_array.specs.ArrayCanon.{is_pointed, max_wire_cell, max_wire_pointee};
+ghost use Rattle.oa_wire_array.specs.promise.ArrayCanon.{put_text, put_pointee, put_elements, put_array};
 
 use crate::scalar::scalar_len;
 use oa_array::SafeArray;

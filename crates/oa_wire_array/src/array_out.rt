@@ -1,22 +1,13 @@
 //! Encodes arrays.
 
 ghost use Rattle.std.specs.Prelude.{◌≡◌, ◌<◌, ◌*◌, OnOk, OnErr};
-ghost use Rattle.oa_ndr.specs.Writing.{TakesNothingBack, in_field, put_all};
-ghost use Rattle.oa_variant.specs.Scalars.{text_of};
-ghost use Rattle.oa_wire_array.specs.Canon.{put_arm};
-ghost use Rattle.oa_wire_array.specs.ArrayCanon.{
-  put_bound,
-  has_pointee,
-  put_text,
-  put_pointee,
-  put_cell_referent,
-  put_pointed,
-  put_elements,
-  features_of,
-  put_shape,
-  put_size,
-  put_array,
-};
+ghost use Rattle.oa_ndr.specs.Writing.{TakesNothingBack, in_field};
+ghost use Rattle.oa_ndr.specs.promise.Writing.{put_all};
+ghost use Rattle.oa_variant.specs.promise.Scalars.{text_of};
+ghost use Rattle.oa_wire_array.specs.promise.Canon.{put_arm};
+ghost use Rattle.oa_wire_array.specs.promise.ArrayCanon.{put_bound, has_pointee, put_text, put_pointee};
+ghost use Rattle.oa_wire_array.specs.promise.ArrayCanon.{put_cell_referent, put_pointed, put_elements, features_of};
+ghost use Rattle.oa_wire_array.specs.promise.ArrayCanon.{put_shape, put_size, put_array};
 
 use crate::scalar::{add_scalar, write_arm};
 use oa_array::SafeArray;
@@ -174,7 +165,7 @@ fn write_size(out: &mut NdrOut, elem: VarType, count: u32) -> Result<(), AllocEr
 
 /// Writes an array as `write_array` does. Err: an allocation fails, and a part of the array may
 /// have been written.
-#[tactic(auto, unfolding(crate::specs::ArrayCanon::put_array))]
+#[tactic(auto, unfolding(crate::specs::promise::ArrayCanon::put_array))]
 fn add_array(out: &mut NdrOut, array: &SafeArray<Scalar>) -> Result<(), AllocError>
     ensures ok { OnOk result (out.new ≡ in_field (put_array array.now) out.old) }
     ensures kept { TakesNothingBack out.old out.new }

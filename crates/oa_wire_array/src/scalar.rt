@@ -3,10 +3,13 @@
 ghost use Rattle.std.specs.Prelude.{◌≡◌, ◌≤◌, ◌<◌, [], OnOk, OnErr, length};
 ghost use Rattle.oa_model.specs.declared.var_type.VarType.TheVariants as types;
 ghost use Rattle.oa_ndr.specs.Writing.{TakesNothingBack, in_field};
-ghost use Rattle.oa_wire_array.specs.Scalars.{scalar, union_of, TakesText};
+ghost use Rattle.oa_wire_array.specs.promise.Scalars.{scalar};
+ghost use Rattle.oa_wire_array.specs.Scalars.{union_of, TakesText};
 ghost use Rattle.oa_wire_text.specs.Reading.{ReadsField, IsFront, OnMemory, from_multiple};
 ghost use Rattle.oa_wire_array.specs.Reading.{sign_at, decimal_at, arm_at, union_at, scalar_at};
-ghost use Rattle.oa_wire_array.specs.Canon.{max_wire_scalar, put_truth, put_decimal, put_arm, put_head, put_sized, put_scalar, scalar_len};
+ghost use Rattle.oa_wire_array.specs.Canon.{max_wire_scalar};
+ghost use Rattle.oa_wire_array.specs.promise.Canon.{put_truth, put_decimal, put_arm, put_head, put_sized, put_scalar};
+ghost use Rattle.oa_wire_array.specs.promise.Canon.{scalar_len};
 
 use oa_model::VarType;
 use oa_ndr::{Ndr, NdrOut};
@@ -112,7 +115,7 @@ pub fn read_union(alloc: Global, vt: u16, r: &mut Ndr<'_>) -> Result<Scalar, Stu
 
 /// Reads a scalar as `read_scalar` does. Errors are those of `read_scalar`, but the reader may have
 /// moved.
-#[tactic(auto, unfolding(oa_ndr::specs::Reading::bind, crate::specs::Reading::scalar_at))]
+#[tactic(auto, unfolding(oa_ndr::specs::promise::Reading::bind, crate::specs::Reading::scalar_at))]
 pub(crate) fn scalar(alloc: Global, r: &mut Ndr<'_>) -> Result<Scalar, StubFault>
     ensures value { ReadsField result r.new (scalar_at r.old) }
     ensures memory { OnMemory result (TakesText (from_multiple 8 r.old)) }
@@ -241,7 +244,7 @@ fn write_sized(out: &mut NdrOut, size: u32, value: &Scalar) -> Result<(), AllocE
 
 /// Returns the number of bytes that `write_scalar` writes at a multiple of 8, from the first of
 /// clSize to the last of the pointee.
-#[tactic(auto, unfolding(crate::specs::Canon::scalar_len))]
+#[tactic(auto, unfolding(crate::specs::promise::Canon::scalar_len))]
 pub fn scalar_len(value: &Scalar) -> usize
     ensures value { result ≡ scalar_len value.now }
     ensures small { result ≤ max_wire_scalar }

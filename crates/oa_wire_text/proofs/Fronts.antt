@@ -1,7 +1,7 @@
 -- The result of a call on a reader, from the theorem about its decoder.
 use Rattle.std.proofs.Common.{◌≡◌, true, false, ◌+◌, ◌++◌, length, List, ℕ, Option, Some, None, Result, Ok, Err, refl, sym, ap, ◌∙◌}
 use Rattle.std.specs.Result.{is_ok}
-use Rattle.oa_ndr.specs.Reading.{Cursor, at, Decoder}
+use Rattle.oa_ndr.specs.promise.Reading.{Cursor, at, Decoder}
 use Rattle.oa_ndr.proofs.Laws.{Reads, Always}
 use Rattle.oa_wire_text.specs.declared.fault.StubFault.{StubFault}
 use Rattle.oa_wire_text.specs.declared.fault.StubFault.TheVariants.{BadStub, Memory}

@@ -1,7 +1,8 @@
 -- Facts that hold after a failed allocation; bytes that have been read are there.
 use Rattle.std.proofs.Common.{◌≡◌, ℕ, ◌+◌, ◌≤◌, Bool, length, Some, Result, Ok, Err, ap, arith}
 use Rattle.std.proofs.lemmas.List.{length-append}
-use Rattle.oa_ndr.specs.Reading.{Cursor, unit_at, referent_at}
+use Rattle.oa_ndr.specs.promise.Reading.{Cursor}
+use Rattle.oa_ndr.specs.Reading.{unit_at, referent_at}
 use Rattle.oa_ndr.proofs.Laws.{unit_reads, referent_reads}
 use Rattle.oa_wire_text.specs.declared.fault.StubFault.{StubFault}
 use Rattle.oa_wire_text.specs.declared.fault.StubFault.TheVariants.{BadStub, Memory}

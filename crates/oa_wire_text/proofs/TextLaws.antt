@@ -2,12 +2,13 @@
 use Rattle.std.proofs.Common.{◌≡◌, ℕ, ◌%◌, ◌≤◌, Bool, true, false, eqb, leb, ◌&&◌, List, [], length, Option, Some, None, refl, sym, ap, ◌∙◌}
 use Rattle.std.proofs.Common.{arith}
 use Rattle.std.proofs.lemmas.Bool.{eqb-true, eqb-false, eq-eqb, le-leb, leb-true, and_parts}
-use Rattle.oa_ndr.specs.Forms.{unit, exactly}
-use Rattle.oa_ndr.specs.Reading.{give, choose}
+use Rattle.oa_ndr.specs.promise.Forms.{unit, exactly}
+use Rattle.oa_ndr.specs.promise.Reading.{give}
+use Rattle.oa_ndr.specs.Reading.{choose}
 use Rattle.oa_ndr.proofs.Laws.{Reads, Always, give_reads, none_reads, fail_reads, choose_reads, unit_reads, bytes_reads, referent_reads}
 use Rattle.oa_ndr.proofs.Laws.{bind_reads, with_reads, any_then, made_reads}
-use Rattle.oa_model.specs.Limits.{max_text_bytes}
-use Rattle.oa_wire_text.specs.Texts.{units, text_len, text_units, text_body, text_bytes, blob, pointee, bstr}
+use Rattle.oa_model.specs.promise.Limits.{max_text_bytes}
+use Rattle.oa_wire_text.specs.promise.Texts.{units, text_len, text_units, text_body, text_bytes, blob, pointee, bstr}
 use Rattle.oa_wire_text.specs.Reading.{body_at, text_at, blob_at, bstr_at}
 
 -- The length of an encoded text is within the limit.

@@ -1,12 +1,13 @@
 -- Decoders as functions on lists, which agree with the forms (the theorems are in proofs/TextLaws).
 use Rattle.std.specs.Prelude.{◌≡◌, ℕ, ◌+◌, ◌%◌, ◌==◌, ◌&&◌, nat_le, List, Option, Some, None, Result, Ok, Err, ◌++◌}
 use Rattle.std.specs.Prelude.{length, drop}
-use Rattle.oa_ndr.specs.Forms.{padding}
-use Rattle.oa_ndr.specs.Reading.{Cursor, Decoder, ◌>>=◌, give, fail, choose, bytes_at, unit_at, referent_at}
-use Rattle.oa_model.specs.Limits.{max_text_bytes}
+use Rattle.oa_ndr.specs.promise.Forms.{padding}
+use Rattle.oa_ndr.specs.promise.Reading.{Cursor, Decoder, ◌>>=◌, give, fail, bytes_at}
+use Rattle.oa_ndr.specs.Reading.{choose, unit_at, referent_at}
+use Rattle.oa_model.specs.promise.Limits.{max_text_bytes}
 use Rattle.oa_wire_text.specs.declared.fault.StubFault.{StubFault}
 use Rattle.oa_wire_text.specs.declared.fault.StubFault.TheVariants.{BadStub, Memory}
-use Rattle.oa_wire_text.specs.Texts.{units}
+use Rattle.oa_wire_text.specs.promise.Texts.{units}
 
 -- A call of the code returns and leaves what the decoder does, unless memory runs out.
 abbrev pub ReadsField : {A : Type 0} → Result A StubFault → Cursor → Option (A × Cursor) → Type 0

@@ -2,9 +2,9 @@
 
 ghost use Rattle.std.specs.Prelude.{◌≡◌, ◌≤◌, ◌<◌, OnOk, OnErr, length};
 ghost use Rattle.oa_ndr.specs.Writing.{TakesNothingBack, in_field};
-ghost use Rattle.oa_wire_text.specs.Texts.{units, blob};
+ghost use Rattle.oa_wire_text.specs.promise.Texts.{units, blob};
 ghost use Rattle.oa_wire_text.specs.Reading.{ReadsField, IsFront, OnMemory, text_at, blob_at, bstr_at};
-ghost use Rattle.oa_wire_text.specs.Canon.{put_blob, put_bstr};
+ghost use Rattle.oa_wire_text.specs.promise.Canon.{put_blob, put_bstr};
 
 use crate::fault::StubFault;
 use oa_bstr::Bstr;

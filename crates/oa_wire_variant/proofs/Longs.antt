@@ -2,7 +2,8 @@
 use Rattle.std.proofs.Common.{◌≡◌, ℕ, zero, suc, List, [], ◌∷◌, length, take, drop, get_or, Some, refl, sym, ap, subst}
 use Rattle.std.specs.Int.{w32, cast_signed}
 use Rattle.byteorder.specs.Endian.{little_number}
-use Rattle.oa_ndr.specs.Reading.{bind, give, choose, bytes_at, align_at, slot_at, unit_at, whole}
+use Rattle.oa_ndr.specs.promise.Reading.{bind, give, bytes_at}
+use Rattle.oa_ndr.specs.Reading.{choose, align_at, slot_at, unit_at, whole}
 use Rattle.oa_variant.specs.declared.scalar.Scalar.TheVariants.{I4}
 use Rattle.oa_variant.specs.declared.variant.Variant.TheVariants.{One}
 use Rattle.oa_wire_array.specs.Reading.{arm_at, arm_of, integer_at, signed_at, union_at}

@@ -4,17 +4,18 @@ use Rattle.std.proofs.Common.{List, [], ◌++◌, length, Result, Ok, Err, Optio
 use Rattle.std.specs.Option.{IsSome}
 use Rattle.std.specs.Result.{IsErrAnd, MatchResult}
 use Rattle.std.proofs.lemmas.Bool.{eqb-true, eq-eqb, ltb-true, ltb-false, and_parts, and_from, or_left, or_right, true≢false}
-use Rattle.oa_ndr.specs.Forms.{unit, referent}
-use Rattle.oa_ndr.specs.Reading.{Cursor, at}
+use Rattle.oa_ndr.specs.promise.Forms.{unit, referent}
+use Rattle.oa_ndr.specs.promise.Reading.{Cursor, at}
 use Rattle.oa_ndr.proofs.Laws.{Reads, Always, made_reads, fail_reads, choose_reads, unit_reads, referent_reads, bind_reads, with_reads}
 use Rattle.oa_ndr.proofs.Laws.{ignored_then, align_then, same_values}
 use Rattle.oa_ndr.proofs.WritingLaws.{Writes, then_writes, with_writes, unit_writes, ignored_writes}
 use Rattle.oa_ndr.proofs.WritingLaws.{align_writes, given_writes, referent_writes}
-use Rattle.oa_model.specs.Types.{vt_of, type_at, sf_type_of}
+use Rattle.oa_model.specs.promise.Types.{vt_of, type_at, sf_type_of}
 use Rattle.oa_model.specs.declared.var_type.VarType.{VarType}
-use Rattle.oa_array.specs.Arrays.{ArrayValue}
-use Rattle.oa_variant.specs.Scalars.{type_of}
-use Rattle.oa_variant.specs.Variants.{IsVariant, unlocked}
+use Rattle.oa_array.specs.promise.Arrays.{ArrayValue}
+use Rattle.oa_variant.specs.promise.Scalars.{type_of}
+use Rattle.oa_variant.specs.Variants.{IsVariant}
+use Rattle.oa_variant.specs.promise.Variants.{unlocked}
 use Rattle.oa_variant.specs.declared.scalar.Scalar.{Scalar}
 use Rattle.oa_variant.specs.declared.variant.Variant.{Variant}
 use Rattle.oa_variant.specs.declared.variant.Variant.TheVariants.{One, Array}
@@ -24,16 +25,17 @@ use Rattle.oa_wire_text.specs.declared.fault.StubFault.{StubFault}
 use Rattle.oa_wire_text.specs.declared.fault.StubFault.TheVariants as faults
 use Rattle.oa_wire_text.specs.Reading.{ReadsField, OnMemory, ReadSpan}
 use Rattle.oa_wire_text.proofs.Memory.{anyhow}
-use Rattle.oa_wire_array.specs.Arrays.{array, IsArrayFront}
+use Rattle.oa_wire_array.specs.promise.Arrays.{array}
+use Rattle.oa_wire_array.specs.Arrays.{IsArrayFront}
 use Rattle.oa_wire_array.specs.ArrayReading.{array_at}
-use Rattle.oa_wire_array.specs.ArrayCanon.{put_array}
+use Rattle.oa_wire_array.specs.promise.ArrayCanon.{put_array}
 use Rattle.oa_wire_array.proofs.ScalarLaws.{union_reads, type_at_vt, vt_from_type_at, same_type}
 use Rattle.oa_wire_array.proofs.ArrayLaws.{array_reads, given_part}
 use Rattle.oa_wire_array.proofs.Written.{scalar_writes, vt_small}
 use Rattle.oa_wire_array.proofs.ArrayWritten.{array_writes}
-use Rattle.oa_wire_variant.specs.Variants.{value_vt, array_union, value_union, variant}
+use Rattle.oa_wire_variant.specs.promise.Variants.{value_vt, array_union, value_union, variant}
 use Rattle.oa_wire_variant.specs.Reading.{scalar_value_at, array_union_at, array_value_at, variant_at}
-use Rattle.oa_wire_variant.specs.Canon.{array_len, put_array_head, put_variant, canon}
+use Rattle.oa_wire_variant.specs.promise.Canon.{array_len, put_array_head, put_variant, canon}
 
 scalar_value_reads : (vt : ℕ) → vt < 8192 → Reads (λ v. value_vt v ≡ vt) value_union (scalar_value_at vt)
 unfolding scalar_value_at

@@ -1,10 +1,11 @@
 -- Decoding a field as a function on lists, which agrees with the forms (the theorem is in proofs/VariantLaws).
 use Rattle.std.specs.Prelude.{◌≡◌, ℕ, ◌-◌, ◌==◌, ◌&&◌, ◌||◌, nat_lt, Option, Some, None, Result, Ok, Err}
-use Rattle.oa_ndr.specs.Reading.{Decoder, ◌>>=◌, give, fail, choose, align_at, unit_at, referent_at}
-use Rattle.oa_model.specs.Invoke.{vt_array}
-use Rattle.oa_model.specs.Types.{type_at}
+use Rattle.oa_ndr.specs.promise.Reading.{Decoder, ◌>>=◌, give, fail}
+use Rattle.oa_ndr.specs.Reading.{choose, align_at, unit_at, referent_at}
+use Rattle.oa_model.specs.promise.Invoke.{vt_array}
+use Rattle.oa_model.specs.promise.Types.{type_at}
 use Rattle.oa_model.specs.declared.var_type.VarType.{VarType}
-use Rattle.oa_array.specs.Arrays.{ArrayValue}
+use Rattle.oa_array.specs.promise.Arrays.{ArrayValue}
 use Rattle.oa_variant.specs.declared.scalar.Scalar.{Scalar}
 use Rattle.oa_variant.specs.declared.variant.Variant.{Variant}
 use Rattle.oa_variant.specs.declared.variant.Variant.TheVariants.{One, Array}

@@ -2,9 +2,10 @@
 
 ghost use Rattle.std.specs.Prelude.{◌≡◌, ℕ, List, [], ◌++◌};
 ghost use Rattle.oa_variant.specs.declared.variant.Variant.{Variant};
-ghost use Rattle.oa_variant.specs.Variants.{IsVariant, unlocked};
-ghost use Rattle.oa_wire_variant.specs.Variants.{Spells};
-ghost use Rattle.oa_wire_variant.specs.Canon.{canon};
+ghost use Rattle.oa_variant.specs.Variants.{IsVariant};
+ghost use Rattle.oa_variant.specs.promise.Variants.{unlocked};
+ghost use Rattle.oa_wire_variant.specs.promise.Variants.{Spells};
+ghost use Rattle.oa_wire_variant.specs.promise.Canon.{canon};
 
 /// No bytes encode two values.
 pub fn one_value()

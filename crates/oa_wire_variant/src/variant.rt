@@ -1,14 +1,15 @@
 //! Decodes and encodes whole fields.
 
 ghost use Rattle.std.specs.Prelude.{◌≡◌, ◌++◌, ◌-◌, ◌<◌, ◌≤◌, ◌^◌, length, IfSome, IsSome, OnOk, OnErr, Some};
-ghost use Rattle.oa_model.specs.Invoke.{vt_array};
-ghost use Rattle.oa_model.specs.Types.{type_at, sf_type_of};
+ghost use Rattle.oa_model.specs.promise.Invoke.{vt_array};
+ghost use Rattle.oa_model.specs.promise.Types.{type_at, sf_type_of};
 ghost use Rattle.oa_ndr.specs.Reading.{whole};
 ghost use Rattle.oa_ndr.specs.Writing.{in_field};
 ghost use Rattle.oa_wire_text.specs.Reading.{ReadsField, OnMemory, from_multiple};
 ghost use Rattle.oa_wire_array.specs.Reading.{union_at};
 ghost use Rattle.oa_wire_array.specs.ArrayReading.{array_at};
-ghost use Rattle.oa_wire_variant.specs.Variants.{ReadsVariant, IsArrayVt, TakesMemory, is_value_type, field_fault};
+ghost use Rattle.oa_wire_variant.specs.Variants.{ReadsVariant, IsArrayVt, TakesMemory};
+ghost use Rattle.oa_wire_variant.specs.promise.Variants.{is_value_type, field_fault};
 ghost use Rattle.oa_wire_variant.specs.Reading.{
   ReadsWholeField,
   scalar_value_at,
@@ -18,7 +19,8 @@ ghost use Rattle.oa_wire_variant.specs.Reading.{
 };
 ghost use Rattle.oa_variant.specs.declared.scalar.Scalar.TheVariants.{I4};
 ghost use Rattle.oa_variant.specs.declared.variant.Variant.TheVariants.{One};
-ghost use Rattle.oa_wire_variant.specs.Canon.{canon, put_variant, put_array_head, put_sized_array, IsArrayLen};
+ghost use Rattle.oa_wire_variant.specs.promise.Canon.{canon, put_variant, put_array_head, put_sized_array};
+ghost use Rattle.oa_wire_variant.specs.Canon.{IsArrayLen};
 
 use byteorder::{ByteOrder, LittleEndian};
 use oa_array::SafeArray;
@@ -207,7 +209,7 @@ fn read_other(alloc: Global, bytes: &[u8]) -> Result<Variant, WireFault>
 
 /// Returns the number of bytes that `write_variant` appends. For an array these are the bytes that
 /// clSize counts.
-#[tactic(auto, unfolding(oa_wire_array::specs::Canon::scalar_len))]
+#[tactic(auto, unfolding(oa_wire_array::specs::promise::Canon::scalar_len))]
 fn measure(value: &Variant) -> usize
     ensures value { result ≡ length (canon value.now) }
     ensures array { IsArrayLen result value.now }

@@ -1,24 +1,25 @@
 -- What a session comes to in the program, whatever it answers.
 use Rattle.std.proofs.Common.{◌≡◌, inr, List, [], ℕ, Result, Ok, Err}
-use Rattle.oa_sema.specs.IsLibrary.{IsLibrary}
+use Rattle.oa_sema.specs.promise.IsLibrary.{IsLibrary}
 use Rattle.oa_commands.specs.Statuses.{of_end, of_session_end}
 use Rattle.oa_commands.specs.declared.fault.Fault.{Fault}
-use Rattle.oa_decision.specs.States.{State}
+use Rattle.oa_decision.specs.promise.States.{State}
 use Rattle.oa_disk.specs.After.{BeginsHonest}
 use Rattle.oa_disk.specs.declared.disk.Disk.{Ghosts}
 use Rattle.oa_frame.specs.Beginnings.{AreUnbroken}
-use Rattle.oa_frame.specs.Framings.{Frames}
+use Rattle.oa_frame.specs.promise.Framings.{Frames}
 use Rattle.oa_frame.specs.declared.session.Served.{Served}
-use Rattle.oa_idl.specs.Trees.{TreeValue}
-use Rattle.oa_server.specs.Openings.{IsOpened}
-use Rattle.oa_server.specs.SharedSessions.{IsSharedSession}
-use Rattle.oa_server.specs.Storages.{InMemory, OverStore, bank_bytes_of}
+use Rattle.oa_idl.specs.promise.Trees.{TreeValue}
+use Rattle.oa_server.specs.promise.ServerMachine.{IsOpened}
+use Rattle.oa_server.specs.promise.SharedSessions.{IsSharedSession}
+use Rattle.oa_server.specs.Storages.{InMemory, bank_bytes_of}
+use Rattle.oa_server.specs.promise.Storages.{OverStore}
 use Rattle.oa_server.specs.Talks.{HasTalkedInMemory, IsStoreSession}
 use Rattle.oa_server.specs.declared.engine.ServerState.{ServerState}
 use Rattle.oa_server.specs.declared.storage.Storage.{Storage}
 use Rattle.oa_mux.specs.declared.session_end.SessionEnd.{SessionEnd}
-use Rattle.oa_stream.specs.Sink.{Output}
-use Rattle.oa_stream.specs.Source.{Input}
+use Rattle.oa_stream.specs.promise.Sink.{Output}
+use Rattle.oa_stream.specs.promise.Source.{Input}
 use Rattle.oaut.specs.Sessions.{Commands, OpensStore, RanOverStreams, ServesClient, ServesManyClients, Streams}
 
 pub over : {R W : Type 0} (input : R → Input) (output : W → Output) (holds : Streams) (reader reader' : R) (writer writer' : W)

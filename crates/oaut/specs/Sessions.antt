@@ -1,28 +1,29 @@
 -- The sessions of the program over standard input and output, of one client and of many. (This project's choice.)
 use Rattle.std.specs.Prelude.{◌≡◌, ◌⊎◌, ℕ, Bool, true, false, List, [], Result, Ok, Err, max, min}
-use Rattle.oa_sema.specs.IsLibrary.{IsLibrary}
+use Rattle.oa_sema.specs.promise.IsLibrary.{IsLibrary}
 use Rattle.oa_commands.specs.Statuses.{IsOfLibrary, IsOfTaking, of_end, of_open, of_session_end}
 use Rattle.oa_commands.specs.declared.fault.Fault.{Fault}
 use Rattle.oa_commands.specs.declared.fault.Fault.TheVariants as faults
-use Rattle.oa_decision.specs.States.{State}
+use Rattle.oa_decision.specs.promise.States.{State}
 use Rattle.oa_disk.specs.After.{BeginsHonest}
 use Rattle.oa_disk.specs.declared.disk.Disk.{Ghosts}
 use Rattle.oa_frame.specs.Beginnings.{AreUnbroken}
-use Rattle.oa_frame.specs.Framings.{Frames, hex_lines, records}
+use Rattle.oa_frame.specs.promise.Framings.{Frames, hex_lines, records}
 use Rattle.oa_frame.specs.declared.session.Served.{Served}
-use Rattle.oa_idl.specs.Trees.{TreeValue}
+use Rattle.oa_idl.specs.promise.Trees.{TreeValue}
 use Rattle.oa_journal.specs.Shapes.{default_bank_bytes}
 use Rattle.oa_model.specs.Limits.{max_group}
-use Rattle.oa_server.specs.Openings.{IsOpened}
-use Rattle.oa_server.specs.SharedSessions.{IsSharedSession}
-use Rattle.oa_server.specs.Storages.{InMemory, OverStore, bank_bytes_of}
+use Rattle.oa_server.specs.promise.ServerMachine.{IsOpened}
+use Rattle.oa_server.specs.promise.SharedSessions.{IsSharedSession}
+use Rattle.oa_server.specs.Storages.{InMemory, bank_bytes_of}
+use Rattle.oa_server.specs.promise.Storages.{OverStore}
 use Rattle.oa_server.specs.Talks.{HasTalkedInMemory, IsStoreSession}
 use Rattle.oa_server.specs.declared.engine.ServerState.{ServerState}
 use Rattle.oa_server.specs.declared.storage.Storage.{Storage}
 use Rattle.oa_mux.specs.declared.session_end.SessionEnd.{SessionEnd}
 use Rattle.oa_store.specs.declared.fault.OpenFault.{OpenFault}
-use Rattle.oa_stream.specs.Sink.{Output}
-use Rattle.oa_stream.specs.Source.{Input}
+use Rattle.oa_stream.specs.promise.Sink.{Output}
+use Rattle.oa_stream.specs.promise.Source.{Input}
 use Rattle.oa_table.specs.Tables.{first_table}
 
 -- ---- over a reader and a writer

@@ -1,9 +1,9 @@
 //! The array in a cell.
 ghost use Rattle.std.specs.Prelude.{◌≡◌, None, Err, ℤ, List};
 ghost use Rattle.std.specs.Result.{result_map_both};
-ghost use Rattle.oa_decision.specs.ArrayCells.{array_element_at, array_in_value, array_locks, element_of, element_type_at};
-ghost use Rattle.oa_decision.specs.ArrayCells.{element_type_of, locks_found};
-ghost use Rattle.oa_variant.specs.Variants.{zero_value};
+ghost use Rattle.oa_decision.specs.promise.ArrayCells.{array_element_at, array_in_value, array_locks, element_of};
+ghost use Rattle.oa_decision.specs.promise.ArrayCells.{element_type_at, element_type_of, locks_found};
+ghost use Rattle.oa_variant.specs.promise.Variants.{zero_value};
 
 use super::Decider;
 use super::cell::BoundCell;

@@ -1,12 +1,13 @@
 //! The cell of a property that a call names.
 ghost use Rattle.std.specs.Prelude.{◌≡◌, ◌≤◌, length, IfOk, Ok, Some};
 ghost use Rattle.oa_model.specs.Limits.{max_key_scalars};
-ghost use Rattle.oa_bind.specs.Bindings.{BindingTakesMemory, bound_to};
-ghost use Rattle.oa_decision.specs.Cells.{FindingTakesMemory, FindsDue, bound_as, call_found, cell_called, member_found};
-ghost use Rattle.oa_decision.specs.Interfaces.{interface_found};
-ghost use Rattle.oa_table.specs.Tables.{object_at};
+ghost use Rattle.oa_bind.specs.promise.Bindings.{BindingTakesMemory, bound_to};
+ghost use Rattle.oa_decision.specs.promise.Cells.{FindingTakesMemory, bound_as, call_found, cell_called, member_found};
+ghost use Rattle.oa_decision.specs.Cells.{FindsDue};
+ghost use Rattle.oa_decision.specs.promise.Interfaces.{interface_found};
+ghost use Rattle.oa_table.specs.promise.Tables.{object_at};
 ghost use Rattle.oa_typelib.specs.Bindable.{IsBindable};
-ghost use Rattle.oa_typelib.specs.Members.{member_in};
+ghost use Rattle.oa_typelib.specs.promise.Members.{member_in};
 ghost use Rattle.oa_variant.specs.Variants.{HasZero};
 
 use super::Decider;
@@ -37,7 +38,7 @@ impl Decider<'_> {
     ///
     /// Errors: `OutOfMemory`; and `Refused`, in this order: for the object, its interface and riid;
     /// for the member, if it does not have the form that `access` requires; for the arguments.
-    #[tactic(auto, unfolding(crate::specs::Cells::cell_called))]
+    #[tactic(auto, unfolding(crate::specs::promise::Cells::cell_called))]
     pub(super) fn find_cell(&self, call: Call, access: Access) -> Result<BoundCell, DecideError>
         ensures cell { FindsDue (cell_called self.now call access) (FindingTakesMemory self.now call access) result }
         ensures zero { IfOk result (λ cell. HasZero cell.declared) }
@@ -48,7 +49,7 @@ impl Decider<'_> {
 
     /// Finds the cell that a call addresses, for an object that was found. Errors are the later
     /// ones of `find_cell`.
-    #[tactic(auto, unfolding(crate::specs::Cells::cell_called))]
+    #[tactic(auto, unfolding(crate::specs::promise::Cells::cell_called))]
     pub(super) fn find_cell_of(
         &self,
         object: &LiveObject,
@@ -66,7 +67,7 @@ impl Decider<'_> {
 
     /// Finds the cell that a call addresses, for an interface that was found. Errors: `Refused` for
     /// the member or the arguments; `OutOfMemory`.
-    #[tactic(auto, unfolding(crate::specs::Cells::cell_called))]
+    #[tactic(auto, unfolding(crate::specs::promise::Cells::cell_called))]
     fn find_cell_in(
         &self,
         interface: &Dispinterface<'_>,

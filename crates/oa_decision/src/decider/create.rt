@@ -1,8 +1,8 @@
 //! CREATE.
 ghost use Rattle.std.specs.Prelude.{◌≡◌, IfOk, IsOk};
-ghost use Rattle.oa_decision.specs.Create.{class_found, creation, fitting};
+ghost use Rattle.oa_decision.specs.promise.Create.{class_found, creation, fitting};
 ghost use Rattle.oa_decision.specs.Decisions.{ChangesNoLocks, Decides};
-ghost use Rattle.oa_decision.specs.Limits.{allowed};
+ghost use Rattle.oa_decision.specs.promise.Limits.{allowed};
 
 use super::Decider;
 use crate::decision::{DecideError, Decision};

@@ -1,10 +1,10 @@
 //! GETELEM.
 ghost use Rattle.std.specs.Prelude.{◌≡◌, ◌⊎◌, IfOk, IsOk};
 ghost use Rattle.std.specs.Result.{result_map_both};
-ghost use Rattle.oa_decision.specs.ArrayCells.{element_in};
-ghost use Rattle.oa_decision.specs.Cells.{FindingTakesMemory};
+ghost use Rattle.oa_decision.specs.promise.ArrayCells.{element_in};
+ghost use Rattle.oa_decision.specs.promise.Cells.{FindingTakesMemory};
 ghost use Rattle.oa_decision.specs.Decisions.{ChangesNoLocks, Decides};
-ghost use Rattle.oa_decision.specs.GetElement.{element_got, reading};
+ghost use Rattle.oa_decision.specs.promise.GetElement.{element_got, reading};
 ghost use Rattle.oa_typelib.specs.declared.access.Access.TheVariants.{Get};
 
 use super::Decider;

@@ -1,8 +1,8 @@
 //! The interface of an object that a call addresses.
 ghost use Rattle.std.specs.Prelude.{◌≡◌, ℕ, IfErr, IfOk, None, Some};
-ghost use Rattle.oa_model.specs.Codes.{rpc_e_disconnected};
-ghost use Rattle.oa_decision.specs.Interfaces.{interface_found};
-ghost use Rattle.oa_table.specs.Tables.{object_at};
+ghost use Rattle.oa_model.specs.promise.Codes.{rpc_e_disconnected};
+ghost use Rattle.oa_decision.specs.promise.Interfaces.{interface_found};
+ghost use Rattle.oa_table.specs.promise.Tables.{object_at};
 
 use super::Decider;
 use crate::refusal::Refusal;
@@ -27,7 +27,7 @@ impl Decider<'_> {
 
     /// Returns the interface that a call addresses, of the object with this number. Errors, in this
     /// order: RPC_E_DISCONNECTED, and those of `find_interface_of`.
-    #[tactic(auto, unfolding(crate::specs::Interfaces::interface_found))]
+    #[tactic(auto, unfolding(crate::specs::promise::Interfaces::interface_found))]
     pub(super) fn find_interface(
         &self,
         number: u32,
@@ -44,7 +44,7 @@ impl Decider<'_> {
     /// E_NOINTERFACE if its coclass has no such interface; then DISP_E_UNKNOWNINTERFACE if `riid`
     /// is not zero.
     #[inline(always)]
-    #[tactic(auto, unfolding(crate::specs::Interfaces::interface_found))]
+    #[tactic(auto, unfolding(crate::specs::promise::Interfaces::interface_found))]
     pub(super) fn find_interface_of(
         &self,
         object: &LiveObject,

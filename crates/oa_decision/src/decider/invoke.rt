@@ -1,9 +1,9 @@
 //! INVOKE.
 ghost use Rattle.std.specs.Prelude.{◌≡◌, ◌⊎◌, ⊤, IfOk, IsOk, Ok, Some};
-ghost use Rattle.oa_decision.specs.Cells.{FindingTakesMemory};
+ghost use Rattle.oa_decision.specs.promise.Cells.{FindingTakesMemory};
 ghost use Rattle.oa_decision.specs.Decisions.{ChangesNoLocks, Decides};
-ghost use Rattle.oa_decision.specs.Invoke.{cell_decided, invocation, reply_value};
-ghost use Rattle.oa_table.specs.Tables.{object_at};
+ghost use Rattle.oa_decision.specs.promise.Invoke.{cell_decided, invocation, reply_value};
+ghost use Rattle.oa_table.specs.promise.Tables.{object_at};
 ghost use Rattle.oa_typelib.specs.declared.access.Access.TheVariants.{Flags};
 ghost use Rattle.oa_variant.specs.Variants.{HasZero};
 

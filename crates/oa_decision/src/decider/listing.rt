@@ -1,7 +1,7 @@
 //! LIST.
 ghost use Rattle.std.specs.Prelude.{◌≡◌, ◌+◌, ◌*◌, ◌++◌, length, IfOk, OnOk};
 ghost use Rattle.std.specs.List.{flat_map};
-ghost use Rattle.oa_decision.specs.Listing.{entry_of, objects_field};
+ghost use Rattle.oa_decision.specs.promise.Listing.{entry_of, objects_field};
 
 use super::Decider;
 use crate::fields::Fields;

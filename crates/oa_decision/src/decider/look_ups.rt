@@ -1,8 +1,8 @@
 //! GETIDS.
 ghost use Rattle.std.specs.Prelude.{◌≤◌, length, ⊤, IfOk, IsOk, Ok};
-ghost use Rattle.oa_model.specs.Limits.{max_names};
+ghost use Rattle.oa_model.specs.promise.Limits.{max_names};
 ghost use Rattle.oa_decision.specs.Decisions.{ChangesNoLocks, Decides};
-ghost use Rattle.oa_decision.specs.LookUps.{ids_answer, look_up};
+ghost use Rattle.oa_decision.specs.promise.LookUps.{ids_answer, look_up};
 
 use super::Decider;
 use crate::decision::{DecideError, Decision};
@@ -13,7 +13,7 @@ use oa_typelib::DispIds;
 
 impl Decider<'_> {
     /// Decides a look-up of names. Errors: `Refused` for the interface or the names; `OutOfMemory`.
-    #[tactic(auto, unfolding(crate::specs::LookUps::ids_found))]
+    #[tactic(auto, unfolding(crate::specs::promise::LookUps::ids_found))]
     pub(super) fn look_up(&self, call: GetIds) -> Result<Decision, DecideError>
         ensures decided { Decides (look_up self.now call) (IsOk (look_up self.now call)) result }
         ensures unlocked { IfOk result ChangesNoLocks }

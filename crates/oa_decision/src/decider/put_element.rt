@@ -1,9 +1,9 @@
 //! PUTELEM.
 ghost use Rattle.std.specs.Prelude.{◌≡◌, IfOk};
-ghost use Rattle.oa_decision.specs.ArrayCells.{as_element, element_type_in};
-ghost use Rattle.oa_decision.specs.Cells.{FindingTakesMemory};
+ghost use Rattle.oa_decision.specs.promise.ArrayCells.{as_element, element_type_in};
+ghost use Rattle.oa_decision.specs.promise.Cells.{FindingTakesMemory};
 ghost use Rattle.oa_decision.specs.Decisions.{ChangesNoLocks, Decides};
-ghost use Rattle.oa_decision.specs.PutElement.{element_for, element_put};
+ghost use Rattle.oa_decision.specs.promise.PutElement.{element_for, element_put};
 ghost use Rattle.oa_typelib.specs.declared.access.Access.TheVariants.{Put};
 
 use super::Decider;

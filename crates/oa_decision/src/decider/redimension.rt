@@ -1,9 +1,10 @@
 //! REDIM.
 ghost use Rattle.std.specs.Prelude.{◌≡◌, ◌⊎◌, ⊤, IfOk};
-ghost use Rattle.oa_decision.specs.Cells.{FindingTakesMemory, FindsDue};
+ghost use Rattle.oa_decision.specs.promise.Cells.{FindingTakesMemory};
+ghost use Rattle.oa_decision.specs.Cells.{FindsDue};
 ghost use Rattle.oa_decision.specs.Decisions.{ChangesNoLocks, Decides};
-ghost use Rattle.oa_decision.specs.Redimension.{IsOfNeverPut, redimension, zero_with};
-ghost use Rattle.oa_table.specs.Elements.{locks_of};
+ghost use Rattle.oa_decision.specs.promise.Redimension.{IsOfNeverPut, redimension, zero_with};
+ghost use Rattle.oa_table.specs.promise.Elements.{locks_of};
 ghost use Rattle.oa_typelib.specs.declared.access.Access.TheVariants.{Put};
 ghost use Rattle.oa_variant.specs.Variants.{HasZero};
 

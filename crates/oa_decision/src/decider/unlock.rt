@@ -1,8 +1,8 @@
 //! UNLOCK.
 ghost use Rattle.std.specs.Prelude.{◌⊎◌, IfOk, IsOk};
-ghost use Rattle.oa_decision.specs.Cells.{FindingTakesMemory};
+ghost use Rattle.oa_decision.specs.promise.Cells.{FindingTakesMemory};
 ghost use Rattle.oa_decision.specs.Decisions.{ChangesNoLocks, Decides};
-ghost use Rattle.oa_decision.specs.Unlock.{unlocking};
+ghost use Rattle.oa_decision.specs.promise.Unlock.{unlocking};
 ghost use Rattle.oa_typelib.specs.declared.access.Access.TheVariants.{Get};
 
 use super::Decider;

@@ -1,15 +1,15 @@
 //! The fast path of an INVOKE without arguments except a put's new value, on a property without
 //! parameters.
 ghost use Rattle.std.specs.Prelude.{◌≡◌, IfSome, Some};
-ghost use Rattle.oa_sema.specs.Declarations.{kind_of_property};
-ghost use Rattle.oa_coerce.specs.Answers.{coerced};
+ghost use Rattle.oa_sema.specs.promise.Declarations.{kind_of_property};
+ghost use Rattle.oa_coerce.specs.promise.Answers.{coerced};
 ghost use Rattle.oa_record.specs.ValueCalls.{bringing};
 ghost use Rattle.oa_record.specs.declared.opcode.ByCall.TheVariants.{Invoke};
 ghost use Rattle.oa_record.specs.declared.request.Request.TheVariants.{ByCall};
-ghost use Rattle.oa_table.specs.Tables.{object_at};
+ghost use Rattle.oa_table.specs.promise.Tables.{object_at};
 ghost use Rattle.oa_decision.specs.Cells.{IsKeyless};
 ghost use Rattle.oa_decision.specs.ValuePlans.{PlansGet, PlansPut, PlansValue, keyless_cell};
-ghost use Rattle.oa_typelib.specs.Members.{lets};
+ghost use Rattle.oa_typelib.specs.promise.Members.{lets};
 ghost use Rattle.oa_variant.specs.Variants.{HasZero};
 
 use super::Decider;

@@ -1,10 +1,11 @@
 //! Which lock a request changes, and releasing locks without a request.
 ghost use Rattle.std.specs.Prelude.{◌≡◌, ◌⊎◌, true, Some, None, Ok};
 ghost use Rattle.oa_decision.specs.declared.decision.LockChange.TheVariants.{Unlock as AnUnlock};
-ghost use Rattle.oa_record.specs.Replacement.{is_replacement};
-ghost use Rattle.oa_turn.specs.Locking.{FindsLock, FindsLockBy, asks_lock, changes_lock, is_lock};
-ghost use Rattle.oa_turn.specs.Plans.{HoldsSame};
-ghost use Rattle.oa_turn.specs.Steps.{after_locks};
+ghost use Rattle.oa_record.specs.promise.Replacement.{is_replacement};
+ghost use Rattle.oa_turn.specs.Locking.{FindsLock, FindsLockBy, asks_lock};
+ghost use Rattle.oa_turn.specs.promise.Locking.{changes_lock, is_lock};
+ghost use Rattle.oa_turn.specs.promise.Plans.{HoldsSame};
+ghost use Rattle.oa_turn.specs.promise.Steps.{after_locks};
 
 use super::Machine;
 use crate::changes::take_lock_back;

@@ -1,8 +1,8 @@
 //! REPLACE LIBRARY.
 ghost use Rattle.std.specs.Prelude.{◌≡◌, true};
-ghost use Rattle.oa_record.specs.Replacement.{is_replacement};
+ghost use Rattle.oa_record.specs.promise.Replacement.{is_replacement};
 ghost use Rattle.oa_turn.specs.ReplacementPlans.{IsLibraryOf, RefusesLoss, PlansReplacement, text_code};
-ghost use Rattle.oa_turn.specs.Turns.{Turn};
+ghost use Rattle.oa_turn.specs.promise.Turns.{Turn};
 
 use super::Machine;
 use oa_compat::{Incompatibility, TextError, keeps, read_library};

@@ -1,7 +1,7 @@
 use Rattle.std.proofs.Common.{◌≡◌, drop}
 use Rattle.oa_bind.specs.Given.{given_call}
-use Rattle.oa_bind.specs.Names.{lacks}
-use Rattle.oa_bind.specs.Refusals.{any_at}
+use Rattle.oa_bind.specs.promise.Names.{lacks}
+use Rattle.oa_bind.specs.promise.Refusals.{any_at}
 use Rattle.oa_bind.proofs.names.any_lacks.Given as goal
 
 abbrev pub invariant-parameters : goal.invariant-parameters

@@ -1,6 +1,6 @@
 use Rattle.std.proofs.Common.{◌≡◌, drop}
 use Rattle.std.specs.List.{position_from}
-use Rattle.oa_bind.specs.Names.{names_none}
+use Rattle.oa_bind.specs.promise.Names.{names_none}
 use Rattle.oa_bind.proofs.names.first_unknown.Given as goal
 
 abbrev pub invariant-named : goal.invariant-named

@@ -1,7 +1,7 @@
 use Rattle.std.proofs.Common.{◌≡◌, drop, length}
-use Rattle.oa_bind.specs.Bindings.{parameter_value}
+use Rattle.oa_bind.specs.promise.Bindings.{parameter_value}
 use Rattle.oa_bind.specs.Given.{Stay, given_call}
-use Rattle.oa_bind.specs.Refusals.{each_at}
+use Rattle.oa_bind.specs.promise.Refusals.{each_at}
 use Rattle.oa_bind.proofs.Each.{with_front}
 use Rattle.oa_bind.proofs.values.key.Given as goal
 

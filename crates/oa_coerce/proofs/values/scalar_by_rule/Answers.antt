@@ -1,11 +1,12 @@
 use Rattle.std.proofs.Common.{◌≡◌, ap, sym, refl, ◌∙◌, subst, subst₂, SFits, rules}
 use Rattle.std.specs.Int.{w128}
 use Rattle.std.proofs.lemmas.Int.{to_z-of_z}
-use Rattle.oa_variant.specs.Keys.{key_number}
-use Rattle.oa_variant.specs.Scalars.{type_of, IsScalar}
+use Rattle.oa_variant.specs.promise.Keys.{key_number}
+use Rattle.oa_variant.specs.promise.Scalars.{type_of}
+use Rattle.oa_variant.specs.Scalars.{IsScalar}
 use Rattle.oa_variant.specs.declared.scalar.Scalar.{Scalar}
 use Rattle.oa_coerce.specs.Numbers.{IsNearest}
-use Rattle.oa_coerce.specs.Coercions.{rule_for}
+use Rattle.oa_coerce.specs.promise.Coercions.{rule_for}
 use Rattle.oa_coerce.specs.declared.rule.Rule.TheVariants.{Nearest}
 use Rattle.oa_coerce.proofs.Lifted.{none_in_range}
 use Rattle.oa_coerce.proofs.values.scalar_by_rule.Goals as goal

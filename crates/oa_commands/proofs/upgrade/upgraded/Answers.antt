@@ -1,6 +1,6 @@
 use Rattle.std.proofs.Common.{◌∙◌, ℕ, sym, subst}
 use Rattle.oa_journal.specs.declared.shape.BankFormat.TheVariants.{Two}
-use Rattle.oa_store.specs.Stores.{IsStoreIn}
+use Rattle.oa_store.specs.promise.Stores.{IsStoreIn}
 use Rattle.oa_store.proofs.Longer.{held_longer, held_still}
 use Rattle.oa_commands.proofs.upgrade.upgraded.Goals as goal
 

@@ -1,7 +1,7 @@
 use Rattle.std.proofs.Common.{◌≡◌, ℕ}
 use Rattle.std.specs.List.{list_all}
-use Rattle.oa_table.specs.Tables.{ObjectValue}
-use Rattle.oa_compat.specs.Fits.{fits, object_fits}
+use Rattle.oa_table.specs.promise.Tables.{ObjectValue}
+use Rattle.oa_compat.specs.promise.Fits.{fits, object_fits}
 use Rattle.oa_compat.proofs.fitting.fits.Given as goal
 
 abbrev pub invariant-objects : goal.invariant-objects

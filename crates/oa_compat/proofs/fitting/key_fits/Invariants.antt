@@ -1,5 +1,5 @@
 use Rattle.std.proofs.Common.{◌≡◌, length}
-use Rattle.oa_compat.specs.Fits.{key_fits}
+use Rattle.oa_compat.specs.promise.Fits.{key_fits}
 use Rattle.oa_compat.proofs.fitting.key_fits.Given as goal
 
 abbrev pub invariant-values : goal.invariant-values

@@ -1,5 +1,5 @@
 use Rattle.std.proofs.Common.{ap, sym, ◌∙◌}
-use Rattle.oa_sema.specs.Libraries.{marked}
+use Rattle.oa_sema.specs.promise.Libraries.{marked}
 use Rattle.oa_compat.proofs.laws.one_library.Goals as goal
 
 pub returns : goal.returns

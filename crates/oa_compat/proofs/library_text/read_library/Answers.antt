@@ -1,7 +1,8 @@
 use Rattle.std.proofs.Common.{List, ℕ, Err, subst}
 use Rattle.std.proofs.lemmas.Result.{err_from_is_err_and}
-use Rattle.oa_idl.specs.IsTree.{AnswersText, AnswersTree, IsTree}
-use Rattle.oa_idl.specs.Trees.{TreeValue}
+use Rattle.oa_idl.specs.IsTree.{AnswersText, AnswersTree}
+use Rattle.oa_idl.specs.promise.IsTree.{IsTree}
+use Rattle.oa_idl.specs.promise.Trees.{TreeValue}
 use Rattle.oa_compat.proofs.TextReads.{made_read, parse_read}
 use Rattle.oa_compat.proofs.library_text.read_library.Goals as goal
 

@@ -1,7 +1,7 @@
 use Rattle.std.proofs.Common.{Option, ℕ, slice_get, ap, sym, ◌∙◌}
 use Rattle.std.specs.Option.{option_and_then, option_map}
-use Rattle.oa_idl.specs.Values.{InterfaceValue}
-use Rattle.oa_sema.specs.Libraries.{as_interface}
+use Rattle.oa_idl.specs.promise.Values.{InterfaceValue}
+use Rattle.oa_sema.specs.promise.Libraries.{as_interface}
 use Rattle.oa_compat.proofs.lost.default_before.Goals as goal
 use Rattle.oa_compat.proofs.Searches as searches
 

@@ -1,9 +1,9 @@
 use Rattle.std.proofs.Common.{◌<◌, ◌≤◌, List, length, sym, subst, ◌∙◌}
 use Rattle.oa_idl.specs.declared.items.Item.{Item}
-use Rattle.oa_typelib.specs.Descriptions.{classes_of}
-use Rattle.oa_compat.specs.Keeps.{lost_class}
-use Rattle.oa_sema.specs.Libraries.{as_class}
-use Rattle.oa_sema.specs.Repeats.{first_answer}
+use Rattle.oa_typelib.specs.promise.Descriptions.{classes_of}
+use Rattle.oa_compat.specs.promise.Keeps.{lost_class}
+use Rattle.oa_sema.specs.promise.Libraries.{as_class}
+use Rattle.oa_sema.specs.promise.Repeats.{first_answer}
 use Rattle.oa_compat.proofs.Searches.{here_found, here_on, here_done}
 use Rattle.oa_compat.proofs.lost.first_class.Goals as goal
 

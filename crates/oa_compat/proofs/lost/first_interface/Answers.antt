@@ -1,10 +1,10 @@
 use Rattle.std.proofs.Common.{◌<◌, ◌≤◌, List, length, ap, sym, subst, ◌∙◌}
 use Rattle.std.specs.Option.{option_and_then}
 use Rattle.oa_idl.specs.declared.items.Item.{Item}
-use Rattle.oa_typelib.specs.Descriptions.{interfaces_of}
-use Rattle.oa_compat.specs.Keeps.{lost_interface}
-use Rattle.oa_sema.specs.Libraries.{as_interface}
-use Rattle.oa_sema.specs.Repeats.{first_answer}
+use Rattle.oa_typelib.specs.promise.Descriptions.{interfaces_of}
+use Rattle.oa_compat.specs.promise.Keeps.{lost_interface}
+use Rattle.oa_sema.specs.promise.Libraries.{as_interface}
+use Rattle.oa_sema.specs.promise.Repeats.{first_answer}
 use Rattle.oa_compat.proofs.Searches.{here_found, here_on, here_done}
 use Rattle.oa_compat.proofs.lost.first_interface.Goals as goal
 

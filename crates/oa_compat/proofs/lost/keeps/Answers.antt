@@ -1,7 +1,7 @@
 use Rattle.std.proofs.Common.{refl, sym, ◌∙◌}
-use Rattle.oa_typelib.specs.Descriptions.{classes_of, interfaces_of}
-use Rattle.oa_compat.specs.Keeps.{first_lost, lost_class, lost_interface}
-use Rattle.oa_sema.specs.Repeats.{first_answer}
+use Rattle.oa_typelib.specs.promise.Descriptions.{classes_of, interfaces_of}
+use Rattle.oa_compat.specs.promise.Keeps.{first_lost, lost_class, lost_interface}
+use Rattle.oa_sema.specs.promise.Repeats.{first_answer}
 use Rattle.oa_compat.proofs.Losses.{all_kept, keeps_all}
 use Rattle.oa_compat.proofs.Searches.{answered_here, answered_later}
 use Rattle.oa_compat.proofs.lost.keeps.Goals as goal

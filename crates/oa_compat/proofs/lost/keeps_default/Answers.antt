@@ -1,9 +1,9 @@
 use Rattle.std.proofs.Common.{List, ℕ, Option, ap, ◌∙◌}
 use Rattle.std.specs.Option.{option_and_then, option_eq, option_map}
-use Rattle.oa_idl.specs.Values.{InterfaceValue}
+use Rattle.oa_idl.specs.promise.Values.{InterfaceValue}
 use Rattle.oa_idl.specs.declared.items.Item.{Item}
-use Rattle.oa_compat.specs.Keeps.{default_guid}
-use Rattle.oa_sema.specs.Libraries.{as_class, class_of, default_interface, same}
+use Rattle.oa_compat.specs.promise.Keeps.{default_guid}
+use Rattle.oa_sema.specs.promise.Libraries.{as_class, class_of, default_interface, same}
 use Rattle.oa_compat.proofs.Searches.{default_now}
 use Rattle.oa_compat.proofs.lost.keeps_default.Goals as goal
 

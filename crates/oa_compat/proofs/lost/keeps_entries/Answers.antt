@@ -1,7 +1,7 @@
 use Rattle.std.proofs.Common.{◌<◌, List, length, subst}
 use Rattle.oa_idl.specs.declared.items.Item.{Item}
-use Rattle.oa_compat.specs.Keeps.{keeps_entries, keeps_entry}
-use Rattle.oa_sema.specs.Libraries.{as_interface}
+use Rattle.oa_compat.specs.promise.Keeps.{keeps_entries, keeps_entry}
+use Rattle.oa_sema.specs.promise.Libraries.{as_interface}
 use Rattle.oa_compat.proofs.Searches.{all_fail, all_on}
 use Rattle.oa_compat.proofs.lost.keeps_entries.Goals as goal
 

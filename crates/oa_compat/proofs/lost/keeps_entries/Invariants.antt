@@ -1,7 +1,7 @@
 use Rattle.std.proofs.Common.{◌≡◌, drop}
 use Rattle.std.specs.List.{list_all}
-use Rattle.oa_typelib.specs.Descriptions.{interfaces_of}
-use Rattle.oa_compat.specs.Keeps.{keeps_entries, keeps_entry}
+use Rattle.oa_typelib.specs.promise.Descriptions.{interfaces_of}
+use Rattle.oa_compat.specs.promise.Keeps.{keeps_entries, keeps_entry}
 use Rattle.oa_compat.proofs.lost.keeps_entries.Given as goal
 
 abbrev pub invariant-items : goal.invariant-items

@@ -1,7 +1,7 @@
 use Rattle.std.proofs.Common.{get_or, sym, ◌∙◌}
 use Rattle.std.proofs.lemmas.List.{get_or_default}
 use Rattle.oa_compat.specs.Keeps.{lost_form}
-use Rattle.oa_sema.specs.Repeats.{first_answer}
+use Rattle.oa_sema.specs.promise.Repeats.{first_answer}
 use Rattle.oa_compat.proofs.Searches.{each_found, each_on, each_done}
 use Rattle.oa_compat.proofs.lost.lost_at.Goals as goal
 

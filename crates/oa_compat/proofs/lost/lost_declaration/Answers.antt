@@ -1,9 +1,9 @@
 use Rattle.std.proofs.Common.{◌≡◌, ℤ, rules, ap, ◌∙◌, Some}
 use Rattle.std.proofs.Math.Facts.{to_z-of_z}
 use Rattle.std.specs.List.{list_any}
-use Rattle.oa_sema.specs.DeclarationValues.{DeclarationValue}
-use Rattle.oa_compat.specs.Keeps.{is_kept_by}
-use Rattle.oa_typelib.specs.Members.{forms_with}
+use Rattle.oa_sema.specs.promise.DeclarationValues.{DeclarationValue}
+use Rattle.oa_compat.specs.promise.Keeps.{is_kept_by}
+use Rattle.oa_typelib.specs.promise.Members.{forms_with}
 use Rattle.oa_compat.proofs.Searches.{among_forms, kept_none, lost_some}
 use Rattle.oa_compat.proofs.lost.lost_declaration.Goals as goal
 use mir.Syntax.{w32}

@@ -1,9 +1,9 @@
 use Rattle.std.proofs.Common.{slice_get, ap, sym, ◌∙◌, List, ℕ}
 use Rattle.std.specs.List.{filter_map}
-use Rattle.oa_sema.specs.Declarations.{declarations}
-use Rattle.oa_typelib.specs.Descriptions.{put_last}
-use Rattle.oa_compat.specs.Keeps.{lost_declaration, lost_member}
-use Rattle.oa_sema.specs.Repeats.{first_answer}
+use Rattle.oa_sema.specs.promise.Declarations.{declarations}
+use Rattle.oa_typelib.specs.promise.Descriptions.{put_last}
+use Rattle.oa_compat.specs.promise.Keeps.{lost_declaration, lost_member}
+use Rattle.oa_sema.specs.promise.Repeats.{first_answer}
 use Rattle.oa_compat.proofs.Searches.{each_found, each_on, each_done, of_groups, of_places}
 use Rattle.oa_compat.proofs.lost.lost_member.Goals as goal
 

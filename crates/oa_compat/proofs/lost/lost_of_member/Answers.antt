@@ -1,9 +1,10 @@
 use Rattle.std.proofs.Common.{true, false, slice_get, sym, ◌∙◌}
 use Rattle.std.specs.List.{filter_map}
-use Rattle.oa_sema.specs.Declarations.{declarations}
-use Rattle.oa_typelib.specs.Descriptions.{put_last}
-use Rattle.oa_compat.specs.Keeps.{lost_declaration, lost_form}
-use Rattle.oa_sema.specs.Repeats.{first_answer}
+use Rattle.oa_sema.specs.promise.Declarations.{declarations}
+use Rattle.oa_typelib.specs.promise.Descriptions.{put_last}
+use Rattle.oa_compat.specs.promise.Keeps.{lost_declaration}
+use Rattle.oa_compat.specs.Keeps.{lost_form}
+use Rattle.oa_sema.specs.promise.Repeats.{first_answer}
 use Rattle.oa_compat.proofs.Searches.{answered_here, answered_later, of_member}
 use Rattle.oa_compat.proofs.lost.lost_of_member.Goals as goal
 

@@ -1,7 +1,7 @@
 use Rattle.std.proofs.Common.{append_assoc}
-use Rattle.oa_model.specs.Guids.{wire_order}
+use Rattle.oa_model.specs.promise.Guids.{wire_order}
 use Rattle.oa_typelib.specs.Contents.{content_of}
-use Rattle.oa_decision.specs.DescriptionFields.{content_head, description_head}
+use Rattle.oa_decision.specs.promise.DescriptionFields.{content_head, description_head}
 use Rattle.oa_decision.proofs.description.put_head.Goals as goal
 
 pub returns : goal.returns

@@ -1,6 +1,6 @@
 use Rattle.std.proofs.Common.{◌≡◌, ◌++◌, take}
 use Rattle.std.specs.List.{flat_map}
-use Rattle.oa_decision.specs.DescriptionFields.{member_field}
+use Rattle.oa_decision.specs.promise.DescriptionFields.{member_field}
 use Rattle.oa_decision.proofs.description.put_members.Given as goal
 
 abbrev pub invariant-members : goal.invariant-members

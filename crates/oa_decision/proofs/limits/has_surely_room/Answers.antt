@@ -1,8 +1,8 @@
 use Rattle.std.proofs.Common.{◌≡◌, ◌∙◌, arith, sym}
 use Rattle.std.proofs.lemmas.Bool.{leb-true}
 use Rattle.oa_image.proofs.Sized.{put_adds}
-use Rattle.oa_image.specs.Sizes.{event_size}
-use Rattle.oa_table.specs.Sizes.{table_size}
+use Rattle.oa_image.specs.promise.Sizes.{event_size}
+use Rattle.oa_table.specs.promise.Sizes.{table_size}
 use Rattle.oa_table.specs.declared.event.Event.TheVariants.{Put}
 use Rattle.oa_decision.proofs.limits.has_surely_room.Goals as goal
 

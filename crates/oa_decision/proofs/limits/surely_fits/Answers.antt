@@ -1,9 +1,10 @@
 use Rattle.std.proofs.Common.{◌≡◌, ◌-◌, ◌≤◌, ap, arith, refl}
 use Rattle.std.proofs.lemmas.Bool.{le-ltb}
-use Rattle.oa_image.specs.Sizes.{event_size}
-use Rattle.oa_image.specs.Tables.{reserved_bytes}
-use Rattle.oa_model.specs.Limits.{max_event_bytes}
-use Rattle.oa_table.specs.Sizes.{size_due, table_size}
+use Rattle.oa_image.specs.promise.Sizes.{event_size}
+use Rattle.oa_image.specs.promise.Tables.{reserved_bytes}
+use Rattle.oa_model.specs.promise.Limits.{max_event_bytes}
+use Rattle.oa_table.specs.Sizes.{size_due}
+use Rattle.oa_table.specs.promise.Sizes.{table_size}
 use Rattle.oa_decision.proofs.limits.surely_fits.Goals as goal
 
 pub returns-then-len-le-MAX_EVENT_BYTES-clause-within : goal.returns-then-len-le-MAX_EVENT_BYTES-clause-within

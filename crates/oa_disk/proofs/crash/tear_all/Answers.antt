@@ -1,6 +1,6 @@
 use Rattle.std.proofs.Common.{◌+◌, ◌≤◌, length, drop, refl, sym, ◌∙◌, arith}
 use Rattle.oa_disk.specs.declared.call.DeviceCall.TheVariants.{Write}
-use Rattle.oa_disk.specs.Replay.{count_all}
+use Rattle.oa_disk.specs.promise.Disk.{count_all}
 use Rattle.oa_disk.proofs.Steps.{count_step, count_other, torn_write, torn_other}
 use Rattle.oa_disk.proofs.crash.tear_all.Goals as goal
 use Rattle.oa_disk.proofs.crash.tear_all.Goals.{in-Write+in_ok-tear_range, in_default}

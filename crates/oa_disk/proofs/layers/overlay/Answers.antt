@@ -1,6 +1,6 @@
 use Rattle.std.proofs.Common.{◌+◌, ◌≤◌, length, drop, refl, sym, ◌∙◌, arith}
 use Rattle.oa_disk.specs.declared.call.DeviceCall.TheVariants.{Write}
-use Rattle.oa_disk.specs.Replay.{count_all}
+use Rattle.oa_disk.specs.promise.Disk.{count_all}
 use Rattle.oa_disk.proofs.Steps.{count_step, count_other}
 use Rattle.oa_disk.proofs.Laid.{made_start, made_write, made_other, made_end}
 use Rattle.std.proofs.lemmas.List.{drop_all}

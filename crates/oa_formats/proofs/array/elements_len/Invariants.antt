@@ -1,6 +1,7 @@
 use Rattle.std.proofs.Common.{◌≡◌, ◌+◌, ◌*◌, ◌≤◌, drop}
 use Rattle.std.specs.List.{sum_by}
-use Rattle.oa_formats.specs.Lengths.{element_size, max_scalar_bytes}
+use Rattle.oa_formats.specs.promise.Lengths.{element_size}
+use Rattle.oa_formats.specs.Lengths.{max_scalar_bytes}
 use Rattle.oa_formats.proofs.array.elements_len.Given as goal
 
 abbrev pub invariant-elements : goal.invariant-elements

@@ -1,5 +1,5 @@
 use Rattle.std.specs.List.{flat_map}
-use Rattle.oa_formats.specs.Arrays.{cell_of}
+use Rattle.oa_formats.specs.promise.Arrays.{cell_of}
 use Rattle.oa_formats.specs.Windows.{showing, added}
 use Rattle.oa_formats.proofs.Loops.{images_go_on, images_end}
 use Rattle.oa_formats.proofs.array.put_cells.Goals as goal

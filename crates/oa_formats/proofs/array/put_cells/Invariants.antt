@@ -1,6 +1,6 @@
 use Rattle.std.proofs.Common.{◌≡◌, drop}
 use Rattle.std.specs.List.{flat_map}
-use Rattle.oa_formats.specs.Arrays.{cell_of}
+use Rattle.oa_formats.specs.promise.Arrays.{cell_of}
 use Rattle.oa_formats.specs.Windows.{showing, added}
 use Rattle.oa_formats.proofs.array.put_cells.Given as goal
 

@@ -1,7 +1,7 @@
 use Rattle.std.proofs.Common.{length-set, ◌∙◌, arith}
-use Rattle.oa_variant.specs.Scalars.{FitsType}
+use Rattle.oa_variant.specs.promise.Scalars.{FitsType}
 use Rattle.oa_variant.specs.declared.scalar.Scalar.{Scalar}
-use Rattle.oa_formats.specs.Arrays.{cell_of}
+use Rattle.oa_formats.specs.promise.Arrays.{cell_of}
 use Rattle.oa_formats.proofs.Loops.{cells_put, all_put}
 use Rattle.oa_formats.proofs.array.read_cells.Goals as goal
 

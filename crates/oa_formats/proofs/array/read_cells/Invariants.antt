@@ -1,9 +1,9 @@
 use Rattle.std.proofs.Common.{◌≡◌, ◌-◌, length, take}
 use Rattle.std.specs.List.{AllByRecursion}
-use Rattle.oa_ndr.specs.Reading.{many}
+use Rattle.oa_ndr.specs.promise.Reading.{many}
 use Rattle.oa_ndr.proofs.Loop.{with_front}
-use Rattle.oa_variant.specs.Scalars.{FitsType}
-use Rattle.oa_formats.specs.Arrays.{cell_of}
+use Rattle.oa_variant.specs.promise.Scalars.{FitsType}
+use Rattle.oa_formats.specs.promise.Arrays.{cell_of}
 use Rattle.oa_formats.proofs.array.read_cells.Given as goal
 
 abbrev pub invariant-cells : goal.invariant-cells

@@ -1,5 +1,5 @@
 use Rattle.std.proofs.Common.{◌≡◌, Some, arith, refl}
-use Rattle.oa_ndr.specs.Reading.{at}
+use Rattle.oa_ndr.specs.promise.Reading.{at}
 use Rattle.oa_formats.proofs.Exact.{all_bytes, read_to_its_end, bytes_left, first_left, refused}
 use Rattle.oa_formats.proofs.image.read_exactly.Goals as goal
 

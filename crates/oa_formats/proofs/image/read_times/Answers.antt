@@ -1,9 +1,9 @@
 use Rattle.std.proofs.Common.{[], ◌∷◌, arith}
 use Rattle.std.proofs.lemmas.List.{length-append}
 use Rattle.std.proofs.lemmas.Result.{err_from_is_err_and}
-use Rattle.oa_ndr.specs.Reading.{many}
+use Rattle.oa_ndr.specs.promise.Reading.{many}
 use Rattle.oa_ndr.proofs.Loop.{many_goes_on, many_done}
-use Rattle.oa_formats.specs.Formats.{times}
+use Rattle.oa_formats.specs.promise.Formats.{times}
 use Rattle.oa_formats.proofs.Loops.{many_err}
 use Rattle.oa_formats.proofs.image.read_times.Goals as goal
 

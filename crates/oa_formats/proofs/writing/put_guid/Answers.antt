@@ -1,5 +1,5 @@
-use Rattle.oa_formats.specs.Formats.{made_where, raw}
-use Rattle.oa_formats.specs.Numbers.{guid_format}
+use Rattle.oa_formats.specs.promise.Formats.{made_where, raw}
+use Rattle.oa_formats.specs.promise.Numbers.{guid_format}
 use Rattle.oa_formats.proofs.writing.put_guid.Goals as goal
 
 pub returns : goal.returns

@@ -1,5 +1,5 @@
 use Rattle.std.proofs.Common.{rules}
-use Rattle.oa_frame.specs.Framings.{frames}
+use Rattle.oa_frame.specs.promise.Framings.{frames}
 use Rattle.oa_frame.proofs.Sessions.{next_apart}
 use Rattle.oa_frame.proofs.session.answer.Goals as goal
 

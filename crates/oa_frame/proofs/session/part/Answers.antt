@@ -1,4 +1,4 @@
-use Rattle.oa_frame.specs.Framings.{frames}
+use Rattle.oa_frame.specs.promise.Framings.{frames}
 use Rattle.oa_frame.proofs.Sessions.{parted_on}
 use Rattle.oa_frame.proofs.session.part.Goals as goal
 

@@ -1,7 +1,7 @@
 use Rattle.std.proofs.Common.{◌≡◌, ◌∷◌, [], Bool, true, false, if◌then◌else◌, ap, rules}
 use Rattle.std.proofs.lemmas.List.{append-nil}
-use Rattle.oa_frame.specs.Framings.{frames}
-use Rattle.oa_frame.specs.Sessions.{is_answered, last_reply}
+use Rattle.oa_frame.specs.promise.Framings.{frames}
+use Rattle.oa_frame.specs.promise.Sessions.{is_answered, last_reply}
 use Rattle.oa_frame.proofs.Spelled.{puts_none, puts_one}
 use Rattle.oa_frame.proofs.session.put_last.Goals as goal
 

@@ -1,6 +1,6 @@
 use Rattle.std.proofs.Common.{rules, refl, inl, inr, ◌≡◌, arith}
-use Rattle.oa_model.specs.Limits.{max_records}
-use Rattle.oa_frame.specs.Framings.{frames}
+use Rattle.oa_model.specs.promise.Limits.{max_records}
+use Rattle.oa_frame.specs.promise.Framings.{frames}
 use Rattle.oa_frame.proofs.Sessions.{going_start, going_on, going_fails, going_undone, going_waits, going_closes, known_over, sound_end, can_over}
 use Rattle.oa_frame.proofs.Sessions.{writes_none, no_call, stepped}
 use Rattle.oa_frame.proofs.session.serve.Goals as goal

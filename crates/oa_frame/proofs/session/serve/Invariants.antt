@@ -1,8 +1,8 @@
 use Rattle.std.proofs.Common.{◌≡◌, ◌+◌, ◌≤◌, true, false}
 use Rattle.std.specs.Prelude.{vec_capacity}
-use Rattle.oa_model.specs.Limits.{max_request_bytes, max_line_characters}
+use Rattle.oa_model.specs.promise.Limits.{max_request_bytes, max_line_characters}
 use Rattle.oa_stream.specs.BufferedSource.{ahead}
-use Rattle.oa_frame.specs.Framings.{frames}
+use Rattle.oa_frame.specs.promise.Framings.{frames}
 use Rattle.oa_frame.specs.Sessions.{step}
 use Rattle.oa_frame.proofs.Sessions.{SessionSoFar}
 use Rattle.oa_frame.proofs.session.serve.Given as goal

@@ -1,7 +1,8 @@
 use Rattle.std.proofs.Common.{◌++◌, append_assoc, length, subst}
 use Rattle.std.specs.Int.{to_le_bytes, w32}
 use Rattle.std.proofs.lemmas.Result.{err_from_is_err_and}
-use Rattle.oa_stream.specs.Sink.{Breaks, Puts}
+use Rattle.oa_stream.specs.promise.Sink.{Breaks}
+use Rattle.oa_stream.specs.Sink.{Puts}
 use Rattle.oa_stream.proofs.Stretches.{breaks_before, puts_then}
 use Rattle.oa_frame.proofs.writing.put_record.Goals as goal
 

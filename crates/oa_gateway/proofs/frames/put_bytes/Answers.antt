@@ -1,6 +1,6 @@
 use Rattle.std.proofs.Common.{◌≡◌, ◌<◌, ◌≤◌, ◌+◌, ◌-◌, ℕ, [], length, min, take, drop, ap, ◌∙◌, arith}
 use Rattle.std.proofs.lemmas.List.{length-drop, length-take-le}
-use Rattle.oa_mux.specs.Frames.{frame_of, max_frame_bytes}
+use Rattle.oa_mux.specs.promise.Frames.{frame_of, max_frame_bytes}
 use Rattle.oa_gateway.proofs.Spelling.{frame_length, mid_length, more_bytes, no_bytes, room_first, room_next}
 use Rattle.oa_gateway.proofs.frames.put_bytes.Goals as goal
 

@@ -1,14 +1,14 @@
 use Rattle.std.proofs.Common.{ℕ, ◌+◌, ◌*◌, ◌≤◌, ◌-◌, List, length, min, Err, sym, subst, arith, refl}
 use Rattle.std.proofs.lemmas.Result.{err_from_is_err_and}
-use Rattle.oa_disk.specs.Memory.{IsTornAt, memory_contents, memory_history, memory_image, memory_image_since, moments_of}
+use Rattle.oa_disk.specs.promise.Memory.{IsTornAt, memory_contents, memory_history, memory_image, moments_of}
+use Rattle.oa_disk.specs.Memory.{memory_image_since}
 use Rattle.oa_disk.specs.Replaying.{since_falls}
 use Rattle.oa_disk.specs.declared.memory.MemoryDisk.{MemoryDisk}
-use Rattle.oa_printer.specs.Canonical.{canonical}
-use Rattle.oa_journal.specs.Banks.{first_gate}
+use Rattle.oa_printer.specs.promise.Canonical.{canonical}
+use Rattle.oa_journal.specs.promise.Bank.{first_gate}
 use Rattle.oa_journal.specs.declared.shape.BankFormat.TheVariants.{Two}
-use Rattle.oa_turn.specs.Events.{held_of}
-use Rattle.oa_store.specs.Calls.{checkpoint_calls}
-use Rattle.oa_store.specs.Stores.{IsStoreAt}
+use Rattle.oa_turn.specs.promise.Events.{held_of}
+use Rattle.oa_store.specs.promise.Stores.{checkpoint_calls, IsStoreAt}
 use Rattle.oa_history.proofs.Switched.{as_many_calls, moved, next_is, state_at, still_holds, text_is, within}
 use Rattle.oa_history.proofs.Unmade.{write_failed}
 use Rattle.oa_history.proofs.checkpointing.checkpointed.Goals as goal

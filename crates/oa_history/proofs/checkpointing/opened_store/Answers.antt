@@ -1,11 +1,11 @@
 use Rattle.std.proofs.Common.{List, ℕ, ◌+◌, ◌≤◌, length, true≢false, refl, sym, ◌∙◌, ap, subst}
 use Rattle.std.proofs.lemmas.Result.{err_from_is_err_and}
-use Rattle.oa_disk.specs.Memory.{memory_contents, moments_of}
-use Rattle.oa_printer.specs.Canonical.{canonical}
-use Rattle.oa_image.specs.Tables.{FitsBank}
+use Rattle.oa_disk.specs.promise.Memory.{memory_contents, moments_of}
+use Rattle.oa_printer.specs.promise.Canonical.{canonical}
+use Rattle.oa_image.specs.promise.Tables.{FitsBank}
 use Rattle.oa_journal.specs.declared.shape.BankFormat.TheVariants.{Two}
-use Rattle.oa_turn.specs.Events.{held_of}
-use Rattle.oa_store.specs.Stores.{IsStoreAt, IsStoreIn}
+use Rattle.oa_turn.specs.promise.Events.{held_of}
+use Rattle.oa_store.specs.promise.Stores.{IsStoreAt, IsStoreIn}
 use Rattle.oa_history.proofs.Switched.{fits}
 use Rattle.oa_history.proofs.checkpointing.opened_store.Goals as goal
 

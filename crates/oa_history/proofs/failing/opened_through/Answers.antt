@@ -1,10 +1,10 @@
 use Rattle.std.proofs.Common.{List, ℕ, refl, sym, subst}
 use Rattle.std.proofs.lemmas.Result.{err_from_is_err_and}
-use Rattle.oa_disk.specs.Disk.{NothingPending}
-use Rattle.oa_disk.specs.Memory.{memory_contents, memory_image}
+use Rattle.oa_disk.specs.promise.Disk.{NothingPending}
+use Rattle.oa_disk.specs.promise.Memory.{memory_contents, memory_image}
 use Rattle.oa_disk.specs.declared.memory.MemoryDisk.{MemoryDisk}
-use Rattle.oa_group_commit.specs.Runs.{HoldsState}
-use Rattle.oa_server.specs.ServerMachine.{server_machine}
+use Rattle.oa_group_commit.specs.promise.Groups.{HoldsState}
+use Rattle.oa_server.specs.promise.ServerMachine.{server_machine}
 use Rattle.oa_history.proofs.Found.{begun_on, never_refused, serves, sits}
 use Rattle.oa_history.proofs.failing.opened_through.Goals as goal
 

@@ -1,15 +1,15 @@
 use Rattle.std.proofs.Common.{[], ◌≡◌, ◌≤◌, Result, IfErr, IfOk, refl, ◌∙◌, ap, subst, arith}
 use Rattle.std.proofs.lemmas.Result.{IfErr-at_err}
-use Rattle.oa_disk.specs.Fuse.{inner_of}
-use Rattle.oa_disk.specs.Memory.{memory_history, memory_image, moments_of}
+use Rattle.oa_disk.specs.promise.Fuse.{inner_of}
+use Rattle.oa_disk.specs.promise.Memory.{memory_history, memory_image, moments_of}
 use Rattle.oa_disk.specs.Replaying.{counts_now}
 use Rattle.oa_disk.specs.declared.disk.DeviceFault.{DeviceFault}
 use Rattle.oa_disk.specs.declared.memory.MemoryDisk.{MemoryDisk}
-use Rattle.oa_decision.specs.States.{State}
-use Rattle.oa_server.specs.ServerMachine.{server_machine}
-use Rattle.oa_server.specs.Storages.{disk_of}
+use Rattle.oa_decision.specs.promise.States.{State}
+use Rattle.oa_server.specs.promise.ServerMachine.{server_machine}
+use Rattle.oa_server.specs.promise.Storages.{disk_of}
 use Rattle.oa_history.specs.Kept.{IsRecoverable}
-use Rattle.oa_history.specs.FaultHistories.{Answered, BeginsOver, HoldsAlone, told_calls}
+use Rattle.oa_history.specs.promise.FaultHistories.{Answered, BeginsOver, HoldsAlone, told_calls}
 use Rattle.oa_history.specs.declared.failing.FaultyServer.{FaultyServer}
 use Rattle.oa_history.proofs.Withstanding.{all_answered, all_kept, at_start, ghosts_of, session_of}
 use Rattle.oa_history.proofs.failing.session_with_faults.Goals as goal

@@ -3,7 +3,7 @@ use Rattle.std.proofs.lemmas.List.{take_all}
 use Rattle.oa_disk.specs.Fuse.{failures_with}
 use Rattle.oa_disk.specs.declared.memory.MemoryDisk.{MemoryDisk}
 use Rattle.oa_history.proofs.Withstanding.{answered_more}
-use Rattle.oa_history.specs.FaultHistories.{Answered}
+use Rattle.oa_history.specs.promise.FaultHistories.{Answered}
 use Rattle.oa_history.specs.declared.failing.CallOutcome.{CallOutcome}
 use Rattle.oa_history.specs.declared.session.ServerCall.{ServerCall}
 use Rattle.oa_history.proofs.failing.told_by.Goals as goal

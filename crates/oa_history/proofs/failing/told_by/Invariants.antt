@@ -1,5 +1,5 @@
 use Rattle.std.proofs.Common.{take}
-use Rattle.oa_history.specs.FaultHistories.{Answered}
+use Rattle.oa_history.specs.promise.FaultHistories.{Answered}
 use Rattle.oa_history.proofs.failing.told_by.Given as goal
 
 abbrev pub invariant-calls : goal.invariant-calls

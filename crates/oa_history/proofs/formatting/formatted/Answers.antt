@@ -1,13 +1,13 @@
 use Rattle.std.proofs.Common.{◌≡◌, ◌*◌, ◌≤◌, ⊎_elim, inl, inr, ℕ, List, min, refl, subst, arith}
-use Rattle.oa_disk.specs.Disk.{Torn}
-use Rattle.oa_disk.specs.Memory.{IsTornAt, memory_contents, memory_history, memory_image_since, moments_of}
+use Rattle.oa_disk.specs.promise.Disk.{Torn}
+use Rattle.oa_disk.specs.promise.Memory.{IsTornAt, memory_contents, memory_history, moments_of, memory_image}
+use Rattle.oa_disk.specs.Memory.{memory_image_since}
 use Rattle.oa_disk.specs.Replaying.{only_now, since_falls}
 use Rattle.oa_journal.specs.declared.shape.BankFormat.TheVariants.{Two}
 use Rattle.oa_store.specs.Calls.{format_calls}
 use Rattle.oa_store.specs.Changes.{IsFormatting}
-use Rattle.oa_store.specs.Stores.{IsStoreIn}
+use Rattle.oa_store.specs.promise.Stores.{IsStoreIn}
 use Rattle.oa_table.specs.Tables.{first_table}
-use Rattle.oa_disk.specs.Memory.{memory_image}
 use Rattle.oa_history.proofs.formatting.formatted.Goals as goal
 
 pub returns-clause-formatted : goal.returns-clause-formatted

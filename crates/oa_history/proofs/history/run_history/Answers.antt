@@ -1,8 +1,8 @@
 use Rattle.std.proofs.Common.{◌∙◌}
 use Rattle.std.proofs.lemmas.Result.{IfErr-weaker, IfOk-weaker, err_from_is_err_and}
-use Rattle.oa_disk.specs.Memory.{memory_contents, memory_history}
+use Rattle.oa_disk.specs.promise.Memory.{memory_contents, memory_history}
 use Rattle.oa_disk.specs.Replaying.{contents_size}
-use Rattle.oa_decision.specs.States.{state_of}
+use Rattle.oa_decision.specs.promise.States.{state_of}
 use Rattle.oa_table.specs.Tables.{first_table}
 use Rattle.oa_history.proofs.Unmade.{unmade}
 use Rattle.oa_history.proofs.history.run_history.Goals as goal

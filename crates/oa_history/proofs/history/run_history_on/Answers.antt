@@ -1,8 +1,8 @@
 use Rattle.std.proofs.Common.{List, refl, sym, subst}
 use Rattle.std.proofs.lemmas.List.{take_all}
 use Rattle.std.proofs.lemmas.Result.{err_from_is_err_and}
-use Rattle.oa_disk.specs.Memory.{memory_contents}
-use Rattle.oa_history.specs.CrashHistories.{HistorySteps}
+use Rattle.oa_disk.specs.promise.Memory.{memory_contents}
+use Rattle.oa_history.specs.promise.CrashHistories.{HistorySteps}
 use Rattle.oa_history.specs.declared.session.Step.{Step}
 use Rattle.oa_history.proofs.Living.{lives_more, shown_library, shown_table}
 use Rattle.oa_history.proofs.history.run_history_on.Goals as goal

@@ -1,8 +1,8 @@
 use Rattle.std.proofs.Common.{take}
-use Rattle.oa_disk.specs.Memory.{memory_contents}
-use Rattle.oa_decision.specs.States.{State}
-use Rattle.oa_history.specs.Kept.{IsRecoverable, IsFreshDisk}
-use Rattle.oa_history.specs.CrashHistories.{HistorySteps}
+use Rattle.oa_disk.specs.promise.Memory.{memory_contents}
+use Rattle.oa_decision.specs.promise.States.{State}
+use Rattle.oa_history.specs.Kept.{IsRecoverable}
+use Rattle.oa_history.specs.promise.CrashHistories.{IsFreshDisk, HistorySteps}
 use Rattle.oa_history.proofs.history.run_history_on.Given as goal
 
 abbrev pub invariant-steps : goal.invariant-steps

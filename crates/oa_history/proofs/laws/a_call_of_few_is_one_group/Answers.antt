@@ -1,4 +1,4 @@
-use Rattle.oa_server.specs.ServerMachine.{server_machine}
+use Rattle.oa_server.specs.promise.ServerMachine.{server_machine}
 use Rattle.oa_history.proofs.Few.{few_are_one}
 use Rattle.oa_history.proofs.laws.a_call_of_few_is_one_group.Goals as goal
 

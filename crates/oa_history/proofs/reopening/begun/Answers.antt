@@ -1,8 +1,9 @@
 use Rattle.std.proofs.Common.{ℕ, List, refl, subst, arith}
-use Rattle.oa_disk.specs.Memory.{memory_contents, memory_history, memory_image_since}
+use Rattle.oa_disk.specs.promise.Memory.{memory_contents, memory_history}
+use Rattle.oa_disk.specs.Memory.{memory_image_since}
 use Rattle.oa_disk.specs.Replaying.{only_now}
 use Rattle.oa_journal.specs.declared.shape.BankFormat.TheVariants.{Two}
-use Rattle.oa_store.specs.Stores.{IsStoreIn}
+use Rattle.oa_store.specs.promise.Stores.{IsStoreIn}
 use Rattle.oa_table.specs.Tables.{first_table}
 use Rattle.oa_history.proofs.reopening.begun.Goals as goal
 

@@ -1,5 +1,5 @@
 use Rattle.std.proofs.Common.{ℕ, subst}
-use Rattle.oa_disk.specs.Memory.{IsTornAt, memory_contents}
+use Rattle.oa_disk.specs.promise.Memory.{IsTornAt, memory_contents}
 use Rattle.oa_disk.specs.declared.crash.Tear.TheVariants.{Kept}
 use Rattle.oa_history.proofs.Crashed.{kept_is_read}
 use Rattle.oa_history.proofs.reopening.copied.Goals as goal

@@ -1,9 +1,9 @@
 use Rattle.std.proofs.Common.{◌∙◌}
 use Rattle.std.proofs.lemmas.Result.{err_from_is_err_and}
-use Rattle.oa_disk.specs.Memory.{memory_contents}
+use Rattle.oa_disk.specs.promise.Memory.{memory_contents}
 use Rattle.oa_turn.proofs.Texts.{is_read}
 use Rattle.oa_history.proofs.Living.{shown_library}
-use Rattle.oa_printer.specs.Canonical.{canonical}
+use Rattle.oa_printer.specs.promise.Canonical.{canonical}
 use Rattle.oa_history.proofs.Marking.{its_library}
 use Rattle.oa_history.proofs.Reading.{library_again, unread}
 use Rattle.oa_history.proofs.reopening.library_on.Goals as goal

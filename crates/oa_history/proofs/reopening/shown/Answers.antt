@@ -1,12 +1,12 @@
 use Rattle.std.proofs.Common.{List, ℕ, refl, sym, subst}
-use Rattle.oa_disk.specs.Memory.{memory_contents, memory_history}
+use Rattle.oa_disk.specs.promise.Memory.{memory_contents, memory_history}
 use Rattle.oa_disk.specs.Replaying.{contents_size}
-use Rattle.oa_group_commit.specs.Runs.{HoldsState}
-use Rattle.oa_printer.specs.Canonical.{canonical}
+use Rattle.oa_group_commit.specs.promise.Groups.{HoldsState}
+use Rattle.oa_printer.specs.promise.Canonical.{canonical}
 use Rattle.oa_journal.specs.declared.shape.BankFormat.TheVariants.{Two}
-use Rattle.oa_turn.specs.Events.{held_of}
-use Rattle.oa_server.specs.ServerMachine.{server_machine}
-use Rattle.oa_store.specs.Stores.{IsStore}
+use Rattle.oa_turn.specs.promise.Events.{held_of}
+use Rattle.oa_server.specs.promise.ServerMachine.{server_machine}
+use Rattle.oa_store.specs.promise.Stores.{IsStore}
 use Rattle.oa_history.proofs.Reading.{shown_to_all}
 use Rattle.oa_history.proofs.reopening.shown.Goals as goal
 

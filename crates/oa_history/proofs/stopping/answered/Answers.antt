@@ -1,10 +1,10 @@
 use Rattle.std.proofs.Common.{◌≡◌, List, length, refl, sym, ◌∙◌, ap, subst}
 use Rattle.std.proofs.lemmas.List.{take_all}
-use Rattle.oa_disk.specs.Memory.{moments_of}
+use Rattle.oa_disk.specs.promise.Memory.{moments_of}
 use Rattle.oa_history.proofs.Replying.{made_more}
-use Rattle.oa_history.specs.CrashHistories.{made_calls}
-use Rattle.oa_server.specs.Storages.{Serves}
-use Rattle.oa_history.specs.KeepsDurablePrefix.{CallSequence}
+use Rattle.oa_history.specs.promise.CrashHistories.{made_calls}
+use Rattle.oa_server.specs.promise.Storages.{Serves}
+use Rattle.oa_history.specs.promise.DurablePrefixes.{CallSequence}
 use Rattle.oa_history.specs.declared.session.Answer.{Answer}
 use Rattle.oa_history.specs.declared.session.ServerCall.{ServerCall}
 use Rattle.oa_history.proofs.stopping.answered.Goals as goal

@@ -1,7 +1,7 @@
 use Rattle.std.proofs.Common.{◌≡◌, length, take}
-use Rattle.oa_history.specs.CrashHistories.{made_calls}
-use Rattle.oa_server.specs.Storages.{Serves}
-use Rattle.oa_history.specs.KeepsDurablePrefix.{CallSequence}
+use Rattle.oa_history.specs.promise.CrashHistories.{made_calls}
+use Rattle.oa_server.specs.promise.Storages.{Serves}
+use Rattle.oa_history.specs.promise.DurablePrefixes.{CallSequence}
 use Rattle.oa_history.proofs.stopping.answered.Given as goal
 
 abbrev pub invariant-calls : goal.invariant-calls

@@ -1,5 +1,6 @@
 use Rattle.std.proofs.Common.{ℕ, subst, min}
-use Rattle.oa_disk.specs.Memory.{IsTornAt, memory_contents, memory_image_since}
+use Rattle.oa_disk.specs.promise.Memory.{IsTornAt, memory_contents}
+use Rattle.oa_disk.specs.Memory.{memory_image_since}
 use Rattle.oa_history.proofs.stopping.cut.Goals as goal
 
 pub returns-clause-torn : goal.returns-clause-torn

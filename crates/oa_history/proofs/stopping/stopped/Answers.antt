@@ -1,17 +1,16 @@
 use Rattle.std.proofs.Common.{[], refl, ap, subst, arith, min}
 use Rattle.std.proofs.lemmas.Result.{err_from_is_err_and}
-use Rattle.oa_disk.specs.Memory.{memory_contents, memory_history, moments_of}
+use Rattle.oa_disk.specs.promise.Memory.{memory_contents, memory_history, moments_of}
 use Rattle.oa_disk.specs.Replaying.{since_falls}
 use Rattle.oa_group_commit.proofs.Calling.{session_ended}
-use Rattle.oa_decision.specs.States.{State}
-use Rattle.oa_server.specs.ServerMachine.{server_machine}
-use Rattle.oa_server.specs.Sharing.{Shared, shared}
-use Rattle.oa_server.specs.SharedMachine.{shared_machine}
-use Rattle.oa_server.specs.Storages.{Serves}
-use Rattle.oa_turn.specs.Beginnings.{CanBegin}
-use Rattle.oa_history.specs.Framed.{ServesShared}
-use Rattle.oa_history.specs.CrashHistories.{made_calls}
-use Rattle.oa_history.specs.KeepsDurablePrefix.{CallSequence, KeepsDurablePrefix}
+use Rattle.oa_decision.specs.promise.States.{State}
+use Rattle.oa_server.specs.promise.ServerMachine.{server_machine}
+use Rattle.oa_server.specs.promise.SharedMachine.{Shared, shared, shared_machine}
+use Rattle.oa_server.specs.promise.Storages.{Serves}
+use Rattle.oa_turn.specs.promise.Beginnings.{CanBegin}
+use Rattle.oa_history.specs.promise.Framed.{ServesShared}
+use Rattle.oa_history.specs.promise.CrashHistories.{made_calls}
+use Rattle.oa_history.specs.promise.DurablePrefixes.{CallSequence, KeepsDurablePrefix}
 use Rattle.oa_history.proofs.CallsOverStore.{requests_are_served}
 use Rattle.oa_history.proofs.ChunkedSource.{with_cut}
 use Rattle.oa_history.proofs.ForMany.{CanBeginShared, clients_are_served, groups_begin_for_many, is_over_store, opened_again_for_many, sits_over, without_locks}

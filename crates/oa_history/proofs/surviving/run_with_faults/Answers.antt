@@ -1,8 +1,8 @@
 use Rattle.std.proofs.Common.{List, ℕ, sym, subst}
 use Rattle.std.proofs.lemmas.Result.{IfErr-weaker, IfOk-weaker, err_from_is_err_and}
-use Rattle.oa_group_commit.specs.Runs.{HoldsState}
-use Rattle.oa_server.specs.ServerMachine.{server_machine}
-use Rattle.oa_decision.specs.States.{state_of}
+use Rattle.oa_group_commit.specs.promise.Groups.{HoldsState}
+use Rattle.oa_server.specs.promise.ServerMachine.{server_machine}
+use Rattle.oa_decision.specs.promise.States.{state_of}
 use Rattle.oa_table.specs.Tables.{first_table}
 use Rattle.oa_history.proofs.Unmade.{unmade}
 use Rattle.oa_history.proofs.surviving.run_with_faults.Goals as goal

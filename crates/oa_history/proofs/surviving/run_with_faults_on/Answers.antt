@@ -1,7 +1,7 @@
 use Rattle.std.proofs.lemmas.Result.{err_from_is_err_and}
-use Rattle.oa_disk.specs.Memory.{memory_contents, memory_history}
+use Rattle.oa_disk.specs.promise.Memory.{memory_contents, memory_history}
 use Rattle.oa_disk.specs.Replaying.{contents_is_image}
-use Rattle.oa_group_commit.specs.Groups.{concat_groups}
+use Rattle.oa_group_commit.specs.promise.Groups.{concat_groups}
 use Rattle.oa_history.proofs.Living.{shown_held, shown_library}
 use Rattle.oa_history.proofs.surviving.run_with_faults_on.Goals as goal
 

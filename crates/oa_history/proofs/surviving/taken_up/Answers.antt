@@ -1,6 +1,6 @@
 use Rattle.std.proofs.Common.{refl}
 use Rattle.std.proofs.lemmas.Result.{err_from_is_err_and}
-use Rattle.oa_disk.specs.Memory.{memory_history}
+use Rattle.oa_disk.specs.promise.Memory.{memory_history}
 use Rattle.oa_disk.specs.Replaying.{contents_size}
 use Rattle.oa_turn.proofs.Texts.{is_read}
 use Rattle.oa_history.proofs.TakenUp.{all_hold, host_is, never_refused, opened_so}

@@ -1,19 +1,19 @@
 use Rattle.std.proofs.Common.{Err, ◌≡◌, ℕ, ◌+◌, ◌*◌, ◌≤◌, List, length, min, refl, sym, ap, subst, arith}
 use Rattle.std.proofs.lemmas.Result.{err_from_is_err_and}
-use Rattle.oa_disk.specs.Memory.{IsTornAt, memory_contents, memory_history, memory_image_since, moments_of}
+use Rattle.oa_disk.specs.promise.Memory.{IsTornAt, memory_contents, memory_history, moments_of}
+use Rattle.oa_disk.specs.Memory.{memory_image_since}
 use Rattle.oa_disk.specs.Replaying.{contents_size, only_now, since_falls}
-use Rattle.oa_printer.specs.Canonical.{canonical}
-use Rattle.oa_image.specs.Tables.{FitsBank}
+use Rattle.oa_printer.specs.promise.Canonical.{canonical}
+use Rattle.oa_image.specs.promise.Tables.{FitsBank}
 use Rattle.oa_journal.specs.declared.shape.BankFormat.TheVariants.{One, Two}
 use Rattle.oa_turn.proofs.Texts.{is_read}
-use Rattle.oa_turn.specs.Events.{held_of}
-use Rattle.oa_decision.specs.States.{State}
+use Rattle.oa_turn.specs.promise.Events.{held_of}
+use Rattle.oa_decision.specs.promise.States.{State}
 use Rattle.oa_store.proofs.OneStore.{one_store}
-use Rattle.oa_store.specs.Calls.{checkpoint_calls}
-use Rattle.oa_store.specs.Changes.{IsUpgrade}
-use Rattle.oa_store.specs.Faults.{CanBeBrought}
-use Rattle.oa_store.specs.Stores.{IsStoreAt, IsStoreIn}
-use Rattle.oa_table.specs.Tables.{TableValue}
+use Rattle.oa_store.specs.promise.Stores.{checkpoint_calls, IsStoreAt, IsStoreIn}
+use Rattle.oa_store.specs.promise.Changes.{IsUpgrade}
+use Rattle.oa_store.specs.promise.Faults.{CanBeBrought}
+use Rattle.oa_table.specs.promise.Tables.{TableValue}
 use Rattle.oa_history.proofs.Unmade.{unbrought}
 use Rattle.oa_history.proofs.upgrading.upgraded.Goals as goal
 

@@ -1,9 +1,9 @@
 use Rattle.std.specs.Prelude.{codes}
 use Rattle.std.proofs.Common.{◌≡◌, ◌-◌}
-use Rattle.oa_idl.specs.Forms.{nowhere}
-use Rattle.oa_idl.specs.Words.{passes}
+use Rattle.oa_idl.specs.promise.Forms.{nowhere}
+use Rattle.oa_idl.specs.promise.Words.{passes}
 use Rattle.oa_idl.specs.Reading.{until}
-use Rattle.oa_idl.specs.Grammar.{one_more}
+use Rattle.oa_idl.specs.promise.Grammar.{one_more}
 use Rattle.oa_idl.specs.GrammarReading.{method_at, closing_at}
 use Rattle.oa_idl.proofs.Loop.{with_front}
 use Rattle.oa_idl.proofs.methods.method_list.Given as goal

@@ -2,10 +2,10 @@ use Rattle.std.specs.Prelude.{codes}
 use Rattle.std.proofs.Common.{rules}
 use Rattle.std.proofs.lemmas.Result.{err_from_is_err_and}
 use Rattle.oa_idl.specs.declared.stop.Stop.TheVariants.{Syntax}
-use Rattle.oa_idl.specs.Forms.{nowhere}
-use Rattle.oa_idl.specs.Words.{passes}
+use Rattle.oa_idl.specs.promise.Forms.{nowhere}
+use Rattle.oa_idl.specs.promise.Words.{passes}
 use Rattle.oa_idl.specs.Reading.{until, done}
-use Rattle.oa_idl.specs.Grammar.{one_more}
+use Rattle.oa_idl.specs.promise.Grammar.{one_more}
 use Rattle.oa_idl.specs.GrammarReading.{next_parameter_at, last_parameter_at}
 use Rattle.oa_idl.proofs.Loop.{plain_goes_on, until_ends, until_early, until_err, until_out, parameters_early, parameters_end}
 use Rattle.oa_idl.proofs.parameters.parameters.Goals as goal

@@ -1,10 +1,10 @@
 use Rattle.std.specs.Prelude.{codes}
 use Rattle.std.proofs.Common.{rules}
 use Rattle.oa_idl.specs.declared.stop.Stop.TheVariants.{Syntax}
-use Rattle.oa_idl.specs.Forms.{nowhere}
-use Rattle.oa_idl.specs.Words.{passes}
+use Rattle.oa_idl.specs.promise.Forms.{nowhere}
+use Rattle.oa_idl.specs.promise.Words.{passes}
 use Rattle.oa_idl.specs.Reading.{until, done}
-use Rattle.oa_idl.specs.Grammar.{entry_grow, no_entry}
+use Rattle.oa_idl.specs.promise.Grammar.{entry_grow, no_entry}
 use Rattle.oa_idl.specs.GrammarReading.{entry_at, last_entry_at}
 use Rattle.oa_idl.proofs.Loop.{plain_goes_on, until_ends, until_early, until_out, entries_early, entries_end}
 use Rattle.oa_idl.proofs.parser.entries.Goals as goal

@@ -1,9 +1,9 @@
 use Rattle.std.specs.Prelude.{codes}
 use Rattle.std.proofs.Common.{◌≡◌, ◌-◌}
-use Rattle.oa_idl.specs.Forms.{nowhere}
-use Rattle.oa_idl.specs.Words.{passes}
+use Rattle.oa_idl.specs.promise.Forms.{nowhere}
+use Rattle.oa_idl.specs.promise.Words.{passes}
 use Rattle.oa_idl.specs.Reading.{until}
-use Rattle.oa_idl.specs.Grammar.{entry_grow, no_entry}
+use Rattle.oa_idl.specs.promise.Grammar.{entry_grow, no_entry}
 use Rattle.oa_idl.specs.GrammarReading.{entry_at, last_entry_at}
 use Rattle.oa_idl.proofs.Loop.{with_front}
 use Rattle.oa_idl.proofs.parser.entries.Given as goal

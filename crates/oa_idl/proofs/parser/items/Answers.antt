@@ -1,6 +1,6 @@
 use Rattle.std.proofs.Common.{rules, arith}
 use Rattle.std.proofs.lemmas.Result.{err_from_is_err_and}
-use Rattle.oa_idl.specs.Grammar.{no_items}
+use Rattle.oa_idl.specs.promise.Grammar.{no_items}
 use Rattle.oa_idl.proofs.Loop.{so_far_read, items_go_on, imports_go_on, items_end, items_out, items_err, imports_err, few_interfaces}
 use Rattle.oa_idl.proofs.Loop.{few_coclasses}
 use Rattle.oa_idl.proofs.parser.items.Goals as goal

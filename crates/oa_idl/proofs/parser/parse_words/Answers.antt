@@ -1,5 +1,5 @@
 use Rattle.std.proofs.Common.{length, map, rules}
-use Rattle.oa_idl.specs.Words.{word_of}
+use Rattle.oa_idl.specs.promise.Words.{word_of}
 use Rattle.oa_idl.proofs.ToldOfTexts.{parsed}
 use Rattle.oa_idl.proofs.parser.parse_words.Goals as goal
 

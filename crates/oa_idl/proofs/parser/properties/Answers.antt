@@ -1,7 +1,7 @@
 use Rattle.std.proofs.Common.{rules}
-use Rattle.oa_idl.specs.Forms.{nowhere}
+use Rattle.oa_idl.specs.promise.Forms.{nowhere}
 use Rattle.oa_idl.specs.Reading.{until}
-use Rattle.oa_idl.specs.Grammar.{one_more}
+use Rattle.oa_idl.specs.promise.Grammar.{one_more}
 use Rattle.oa_idl.specs.GrammarReading.{property_at, methods_at, ends_properties}
 use Rattle.oa_idl.proofs.Loop.{plain_goes_on, until_ends, until_out}
 use Rattle.oa_idl.proofs.parser.properties.Goals as goal

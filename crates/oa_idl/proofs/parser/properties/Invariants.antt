@@ -1,7 +1,7 @@
 use Rattle.std.proofs.Common.{◌≡◌, ◌-◌}
-use Rattle.oa_idl.specs.Forms.{nowhere}
+use Rattle.oa_idl.specs.promise.Forms.{nowhere}
 use Rattle.oa_idl.specs.Reading.{until}
-use Rattle.oa_idl.specs.Grammar.{one_more}
+use Rattle.oa_idl.specs.promise.Grammar.{one_more}
 use Rattle.oa_idl.specs.GrammarReading.{property_at, methods_at, ends_properties}
 use Rattle.oa_idl.proofs.Loop.{with_front}
 use Rattle.oa_idl.proofs.parser.properties.Given as goal

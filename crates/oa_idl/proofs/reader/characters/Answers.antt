@@ -1,5 +1,5 @@
 use Rattle.std.proofs.Common.{false, rules}
-use Rattle.oa_idl.specs.Words.{characters_from}
+use Rattle.oa_idl.specs.promise.Words.{characters_from}
 use Rattle.oa_idl.proofs.Strings.{character_refused}
 use Rattle.oa_idl.proofs.reader.characters.Goals as goal
 

@@ -1,5 +1,5 @@
 use Rattle.std.proofs.Common.{◌≡◌, ◌-◌, ◌≤◌, length, drop, false}
-use Rattle.oa_idl.specs.Words.{characters_from}
+use Rattle.oa_idl.specs.promise.Words.{characters_from}
 use Rattle.oa_idl.proofs.Strings.{after_front}
 use Rattle.oa_idl.proofs.reader.characters.Given as goal
 

@@ -1,5 +1,5 @@
 use Rattle.std.proofs.Common.{◌≡◌, ◌-◌, ◌<◌, ◌≤◌, ◌^◌, length, drop}
-use Rattle.oa_idl.specs.Words.{number_from}
+use Rattle.oa_idl.specs.promise.Words.{number_from}
 use Rattle.oa_idl.proofs.reader.digits.Given as goal
 
 abbrev pub invariant-loop-n : goal.invariant-loop-n

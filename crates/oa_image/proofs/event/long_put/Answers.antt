@@ -1,5 +1,5 @@
 use Rattle.std.proofs.Common.{◌∙◌, ap}
-use Rattle.oa_model.specs.Guids.{wire_order}
+use Rattle.oa_model.specs.promise.Guids.{wire_order}
 use Rattle.oa_image.proofs.LongPuts.{is_laid}
 use Rattle.oa_image.proofs.event.long_put.Goals as goal
 

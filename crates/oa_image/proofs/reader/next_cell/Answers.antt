@@ -1,5 +1,5 @@
 use Rattle.std.proofs.Common.{◌≡◌, true, false, ◌∙◌}
-use Rattle.oa_image.specs.Tables.{cell, place_before}
+use Rattle.oa_image.specs.promise.Tables.{cell, place_before}
 use Rattle.oa_image.specs.Reader.{is_behind}
 use Rattle.oa_image.proofs.Taken.{refused}
 use Rattle.oa_image.proofs.reader.next_cell.Goals as goal

@@ -1,5 +1,5 @@
 use Rattle.std.proofs.Common.{◌∙◌}
-use Rattle.oa_image.specs.Tables.{place_before}
+use Rattle.oa_image.specs.promise.Tables.{place_before}
 use Rattle.oa_image.proofs.Rising.{last_one}
 use Rattle.oa_image.proofs.reader.stands_behind.Goals as goal
 

@@ -1,5 +1,5 @@
 use Rattle.std.proofs.Common.{◌≡◌, true, take, ◌∙◌}
-use Rattle.oa_image.specs.Tables.{cell, place_before}
+use Rattle.oa_image.specs.promise.Tables.{cell, place_before}
 use Rattle.oa_image.specs.Reader.{is_behind, table_taken, with_at_hand}
 use Rattle.oa_image.proofs.Behind.{cell_comes}
 use Rattle.oa_image.proofs.InMemory.{cell_bytes}

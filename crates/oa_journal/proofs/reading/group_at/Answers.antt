@@ -1,7 +1,7 @@
 use Rattle.std.proofs.Common.{◌≡◌, ◌∙◌, ◌+◌, List, ℕ, length, sym, ap, subst, arith}
 use Rattle.std.specs.Int.{to_le_bytes, w32}
 use Rattle.oa_disk.specs.Disk.{HasBytesAt}
-use Rattle.oa_journal.specs.Bank.{from_place, Shows}
+use Rattle.oa_journal.specs.promise.Bank.{from_place, Shows}
 use Rattle.oa_journal.proofs.Fronts.{held}
 use Rattle.oa_journal.proofs.Opened.{both_ok}
 use Rattle.oa_journal.proofs.Unique.{same_number}

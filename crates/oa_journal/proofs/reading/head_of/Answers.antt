@@ -1,6 +1,6 @@
 use Rattle.std.proofs.Common.{◌≡◌}
 use Rattle.std.proofs.lemmas.Result.{err_from_is_err_and}
-use Rattle.oa_journal.specs.Bank.{from_place}
+use Rattle.oa_journal.specs.promise.Bank.{from_place}
 use Rattle.oa_journal.proofs.Unique.{one_head}
 use Rattle.oa_journal.proofs.reading.head_of.Goals as goal
 

@@ -1,5 +1,5 @@
 use Rattle.std.proofs.Common.{◌≡◌, ◌∙◌, ◌+◌, ◌^◌, ◌<◌, ℕ, List, length, ap, sym, subst, arith}
-use Rattle.oa_journal.specs.Bank.{from_place, IsGroupAt}
+use Rattle.oa_journal.specs.promise.Bank.{from_place, IsGroupAt}
 use Rattle.oa_journal.proofs.Banks.{group_numbered}
 use Rattle.oa_journal.proofs.Lockless.{group_unlocked}
 use Rattle.oa_journal.proofs.Applied.{no_group}

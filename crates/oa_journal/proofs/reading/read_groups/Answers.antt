@@ -1,8 +1,7 @@
 use Rattle.std.proofs.Common.{◌≡◌, ◌≢◌, ◌∙◌, ◌+◌, ◌-◌, ℕ, List, subst, sym, get_or, ap, length, take, IsTrue, arith}
 use Rattle.oa_disk.specs.Disk.{HasBytesAt}
-use Rattle.oa_journal.specs.Bank.{from_place, IsGroupAt}
+use Rattle.oa_journal.specs.promise.Bank.{from_place, IsGroupAt, Replays}
 use Rattle.oa_journal.proofs.Damages.{to_closed}
-use Rattle.oa_journal.specs.Replays.{Replays}
 use Rattle.oa_journal.proofs.Opened.{group_more, gate_moved}
 use Rattle.oa_journal.proofs.ReadOn.{reads_ok, reads_then}
 use Rattle.oa_journal.proofs.reading.read_groups.Goals as goal

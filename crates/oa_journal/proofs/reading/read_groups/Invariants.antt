@@ -1,9 +1,8 @@
 use Rattle.std.proofs.Common.{◌≡◌, ◌↔◌, ◌<◌, ◌≤◌, ◌+◌, ◌-◌, ℕ, List, IsTrue, length, slice_index, Ok}
-use Rattle.oa_journal.specs.Bank.{from_place}
-use Rattle.oa_journal.specs.Damages.{AreGroupsTo}
+use Rattle.oa_journal.specs.promise.Bank.{from_place, ReplaysAll}
+use Rattle.oa_journal.specs.promise.Damages.{AreGroupsTo}
 use Rattle.oa_journal.specs.ReadCalls.{IsAhead, IsStored}
 use Rattle.oa_journal.specs.Reads.{AfterReads}
-use Rattle.oa_journal.specs.Replays.{ReplaysAll}
 use Rattle.oa_journal.proofs.reading.read_groups.Given as goal
 
 -- the groups so far make the table so far, nothing was written, and no call failed

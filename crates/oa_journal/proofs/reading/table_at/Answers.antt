@@ -1,8 +1,7 @@
 use Rattle.std.proofs.Common.{◌+◌, ◌-◌, ◌<◌, inr, subst, ℕ, List, arith}
 use Rattle.std.proofs.lemmas.Result.{IfOk-weaker}
-use Rattle.oa_journal.specs.Bank.{from_place, AreGroups}
-use Rattle.oa_journal.specs.Damages.{StopsAt}
-use Rattle.oa_journal.specs.Shapes.{body_bytes}
+use Rattle.oa_journal.specs.promise.Bank.{from_place, AreGroups, body_bytes}
+use Rattle.oa_journal.specs.promise.Damages.{StopsAt}
 use Rattle.oa_journal.proofs.Damages.{behind_library, library_long}
 use Rattle.oa_journal.proofs.ReadOn.{reads_then}
 use Rattle.oa_journal.proofs.reading.table_at.Goals as goal

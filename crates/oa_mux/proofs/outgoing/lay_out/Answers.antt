@@ -2,7 +2,7 @@ use Rattle.std.proofs.Common.{◌+◌, ◌++◌, arith, length, refl}
 use Rattle.std.specs.Int.{to_le_bytes, w32}
 use borrow.Rule.Slice.PartMut.{post_of}
 use Rattle.oa_frame.proofs.Pieces.{two_pieces}
-use Rattle.oa_mux.specs.Frames.{frame_head}
+use Rattle.oa_mux.specs.promise.Frames.{frame_head}
 use Rattle.oa_mux.proofs.outgoing.lay_out.Goals as goal
 
 pub returns : goal.returns

@@ -1,9 +1,10 @@
 use Rattle.std.proofs.Common.{◌+◌, ◌++◌, arith, length, subst}
 use Rattle.std.specs.Int.{to_le_bytes, w32}
 use Rattle.std.proofs.lemmas.Result.{err_from_is_err_and}
-use Rattle.oa_stream.specs.Sink.{Breaks, Puts}
+use Rattle.oa_stream.specs.promise.Sink.{Breaks}
+use Rattle.oa_stream.specs.Sink.{Puts}
 use Rattle.oa_stream.proofs.Stretches.{breaks_before, puts_then}
-use Rattle.oa_mux.specs.Frames.{frame_head}
+use Rattle.oa_mux.specs.promise.Frames.{frame_head}
 use Rattle.oa_mux.proofs.Putting.{laid_out}
 use Rattle.oa_mux.proofs.outgoing.put_reply_of.Goals as goal
 

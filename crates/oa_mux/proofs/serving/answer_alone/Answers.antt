@@ -1,6 +1,6 @@
 use Rattle.std.proofs.Common.{◌∷◌, []}
-use Rattle.oa_mux.specs.Marks.{Flush, Of}
-use Rattle.oa_mux.specs.Readers.{Body}
+use Rattle.oa_mux.specs.promise.Marks.{Flush, Of}
+use Rattle.oa_mux.specs.promise.Readers.{Body}
 use Rattle.oa_mux.proofs.Tellings.{loses_once, loses_then, told_once, told_then}
 use Rattle.oa_mux.proofs.serving.answer_alone.Goals as goal
 

@@ -1,6 +1,6 @@
 use Rattle.std.proofs.Common.{◌≡◌, false}
 use Rattle.oa_stream.specs.BufferedSource.{ahead, read_ahead}
-use Rattle.oa_mux.specs.Shared.{starting}
+use Rattle.oa_mux.specs.promise.Shared.{starting}
 use Rattle.oa_mux.proofs.Talks.{SharedSoFar}
 use Rattle.oa_mux.proofs.serving.serve_clients.Given as goal
 

@@ -1,4 +1,4 @@
-use Rattle.oa_printer.specs.Marked.{marked}
+use Rattle.oa_printer.specs.promise.Marked.{marked}
 use Rattle.oa_printer.proofs.MarkedTrees.{printable_marked}
 use Rattle.oa_printer.proofs.PrintedTrees.{is_read}
 use Rattle.oa_printer.proofs.ReadTrees.{is_printable_tree}

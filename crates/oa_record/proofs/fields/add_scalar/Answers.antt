@@ -1,6 +1,6 @@
 use Rattle.std.proofs.Common.{◌≡◌, ◌∙◌, ℕ, Vec, Global, OnErr, OnOk, ap, subst}
 use Rattle.oa_ndr.specs.Writing.{FieldOutput, field_after, in_field}
-use Rattle.oa_wire_array.specs.Canon.{put_scalar}
+use Rattle.oa_wire_array.specs.promise.Canon.{put_scalar}
 use Rattle.oa_record.proofs.Lengths.{field_added, field_kept}
 use Rattle.oa_record.proofs.fields.add_scalar.Goals as goal
 

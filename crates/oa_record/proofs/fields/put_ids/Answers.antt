@@ -3,7 +3,7 @@ use Rattle.std.specs.Prelude.{FitsSigned}
 use Rattle.std.specs.Int.{w32}
 use Rattle.std.proofs.lemmas.Int.{to_z-of_z}
 use Rattle.std.proofs.lemmas.List.{flat_map_more, take_all, take_more}
-use Rattle.oa_record.specs.Replies.{signed_word}
+use Rattle.oa_record.specs.promise.Replies.{signed_word}
 use Rattle.oa_record.proofs.fields.put_ids.Goals as goal
 
 pub ids-preserved : goal.ids-preserved

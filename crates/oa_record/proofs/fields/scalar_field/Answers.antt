@@ -1,6 +1,6 @@
 use Rattle.std.proofs.Common.{◌≤◌, length, arith}
 use Rattle.oa_variant.specs.declared.variant.Variant.TheVariants.{One}
-use Rattle.oa_wire_variant.specs.Canon.{canon}
+use Rattle.oa_wire_variant.specs.promise.Canon.{canon}
 use Rattle.oa_record.specs.Replies.{max_value_bytes}
 use Rattle.oa_record.proofs.Lengths.{value_small}
 use Rattle.oa_record.proofs.fields.scalar_field.Goals as goal

@@ -3,7 +3,7 @@ use Rattle.std.specs.Prelude.{FitsSigned}
 use Rattle.std.specs.Int.{w32}
 use Rattle.std.proofs.lemmas.Int.{to_z-of_z}
 use Rattle.std.proofs.lemmas.Result.{err_from_is_err_and}
-use Rattle.oa_ndr.specs.Reading.{many}
+use Rattle.oa_ndr.specs.promise.Reading.{many}
 use Rattle.oa_ndr.proofs.Loop.{many_goes_on, many_ends, many_done}
 use Rattle.oa_record.specs.Reading.{dispid_at}
 use Rattle.oa_record.proofs.layout.dispids.Goals as goal

@@ -1,7 +1,7 @@
 use Rattle.std.proofs.Common.{rules, ℕ, List, Bor, map}
 use Rattle.std.proofs.lemmas.List.{map_push}
 use Rattle.std.proofs.lemmas.Result.{err_from_is_err_and}
-use Rattle.oa_ndr.specs.Reading.{many}
+use Rattle.oa_ndr.specs.promise.Reading.{many}
 use Rattle.oa_ndr.proofs.Loop.{many_goes_on, many_ends, many_done}
 use Rattle.oa_record.specs.Reading.{field_at}
 use Rattle.oa_record.proofs.layout.fields.Goals as goal

@@ -1,7 +1,7 @@
 use Rattle.std.proofs.Common.{rules, Vec, Global, ℕ, map}
 use Rattle.std.proofs.lemmas.List.{map_push}
 use Rattle.std.proofs.lemmas.Result.{err_from_is_err_and}
-use Rattle.oa_ndr.specs.Reading.{many}
+use Rattle.oa_ndr.specs.promise.Reading.{many}
 use Rattle.oa_ndr.proofs.Loop.{many_goes_on}
 use Rattle.oa_record.specs.Reading.{string_at}
 use Rattle.oa_record.proofs.Fallible.{many_fails}

@@ -1,6 +1,6 @@
 use Rattle.std.proofs.Common.{◌≡◌, ◌++◌, ◌∷◌, [], Bor, ℕ, List, length, map, ap, subst, sym, ◌∙◌}
 use Rattle.std.proofs.lemmas.List.{length-map}
-use Rattle.oa_record.specs.Asks.{AllSpell}
+use Rattle.oa_record.specs.promise.Asks.{AllSpell}
 use Rattle.oa_record.specs.Judging.{RefusesFields, put_fault}
 use Rattle.oa_record.proofs.Requests.{refuses_put, takes_put}
 use Rattle.oa_record.proofs.reading.put_element.Goals as goal

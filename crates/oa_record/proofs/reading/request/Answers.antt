@@ -1,7 +1,7 @@
 use Rattle.std.proofs.Common.{Err, refl, subst, sym, arith}
 use Rattle.std.proofs.lemmas.Result.{err_from_is_err_and}
 use Rattle.oa_record.specs.Judging.{Requests}
-use Rattle.oa_record.specs.Layouts.{Layout}
+use Rattle.oa_record.specs.promise.Layouts.{Layout}
 use Rattle.oa_record.specs.Reading.{parts_of_element, redim_of}
 use Rattle.oa_record.specs.Shown.{shown}
 use Rattle.oa_record.specs.declared.body_parts.Parts.{Parts}

@@ -1,6 +1,6 @@
 use Rattle.std.proofs.Common.{◌≡◌, drop}
 use Rattle.std.specs.Cmp.Lexicographic.{pointwise}
-use Rattle.oa_sema.specs.Agreement.{same_parameter}
+use Rattle.oa_sema.specs.promise.Agreement.{same_parameter}
 use Rattle.oa_sema.proofs.agreement.same_parameters.Given as goal
 
 abbrev pub invariant-loop-place : goal.invariant-loop-place

@@ -1,5 +1,5 @@
 use Rattle.std.proofs.Common.{Bor, Vec, Global, List, ℕ}
-use Rattle.oa_model.specs.Folding.{folded_name}
+use Rattle.oa_model.specs.promise.Folding.{folded_name}
 use Rattle.oa_sema.proofs.Loops.{mapped_more}
 use Rattle.oa_sema.proofs.checks.all_folded.Goals as goal
 

@@ -1,5 +1,5 @@
 use Rattle.std.proofs.Common.{◌≡◌, map, take}
-use Rattle.oa_model.specs.Folding.{folded_name}
+use Rattle.oa_model.specs.promise.Folding.{folded_name}
 use Rattle.oa_sema.proofs.checks.all_folded.Given as goal
 
 abbrev pub invariant-loop-name : goal.invariant-loop-name

@@ -1,5 +1,5 @@
 use Rattle.std.proofs.Common.{◌≡◌, ◌∷◌, map, take}
-use Rattle.oa_sema.specs.Libraries.{item_guid}
+use Rattle.oa_sema.specs.promise.Libraries.{item_guid}
 use Rattle.oa_sema.proofs.checks.all_guids.Given as goal
 
 abbrev pub invariant-loop-item : goal.invariant-loop-item

@@ -3,7 +3,8 @@ use Rattle.std.specs.Option.{option_map, option_or}
 use Rattle.oa_idl.specs.declared.items.Item.{Item}
 use Rattle.oa_sema.specs.declared.fault.CheckError.{CheckError}
 use Rattle.oa_sema.specs.declared.fault.CheckError.TheVariants.{UnknownInterface}
-use Rattle.oa_sema.specs.Breaches.{RefusesBreach, interface_breach, form_breaches}
+use Rattle.oa_sema.specs.Breaches.{RefusesBreach}
+use Rattle.oa_sema.specs.promise.Breaches.{interface_breach, form_breaches}
 use Rattle.oa_sema.proofs.Passes.{refused, for_memory}
 use Rattle.oa_sema.proofs.Passes.{breach_before, no_breach_before}
 use Rattle.oa_sema.proofs.checks.check_contents.Goals as goal

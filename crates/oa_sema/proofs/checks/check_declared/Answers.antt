@@ -1,8 +1,8 @@
 use Rattle.std.proofs.Common.{◌++◌, ◌∷◌, [], Some, if◌then◌else◌, map, take, sym, ap, ◌∙◌}
 use Rattle.std.specs.Option.{option_map}
 use Rattle.oa_idl.specs.declared.parts.Parameter.{Parameter}
-use Rattle.oa_sema.specs.Breaches.{declared_breach, repeated_name}
-use Rattle.oa_sema.specs.Repeats.{first_after}
+use Rattle.oa_sema.specs.promise.Breaches.{declared_breach, repeated_name}
+use Rattle.oa_sema.specs.promise.Repeats.{first_after}
 use Rattle.oa_sema.specs.Taken.{takes_reading, takes_setting, names_taken, is_taken}
 use Rattle.oa_sema.specs.declared.fault.CheckError.TheVariants.{DuplicateName}
 use Rattle.oa_sema.proofs.Passes.{refuses_more, no_refusal, refused}

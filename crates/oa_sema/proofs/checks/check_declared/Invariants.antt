@@ -1,6 +1,6 @@
 use Rattle.std.proofs.Common.{◌≡◌, [], take, drop}
-use Rattle.oa_sema.specs.Breaches.{declared_breach}
-use Rattle.oa_sema.specs.Repeats.{first_after}
+use Rattle.oa_sema.specs.promise.Breaches.{declared_breach}
+use Rattle.oa_sema.specs.promise.Repeats.{first_after}
 use Rattle.oa_sema.specs.Taken.{takes_reading, takes_setting, names_taken}
 use Rattle.oa_sema.proofs.checks.check_declared.Given as goal
 

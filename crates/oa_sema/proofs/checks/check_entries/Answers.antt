@@ -1,8 +1,8 @@
 use Rattle.std.proofs.Common.{Some, sym, ap, ◌∙◌}
 use Rattle.std.specs.Option.{option_map}
 use Rattle.oa_sema.specs.declared.fault.CheckError.TheVariants.{UnknownInterface}
-use Rattle.oa_sema.specs.Breaches.{unknown_name}
-use Rattle.oa_sema.specs.Libraries.{interface_named}
+use Rattle.oa_sema.specs.promise.Breaches.{unknown_name}
+use Rattle.oa_sema.specs.promise.Libraries.{interface_named}
 use Rattle.oa_sema.proofs.Passes.{answer_found, answer_on, answer_done, is_known, is_unknown}
 use Rattle.oa_sema.proofs.checks.check_entries.Goals as goal
 

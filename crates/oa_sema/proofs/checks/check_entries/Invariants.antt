@@ -1,6 +1,6 @@
 use Rattle.std.proofs.Common.{◌≡◌, drop}
-use Rattle.oa_sema.specs.Breaches.{unknown_name}
-use Rattle.oa_sema.specs.Repeats.{first_answer}
+use Rattle.oa_sema.specs.promise.Breaches.{unknown_name}
+use Rattle.oa_sema.specs.promise.Repeats.{first_answer}
 use Rattle.oa_sema.proofs.checks.check_entries.Given as goal
 
 abbrev pub invariant-loop-entry : goal.invariant-loop-entry

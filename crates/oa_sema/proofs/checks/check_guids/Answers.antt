@@ -1,12 +1,11 @@
 use Rattle.std.proofs.Common.{◌<◌, ◌-◌, ◌∷◌, ℕ, List, Some, map, length, ap, sym, ◌∙◌}
 use Rattle.std.specs.Option.{option_map}
 use Rattle.oa_sema.specs.declared.fault.CheckError.TheVariants.{DuplicateGuid}
-use Rattle.oa_sema.specs.Libraries.{same}
+use Rattle.oa_sema.specs.promise.Libraries.{same, item_guid}
 use Rattle.std.proofs.lemmas.List.{length-map}
 use Rattle.oa_sema.proofs.Passes.{behind_first, none_repeats, one_repeats, repeats_later, same_list}
 use Rattle.std.proofs.Common.{subst, arith, remove}
 use Rattle.oa_sema.specs.Keys.{TellsDistinct}
-use Rattle.oa_sema.specs.Libraries.{item_guid}
 use Rattle.oa_sema.proofs.checks.check_guids.Goals as goal
 
 pub returns-in-All : goal.returns-in-All

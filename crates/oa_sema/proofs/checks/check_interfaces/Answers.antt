@@ -1,9 +1,9 @@
 use Rattle.std.proofs.Common.{ap}
 use Rattle.std.specs.Option.{option_map}
 use Rattle.oa_sema.specs.declared.fault.CheckError.TheVariants.{UnknownInterface}
-use Rattle.oa_sema.specs.Breaches.{entry_breach}
+use Rattle.oa_sema.specs.promise.Breaches.{entry_breach}
 use Rattle.oa_sema.proofs.Passes.{refuses_more, no_refusal, answer_found, answer_on, answer_done, refused}
-use Rattle.oa_sema.specs.Repeats.{first_answer}
+use Rattle.oa_sema.specs.promise.Repeats.{first_answer}
 use Rattle.oa_sema.proofs.checks.check_interfaces.Goals as goal
 
 pub returns-in_err-check_item : goal.returns-in_err-check_item

@@ -1,6 +1,6 @@
 use Rattle.std.proofs.Common.{◌≡◌, drop}
-use Rattle.oa_sema.specs.Breaches.{entry_breach}
-use Rattle.oa_sema.specs.Repeats.{first_answer}
+use Rattle.oa_sema.specs.promise.Breaches.{entry_breach}
+use Rattle.oa_sema.specs.promise.Repeats.{first_answer}
 use Rattle.oa_sema.proofs.checks.check_interfaces.Given as goal
 
 abbrev pub invariant-loop-item : goal.invariant-loop-item

@@ -1,10 +1,10 @@
 use Rattle.std.proofs.Common.{◌≡◌, ◌++◌, ◌∷◌, [], ℕ, List, map, take, sym, ap, ◌∙◌, Some, if◌then◌else◌}
 use Rattle.std.specs.List.{list_any}
 use Rattle.std.specs.Option.{option_map}
-use Rattle.oa_model.specs.Folding.{folded_name}
+use Rattle.oa_model.specs.promise.Folding.{folded_name}
 use Rattle.oa_sema.specs.declared.fault.CheckError.TheVariants.{DuplicateName}
-use Rattle.oa_sema.specs.Breaches.{item_breach, inner_breach, name_breach}
-use Rattle.oa_sema.specs.Libraries.{same, item_name}
+use Rattle.oa_sema.specs.promise.Breaches.{item_breach, inner_breach, name_breach}
+use Rattle.oa_sema.specs.promise.Libraries.{same, item_name}
 use Rattle.oa_sema.proofs.Passes.{refuses_more, no_refusal, item_breach_by_names, mapped_more, mapped_all, refused}
 use Rattle.oa_sema.proofs.Walks.{after_found, after_on, after_done}
 use Rattle.oa_sema.proofs.checks.check_names.Goals as goal

@@ -1,8 +1,8 @@
 use Rattle.std.proofs.Common.{◌≡◌, [], map, take, drop}
-use Rattle.oa_model.specs.Folding.{folded_name}
-use Rattle.oa_sema.specs.Breaches.{item_breach}
-use Rattle.oa_sema.specs.Libraries.{item_name}
-use Rattle.oa_sema.specs.Repeats.{first_after}
+use Rattle.oa_model.specs.promise.Folding.{folded_name}
+use Rattle.oa_sema.specs.promise.Breaches.{item_breach}
+use Rattle.oa_sema.specs.promise.Libraries.{item_name}
+use Rattle.oa_sema.specs.promise.Repeats.{first_after}
 use Rattle.oa_sema.proofs.checks.check_names.Given as goal
 
 abbrev pub invariant-loop-item : goal.invariant-loop-item

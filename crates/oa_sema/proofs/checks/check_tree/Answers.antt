@@ -1,10 +1,10 @@
 use Rattle.std.proofs.Common.{◌≡◌, map, ◌∙◌}
 use Rattle.std.specs.Option.{option_map, option_or}
-use Rattle.oa_model.specs.Folding.{folded_name}
+use Rattle.oa_model.specs.promise.Folding.{folded_name}
 use Rattle.oa_sema.specs.declared.checks.Checked.{Checked}
 use Rattle.oa_sema.specs.declared.fault.CheckError.TheVariants.{UnknownInterface}
-use Rattle.oa_sema.specs.Breaches.{key_breaches, interface_breach, form_breaches, tree_breach}
-use Rattle.oa_sema.specs.Libraries.{item_name, item_guid}
+use Rattle.oa_sema.specs.promise.Breaches.{key_breaches, interface_breach, form_breaches, tree_breach}
+use Rattle.oa_sema.specs.promise.Libraries.{item_name, item_guid}
 use Rattle.oa_sema.proofs.Passes.{refused, for_memory}
 use Rattle.oa_sema.proofs.Passes.{no_breach_before}
 use Rattle.oa_sema.proofs.checks.check_tree.Goals as goal

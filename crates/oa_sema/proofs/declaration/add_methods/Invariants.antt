@@ -1,5 +1,5 @@
 use Rattle.std.proofs.Common.{◌≡◌, ◌++◌, map, take}
-use Rattle.oa_sema.specs.Declarations.{of_method}
+use Rattle.oa_sema.specs.promise.Declarations.{of_method}
 use Rattle.oa_sema.proofs.declaration.add_methods.Given as goal
 
 abbrev pub invariant-loop-method : goal.invariant-loop-method

@@ -1,5 +1,5 @@
 use Rattle.std.proofs.Common.{◌≡◌, map, take}
-use Rattle.oa_sema.specs.Declarations.{of_property}
+use Rattle.oa_sema.specs.promise.Declarations.{of_property}
 use Rattle.oa_sema.proofs.declaration.of_properties.Given as goal
 
 abbrev pub invariant-loop-property : goal.invariant-loop-property

@@ -1,5 +1,5 @@
 use Rattle.std.proofs.Common.{◌≡◌, take}
-use Rattle.oa_sema.specs.Defaults.{wide}
+use Rattle.oa_sema.specs.promise.Defaults.{wide}
 use Rattle.oa_sema.proofs.default_value.wide.Given as goal
 
 abbrev pub invariant-loop-character : goal.invariant-loop-character

@@ -1,5 +1,5 @@
 use Rattle.std.proofs.Common.{◌∙◌, ap, sym, arith}
-use Rattle.oa_sema.specs.Libraries.{item_guid, same}
+use Rattle.oa_sema.specs.promise.Libraries.{item_guid, same}
 use Rattle.oa_sema.proofs.Fronts.{found_here, comes_later, not_in_front}
 use Rattle.oa_sema.proofs.guids.place_in_front.Goals as goal
 

@@ -1,6 +1,6 @@
 use Rattle.std.specs.Prelude.{◌≤◌}
 use Rattle.std.specs.List.{position_or_len}
-use Rattle.oa_sema.specs.Libraries.{item_guid, same}
+use Rattle.oa_sema.specs.promise.Libraries.{item_guid, same}
 use Rattle.oa_sema.proofs.guids.place_in_front.Given as goal
 
 abbrev pub invariant-items : goal.invariant-items

@@ -1,4 +1,4 @@
-use Rattle.oa_sema.specs.Libraries.{marked_item}
+use Rattle.oa_sema.specs.promise.Libraries.{marked_item}
 use Rattle.oa_sema.proofs.Marks.{turn_writes, all_written}
 use Rattle.oa_sema.proofs.marking.mark_items.Goals as goal
 

@@ -1,5 +1,5 @@
 use Rattle.std.proofs.Common.{◌≡◌, map, take, drop}
-use Rattle.oa_sema.specs.Libraries.{marked_item}
+use Rattle.oa_sema.specs.promise.Libraries.{marked_item}
 use Rattle.oa_sema.proofs.marking.mark_items.Given as goal
 
 abbrev pub invariant-loop-item : goal.invariant-loop-item

@@ -1,5 +1,5 @@
 use Rattle.std.proofs.Common.{sym, ap, ◌∙◌, option_copied}
-use Rattle.oa_sema.specs.Breaches.{in_interface}
+use Rattle.oa_sema.specs.promise.Breaches.{in_interface}
 use Rattle.oa_sema.specs.MemberChecks.{breach_by}
 use Rattle.oa_sema.proofs.Passes.{answer_found, answer_on, answer_done}
 use Rattle.oa_sema.proofs.member_checks.check_members.Goals as goal

@@ -1,5 +1,5 @@
 use Rattle.std.proofs.Common.{sym}
-use Rattle.oa_sema.specs.Breaches.{first_array_parameter}
+use Rattle.oa_sema.specs.promise.Breaches.{first_array_parameter}
 use Rattle.oa_sema.proofs.Passes.{answer_found, answer_on, answer_done}
 use Rattle.oa_sema.proofs.member_checks.first_array.Goals as goal
 

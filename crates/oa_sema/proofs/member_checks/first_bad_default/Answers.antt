@@ -1,5 +1,5 @@
 use Rattle.std.proofs.Common.{sym}
-use Rattle.oa_sema.specs.Breaches.{bad_default_in}
+use Rattle.oa_sema.specs.promise.Breaches.{bad_default_in}
 use Rattle.oa_sema.proofs.Passes.{answer_found, answer_on, answer_done}
 use Rattle.oa_sema.proofs.member_checks.first_bad_default.Goals as goal
 

@@ -1,6 +1,6 @@
 use Rattle.std.proofs.Common.{◌≡◌, drop}
-use Rattle.oa_sema.specs.Breaches.{bad_default_in}
-use Rattle.oa_sema.specs.Repeats.{first_answer}
+use Rattle.oa_sema.specs.promise.Breaches.{bad_default_in}
+use Rattle.oa_sema.specs.promise.Repeats.{first_answer}
 use Rattle.oa_sema.proofs.member_checks.first_bad_default.Given as goal
 
 abbrev pub invariant-loop-declaration : goal.invariant-loop-declaration

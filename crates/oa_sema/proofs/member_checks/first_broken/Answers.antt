@@ -1,6 +1,6 @@
 use Rattle.std.proofs.Common.{Some, sym, ap, ◌∙◌}
-use Rattle.oa_sema.specs.DeclarationValues.{DeclarationValue}
-use Rattle.oa_sema.specs.Breaches.{broken_by}
+use Rattle.oa_sema.specs.promise.DeclarationValues.{DeclarationValue}
+use Rattle.oa_sema.specs.promise.Breaches.{broken_by}
 use Rattle.oa_sema.specs.MemberChecks.{breaks}
 use Rattle.oa_sema.proofs.Rules.{place_within, broken_here, unbroken_here, kept_here}
 use Rattle.oa_sema.proofs.Walks.{after_found, after_on, after_done}

@@ -1,7 +1,7 @@
 use Rattle.std.proofs.Common.{◌≡◌, [], take, drop}
-use Rattle.oa_sema.specs.Breaches.{broken_by}
+use Rattle.oa_sema.specs.promise.Breaches.{broken_by}
 use Rattle.oa_sema.specs.MemberChecks.{alike, suits, breaks}
-use Rattle.oa_sema.specs.Repeats.{first_after}
+use Rattle.oa_sema.specs.promise.Repeats.{first_after}
 use Rattle.oa_sema.proofs.Walks.{Keeps_it}
 use Rattle.oa_sema.proofs.member_checks.first_broken.Given as goal
 

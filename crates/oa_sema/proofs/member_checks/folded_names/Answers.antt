@@ -1,6 +1,6 @@
 use Rattle.std.proofs.Common.{Vec, Global, ℕ, ap, ◌∙◌}
-use Rattle.oa_model.specs.Folding.{folded_name}
-use Rattle.oa_sema.specs.DeclarationValues.{DeclarationValue}
+use Rattle.oa_model.specs.promise.Folding.{folded_name}
+use Rattle.oa_sema.specs.promise.DeclarationValues.{DeclarationValue}
 use Rattle.oa_sema.proofs.Loops.{mapped_more}
 use Rattle.oa_sema.proofs.member_checks.folded_names.Goals as goal
 

@@ -1,5 +1,5 @@
 use Rattle.std.proofs.Common.{◌≡◌, map, take}
-use Rattle.oa_model.specs.Folding.{folded_name}
+use Rattle.oa_model.specs.promise.Folding.{folded_name}
 use Rattle.oa_sema.proofs.member_checks.folded_names.Given as goal
 
 abbrev pub invariant-loop-declaration : goal.invariant-loop-declaration

@@ -1,6 +1,6 @@
 use Rattle.std.proofs.Common.{◌≡◌, ℕ, List, [], Option, IfOk, subst, ap, ◌∙◌}
 use Rattle.std.specs.Ordering.{int_eq}
-use Rattle.oa_sema.specs.DeclarationValues.{DeclarationValue}
+use Rattle.oa_sema.specs.promise.DeclarationValues.{DeclarationValue}
 use Rattle.oa_sema.specs.Repeats.{places_before}
 use Rattle.oa_sema.proofs.Walks.{places-map}
 use Rattle.oa_sema.proofs.member_checks.same_ids_before.Goals as goal

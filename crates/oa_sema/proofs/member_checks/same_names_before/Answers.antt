@@ -1,7 +1,7 @@
 use Rattle.std.proofs.Common.{◌≡◌, ℕ, List, [], Option, IfOk, subst, sym, ap, ◌∙◌, Vec, Global}
-use Rattle.oa_model.specs.Folding.{folded_name}
-use Rattle.oa_sema.specs.DeclarationValues.{DeclarationValue}
-use Rattle.oa_sema.specs.Libraries.{same}
+use Rattle.oa_model.specs.promise.Folding.{folded_name}
+use Rattle.oa_sema.specs.promise.DeclarationValues.{DeclarationValue}
+use Rattle.oa_sema.specs.promise.Libraries.{same}
 use Rattle.oa_sema.specs.Repeats.{places_before}
 use Rattle.oa_sema.proofs.Walks.{places-map}
 use Rattle.oa_sema.proofs.member_checks.same_names_before.Goals as goal

@@ -1,9 +1,9 @@
 use Rattle.std.proofs.Common.{[], subst}
-use Rattle.oa_server.specs.Sharing.{shared, tagged_body}
+use Rattle.oa_server.specs.promise.SharedMachine.{shared, tagged_body}
 use Rattle.oa_server.proofs.HeldForMany.{lock_eventless, same_from}
-use Rattle.oa_mux.specs.Readers.{Body}
-use Rattle.oa_decision.specs.States.{State}
-use Rattle.oa_turn.specs.Locking.{AsksLock}
+use Rattle.oa_mux.specs.promise.Readers.{Body}
+use Rattle.oa_decision.specs.promise.States.{State}
+use Rattle.oa_turn.specs.promise.Locking.{AsksLock}
 use Rattle.oa_server.proofs.desk.ask_over.Goals as goal
 
 pub returns-in-Some-clause-held : goal.returns-in-Some-clause-held

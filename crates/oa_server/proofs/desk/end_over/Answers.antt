@@ -1,7 +1,7 @@
 use Rattle.std.proofs.Common.{[], ◌∷◌, ◌++◌, inl, inr, Some, refl, sym, ◌∙◌}
-use Rattle.oa_server.specs.Sharing.{shared, tagged_body}
+use Rattle.oa_server.specs.promise.SharedMachine.{shared, tagged_body}
 use Rattle.oa_server.proofs.HeldForMany.{end_eventless}
-use Rattle.oa_mux.specs.Readers.{Ends}
+use Rattle.oa_mux.specs.promise.Readers.{Ends}
 use Rattle.oa_server.proofs.desk.end_over.Goals as goal
 
 pub returns-clause-held : goal.returns-clause-held

@@ -1,8 +1,8 @@
 use Rattle.std.proofs.Common.{List, [], ◌∷◌, inl, refl, subst, sym}
-use Rattle.oa_group_commit.specs.GroupStates.{IsAdmitted}
-use Rattle.oa_record.specs.Replies.{ReplyValue}
+use Rattle.oa_group_commit.specs.promise.Groups.{IsAdmitted}
+use Rattle.oa_record.specs.promise.Replies.{ReplyValue}
 use Rattle.oa_server.specs.OpenGroups.{grouping, grouping_of}
-use Rattle.oa_server.specs.ServerMachine.{server_machine}
+use Rattle.oa_server.specs.promise.ServerMachine.{server_machine}
 use Rattle.oa_server.proofs.Replacing.{taken_by_itself}
 use Rattle.oa_server.proofs.grouping.admit_barrier.Goals as goal
 

@@ -3,7 +3,7 @@ use Rattle.std.proofs.lemmas.List.{map_push, take_all, take_more}
 use Rattle.oa_group_commit.proofs.Ends.{underway_ended}
 use Rattle.oa_group_commit.proofs.Takes.{underway_start, underway_taken}
 use Rattle.oa_server.specs.OpenGroups.{grouping}
-use Rattle.oa_server.specs.ServerMachine.{server_machine}
+use Rattle.oa_server.specs.promise.ServerMachine.{server_machine}
 use Rattle.oa_server.proofs.AnsweredAfterFault.{late_ended, late_more, late_none}
 use Rattle.oa_server.proofs.Settled.{ready_none}
 use Rattle.oa_server.proofs.grouping.run_over.Goals as goal

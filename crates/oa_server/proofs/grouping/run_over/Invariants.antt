@@ -1,9 +1,8 @@
 use Rattle.std.proofs.Common.{◌≡◌, ◌+◌, ◌≤◌, false, true, [], take, map, length}
 use Rattle.std.specs.Prelude.{vec_capacity}
 use Rattle.oa_group_commit.specs.Invariants.{GroupInvariant}
-use Rattle.oa_server.specs.Answers.{AnswersAfterFault}
+use Rattle.oa_server.specs.promise.ServerMachine.{AnswersAfterFault, server_machine}
 use Rattle.oa_server.specs.OpenGroups.{HasBanks, IsReady, grouping}
-use Rattle.oa_server.specs.ServerMachine.{server_machine}
 use Rattle.oa_server.proofs.grouping.run_over.Given as goal
 
 abbrev pub invariant-bodies : goal.invariant-bodies

@@ -1,7 +1,7 @@
 use Rattle.std.proofs.Common.{ap, rules}
 use Rattle.oa_image.proofs.Lengths.{event_bytes}
 use Rattle.oa_store.proofs.Committed.{one_event}
-use Rattle.oa_table.specs.Tables.{unlocked_table}
+use Rattle.oa_table.specs.promise.Tables.{unlocked_table}
 use Rattle.oa_turn.proofs.Allowed.{is_allowed}
 use Rattle.oa_server.proofs.TurnsOverStore.{carried}
 use Rattle.oa_server.proofs.holding.hold_change.Goals as goal

@@ -1,6 +1,6 @@
 use Rattle.std.proofs.Common.{ap, arith, rules, sym, ◌∙◌}
 use Rattle.oa_store.proofs.Committed.{still_carried}
-use Rattle.oa_turn.specs.Events.{held_of}
+use Rattle.oa_turn.specs.promise.Events.{held_of}
 use Rattle.oa_turn.proofs.SameLibrary.{ordinary_bank}
 use Rattle.oa_server.proofs.TurnsOverStore.{answered, carried}
 use Rattle.oa_server.proofs.holding.turn_held.Goals as goal

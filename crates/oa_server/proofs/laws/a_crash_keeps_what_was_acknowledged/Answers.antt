@@ -1,6 +1,6 @@
 use Rattle.oa_group_commit.proofs.Calling.{session_ended, session_left, session_stopped}
-use Rattle.oa_server.specs.ServerMachine.{server_machine}
-use Rattle.oa_server.specs.SharedMachine.{shared_machine}
+use Rattle.oa_server.specs.promise.ServerMachine.{server_machine}
+use Rattle.oa_server.specs.promise.SharedMachine.{shared_machine}
 use Rattle.oa_server.proofs.laws.a_crash_keeps_what_was_acknowledged.Goals as goal
 
 pub returns-clause-stopped : goal.returns-clause-stopped

@@ -1,7 +1,7 @@
 use Rattle.std.proofs.Common.{refl}
 use Rattle.oa_group_commit.proofs.Calling.{one_fault, session_called, session_goes_on, session_late, session_opened, session_stands, session_stopped}
 use Rattle.oa_group_commit.proofs.Histories.{crash_histories_keep_groups, refused_groups_leave_no_trace}
-use Rattle.oa_server.specs.SharedMachine.{shared_machine}
+use Rattle.oa_server.specs.promise.SharedMachine.{shared_machine}
 use Rattle.oa_server.proofs.laws.many_clients.Goals as goal
 
 pub returns-clause-headline : goal.returns-clause-headline

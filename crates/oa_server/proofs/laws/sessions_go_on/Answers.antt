@@ -1,6 +1,6 @@
 use Rattle.std.proofs.Common.{refl}
 use Rattle.oa_group_commit.proofs.Calling.{one_fault, session_called, session_goes_on, session_late, session_opened, session_stands}
-use Rattle.oa_server.specs.ServerMachine.{server_machine}
+use Rattle.oa_server.specs.promise.ServerMachine.{server_machine}
 use Rattle.oa_server.proofs.laws.sessions_go_on.Goals as goal
 
 pub returns-clause-opened : goal.returns-clause-opened

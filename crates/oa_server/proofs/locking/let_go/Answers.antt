@@ -1,8 +1,7 @@
 use Rattle.std.proofs.Common.{ap, ◌∙◌}
-use Rattle.oa_server.specs.SharedMachine.{end_keeps}
-use Rattle.oa_server.specs.Sharing.{shared, taken_back}
-use Rattle.oa_decision.specs.States.{State}
-use Rattle.oa_turn.specs.Events.{held_of}
+use Rattle.oa_server.specs.promise.SharedMachine.{end_keeps, shared, taken_back}
+use Rattle.oa_decision.specs.promise.States.{State}
+use Rattle.oa_turn.specs.promise.Events.{held_of}
 use Rattle.oa_server.proofs.locking.let_go.Goals as goal
 
 pub returns-clause-same : goal.returns-clause-same

@@ -1,9 +1,9 @@
 use Rattle.std.proofs.Common.{true≢false, Some, refl, sym, ap, ◌∙◌}
 use Rattle.oa_decision.specs.declared.decision.LockChange.TheVariants.{Unlock}
-use Rattle.oa_turn.specs.ClientLocks.{with_one}
+use Rattle.oa_turn.specs.promise.ClientLocks.{with_one}
 use Rattle.oa_server.proofs.LockTurns.{locked_turn, no_place}
 use Rattle.oa_server.proofs.LocksBack.{lock_undone}
-use Rattle.oa_turn.specs.Steps.{after_locks}
+use Rattle.oa_turn.specs.promise.Steps.{after_locks}
 use Rattle.oa_server.proofs.locking.lock_for.Goals as goal
 
 pub returns-then-not-is_done : goal.returns-then-not-is_done

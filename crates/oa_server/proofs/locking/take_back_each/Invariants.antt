@@ -1,7 +1,7 @@
 use Rattle.std.proofs.Common.{◌≡◌, map}
 use Rattle.oa_turn.specs.Counts.{locked_name}
 use Rattle.oa_server.proofs.LocksBack.{taken_clients}
-use Rattle.oa_server.specs.Sharing.{taken_back}
+use Rattle.oa_server.specs.promise.SharedMachine.{taken_back}
 use Rattle.oa_server.proofs.locking.take_back_each.Given as goal
 
 abbrev pub invariant-clients : goal.invariant-clients

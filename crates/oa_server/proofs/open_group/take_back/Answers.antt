@@ -1,7 +1,7 @@
 use Rattle.std.proofs.Common.{◌≡◌, ◌∙◌, None, ap, arith, length, ℕ}
-use Rattle.oa_model.specs.Codes.{stg_e_writefault}
-use Rattle.oa_server.specs.ServerMachine.{aborted_reply}
-use Rattle.oa_decision.specs.Decided.{refusal}
+use Rattle.oa_model.specs.promise.Codes.{stg_e_writefault}
+use Rattle.oa_server.specs.promise.ServerMachine.{aborted_reply}
+use Rattle.oa_decision.specs.promise.Decided.{refusal}
 use Rattle.oa_server.proofs.Mapping.{mapped, mapped_all, mapped_step}
 use Rattle.oa_server.proofs.open_group.take_back.Goals as goal
 

@@ -1,5 +1,5 @@
 use Rattle.std.proofs.Common.{◌≡◌}
-use Rattle.oa_server.specs.ServerMachine.{aborted_reply}
+use Rattle.oa_server.specs.promise.ServerMachine.{aborted_reply}
 use Rattle.oa_server.proofs.Mapping.{mapped}
 use Rattle.oa_server.proofs.open_group.take_back.Given as goal
 

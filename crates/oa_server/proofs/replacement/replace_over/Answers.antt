@@ -1,12 +1,11 @@
 use Rattle.std.proofs.Common.{rules, arith, ap, refl, sym, ◌∙◌, true≢false, None}
-use Rattle.oa_journal.specs.Banks.{first_gate}
-use Rattle.oa_model.specs.Codes.{s_ok}
-use Rattle.oa_record.specs.Asks.{tag_at}
-use Rattle.oa_table.specs.Tables.{unlocked_table}
-use Rattle.oa_decision.specs.States.{state_of}
-use Rattle.oa_decision.specs.Decided.{refusal}
-use Rattle.oa_printer.specs.Canonical.{canonical}
-use Rattle.oa_journal.specs.Shapes.{body_bytes}
+use Rattle.oa_journal.specs.promise.Bank.{first_gate, body_bytes}
+use Rattle.oa_model.specs.promise.Codes.{s_ok}
+use Rattle.oa_record.specs.promise.Asks.{tag_at}
+use Rattle.oa_table.specs.promise.Tables.{unlocked_table}
+use Rattle.oa_decision.specs.promise.States.{state_of}
+use Rattle.oa_decision.specs.promise.Decided.{refusal}
+use Rattle.oa_printer.specs.promise.Canonical.{canonical}
 use Rattle.oa_store.proofs.Counted.{within}
 use Rattle.oa_server.proofs.Replacing.{as_many_calls, at_last, meanwhile, still}
 use Rattle.oa_turn.proofs.Replacing.{replaces}

@@ -1,6 +1,6 @@
 use Rattle.std.proofs.Common.{[], refl, sym}
 use Rattle.std.proofs.lemmas.Result.{err_from_is_err_and}
-use Rattle.oa_frame.specs.Framings.{frames}
+use Rattle.oa_frame.specs.promise.Framings.{frames}
 use Rattle.oa_frame.proofs.Spelled.{puts_none}
 use Rattle.oa_server.proofs.PutReplies.{put_fails, put_one}
 use Rattle.oa_server.proofs.serving.put_replies.Goals as goal

@@ -1,6 +1,6 @@
 use Rattle.std.proofs.Common.{refl, rules}
-use Rattle.oa_frame.specs.Framings.{frames}
-use Rattle.oa_server.specs.Serving.{last_written}
+use Rattle.oa_frame.specs.promise.Framings.{frames}
+use Rattle.oa_server.specs.promise.ServerMachine.{last_written}
 use Rattle.oa_server.proofs.GroupThenAlone.{session_taken}
 use Rattle.oa_server.proofs.InMemory.{session_in_memory}
 use Rattle.oa_server.proofs.Talking.{begins, serves_session}

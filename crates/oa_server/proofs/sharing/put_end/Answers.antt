@@ -1,8 +1,8 @@
 use Rattle.std.proofs.Common.{rules, List, [], ℕ, subst, ap, refl, ◌∙◌}
 use Rattle.std.proofs.lemmas.Result.{err_from_is_err_and}
-use Rattle.oa_record.specs.Replies.{reply_head}
-use Rattle.oa_stream.specs.Sink.{Breaks, Writes}
-use Rattle.oa_mux.specs.Outgoing.{spelled_frame}
+use Rattle.oa_record.specs.promise.Replies.{reply_head}
+use Rattle.oa_stream.specs.promise.Sink.{Breaks, Writes}
+use Rattle.oa_mux.specs.promise.Outgoing.{spelled_frame}
 use Rattle.oa_server.proofs.PutFrames.{puts_last, puts_stub, stub_fails, stub_spelled}
 use Rattle.oa_server.proofs.sharing.put_end.Goals as goal
 

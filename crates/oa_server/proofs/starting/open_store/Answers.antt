@@ -1,10 +1,10 @@
 use Rattle.std.proofs.Common.{rules, arith, ◌+◌, ◌≤◌, List, length, ℕ, inl, inr, refl, subst, sym, true≢false}
 use Rattle.std.proofs.lemmas.Result.{err_from_is_err_and}
-use Rattle.oa_printer.specs.Canonical.{canonical}
-use Rattle.oa_journal.specs.Shapes.{body_bytes}
+use Rattle.oa_printer.specs.promise.Canonical.{canonical}
+use Rattle.oa_journal.specs.promise.Bank.{body_bytes}
 use Rattle.oa_journal.specs.declared.shape.BankFormat.{BankFormat}
-use Rattle.oa_store.specs.Stores.{IsStoreAt, IsStoreIn}
-use Rattle.oa_turn.specs.Beginnings.{CanServe}
+use Rattle.oa_store.specs.promise.Stores.{IsStoreAt, IsStoreIn}
+use Rattle.oa_turn.specs.promise.Beginnings.{CanServe}
 use Rattle.oa_server.proofs.FoundIsKept.{same_library}
 use Rattle.oa_server.proofs.Opened.{differs_told, differs_unfit, finds_one, gate_within, is_two, of_library, of_text, refuses_one, refuses_unfit, says_library}
 use Rattle.oa_turn.proofs.Texts.{is_read}

@@ -1,5 +1,5 @@
 use Rattle.std.proofs.Common.{rules}
-use Rattle.oa_journal.specs.Shapes.{body_bytes}
+use Rattle.oa_journal.specs.promise.Bank.{body_bytes}
 use Rattle.oa_store.proofs.Counted.{within}
 use Rattle.oa_store.proofs.Committed.{still_carried}
 use Rattle.oa_store.proofs.committing.checkpoint_if_due.Goals as goal

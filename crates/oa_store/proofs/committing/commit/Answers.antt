@@ -1,5 +1,5 @@
 use Rattle.std.proofs.Common.{ℕ, List, subst}
-use Rattle.oa_store.specs.Holding.{CommitsAtomically}
+use Rattle.oa_store.specs.promise.Holding.{CommitsAtomically}
 use Rattle.oa_store.proofs.committing.commit.Goals as goal
 
 pub returns-clause-commits : goal.returns-clause-commits

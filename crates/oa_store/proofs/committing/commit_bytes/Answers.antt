@@ -1,11 +1,11 @@
 use Rattle.std.proofs.Common.{rules, ◌∙◌, ℕ, ◌+◌, List, length, inl, sym, subst}
 use Rattle.oa_disk.specs.Moments.{weakened}
 use Rattle.oa_journal.specs.Append.{group_of}
-use Rattle.oa_journal.specs.Replays.{Replays}
+use Rattle.oa_journal.specs.promise.Bank.{Replays}
 use Rattle.oa_journal.specs.declared.shape.BankFormat.{BankFormat}
-use Rattle.oa_store.specs.Stores.{IsStoreAt}
-use Rattle.oa_table.specs.Tables.{TableValue}
-use Rattle.oa_store.specs.Kept.{AllHold}
+use Rattle.oa_store.specs.promise.Stores.{IsStoreAt}
+use Rattle.oa_table.specs.promise.Tables.{TableValue}
+use Rattle.oa_store.specs.promise.Holding.{AllHold}
 use Rattle.oa_store.proofs.Committed.{meanwhile, at_last, nothing_called, no_change}
 use Rattle.oa_store.proofs.Batches.{no_events}
 use Rattle.oa_store.proofs.committing.commit_bytes.Goals as goal

@@ -5,11 +5,11 @@ use Rattle.oa_journal.specs.declared.bank.BankFault.{BankFault}
 use Rattle.oa_journal.specs.declared.shape.BankFormat.{BankFormat}
 use Rattle.oa_journal.specs.declared.shape.BankFormat.TheVariants.{Two}
 use Rattle.oa_journal.specs.Append.{IsAt}
-use Rattle.oa_journal.specs.Bank.{from_place, IsBank, HasHead, HasLibrary}
+use Rattle.oa_journal.specs.promise.Bank.{from_place, IsBank, HasHead, HasLibrary, body_bytes}
 use Rattle.oa_journal.specs.Damages.{HasNoHeader, IsDamagedBank}
-use Rattle.oa_journal.specs.Shapes.{body_bytes}
-use Rattle.oa_store.specs.Faults.{of_bank, HasWanted, IsCausedOpenFault}
-use Rattle.oa_store.specs.Stores.{body_place, head_place, IsStoreAt}
+use Rattle.oa_store.specs.Faults.{of_bank}
+use Rattle.oa_store.specs.promise.Faults.{HasWanted, IsCausedOpenFault}
+use Rattle.oa_store.specs.promise.Stores.{body_place, head_place, IsStoreAt}
 use Rattle.oa_store.proofs.Opened.{bank_caused, carried, other_long, says_first, says_late, spoilt, tells_late, until_body, until_late, wanted_in, within_disk}
 use Rattle.oa_store.proofs.reading.find_store.Goals as goal
 

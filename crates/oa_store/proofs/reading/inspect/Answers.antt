@@ -1,10 +1,11 @@
 use Rattle.std.proofs.Common.{None, ◌+◌, List, ℕ, Err, ap, subst, arith, rules}
 use Rattle.std.proofs.lemmas.Result.{err_from_is_err_and}
-use Rattle.oa_journal.specs.Bank.{from_place, IsBank}
+use Rattle.oa_journal.specs.promise.Bank.{from_place, IsBank}
 use Rattle.oa_journal.specs.Damages.{IsDamagedBank}
 use Rattle.oa_journal.specs.declared.bank.BankFault.{BankFault}
-use Rattle.oa_store.specs.Faults.{of_bank, HasWanted, IsCausedOpenFault}
-use Rattle.oa_store.specs.Stores.{body_place, head_place}
+use Rattle.oa_store.specs.Faults.{of_bank}
+use Rattle.oa_store.specs.promise.Faults.{HasWanted, IsCausedOpenFault}
+use Rattle.oa_store.specs.promise.Stores.{body_place, head_place}
 use Rattle.oa_store.proofs.Opened.{bank_caused, says_first, says_late, spoilt, tells_late, until_body, until_late}
 use Rattle.oa_store.proofs.reading.inspect.Goals as goal
 

@@ -4,7 +4,7 @@ use Rattle.oa_journal.specs.Damages.{IsDamagedBank}
 use Rattle.oa_journal.specs.declared.bank.BankFault.{BankFault}
 use Rattle.oa_journal.specs.declared.bank.BankFault.TheVariants as banks
 use Rattle.oa_journal.specs.declared.shape.BankFormat.{BankFormat}
-use Rattle.oa_store.specs.Stores.{head_place}
+use Rattle.oa_store.specs.promise.Stores.{head_place}
 use Rattle.oa_store.proofs.reading.look.Goals as goal
 
 pub returns-in_err-library-clause-damaged : goal.returns-in_err-library-clause-damaged

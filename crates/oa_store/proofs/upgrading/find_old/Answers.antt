@@ -1,13 +1,13 @@
 use Rattle.std.proofs.Common.{◌≡◌, ℕ, List, Err, ap, subst, arith}
 use Rattle.std.proofs.lemmas.Result.{err_from_is_err_and}
-use Rattle.oa_journal.specs.Bank.{HasHead}
+use Rattle.oa_journal.specs.promise.Bank.{HasHead}
 use Rattle.oa_journal.specs.declared.bank.BankFault.{BankFault}
 use Rattle.oa_journal.specs.declared.shape.BankFormat.{BankFormat}
 use Rattle.oa_journal.specs.declared.shape.BankFormat.TheVariants.{One}
 use Rattle.oa_journal.specs.Damages.{IsDamagedBank}
 use Rattle.oa_store.specs.declared.fault.FindFault.{FindFault}
 use Rattle.oa_store.specs.Faults.{HasOldShape, IsCausedUpgrade, upgrade_of_bank}
-use Rattle.oa_store.specs.Stores.{body_place, head_place}
+use Rattle.oa_store.specs.promise.Stores.{body_place, head_place}
 use Rattle.oa_store.proofs.Opened.{spoilt}
 use Rattle.oa_store.proofs.Upgraded.{any_size_early, any_size_late, caused_early, caused_late, read_tells, says_early, says_spoilt, tells_early}
 use Rattle.oa_store.proofs.upgrading.find_old.Goals as goal

@@ -2,8 +2,8 @@ use Rattle.std.proofs.Common.{inl, inr, ◌∙◌, List, ℕ, arith, sym, subst,
 use Rattle.std.proofs.lemmas.Result.{err_from_is_err_and}
 use Rattle.oa_disk.specs.Moments.{chained}
 use Rattle.oa_journal.specs.declared.shape.BankFormat.TheVariants.{Two}
-use Rattle.oa_store.specs.Changes.{IsUpgrade}
-use Rattle.oa_store.specs.Stores.{IsStoreIn}
+use Rattle.oa_store.specs.promise.Changes.{IsUpgrade}
+use Rattle.oa_store.specs.promise.Stores.{IsStoreIn}
 use Rattle.oa_store.proofs.Upgraded.{upgrade_tells, was_done}
 use Rattle.oa_store.proofs.upgrading.upgrade.Goals as goal
 

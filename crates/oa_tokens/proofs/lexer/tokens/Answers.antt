@@ -1,5 +1,5 @@
 use Rattle.std.proofs.Common.{rules, subst}
-use Rattle.oa_tokens.specs.Tokens.{AreTokens}
+use Rattle.oa_tokens.specs.promise.Tokens.{AreTokens}
 use Rattle.oa_tokens.proofs.Steps.{gap_more, word_more, junk_ends, all_read}
 use Rattle.oa_tokens.proofs.lexer.tokens.Goals as goal
 

@@ -1,6 +1,6 @@
 use Rattle.std.proofs.Common.{◌-◌, ◌≤◌, List, ◌++◌, length, drop}
 use Rattle.oa_tokens.specs.declared.lexer.Token.{Token}
-use Rattle.oa_tokens.specs.Tokens.{AreTokens}
+use Rattle.oa_tokens.specs.promise.Tokens.{AreTokens}
 use Rattle.oa_tokens.proofs.lexer.tokens.Given as goal
 
 abbrev pub invariant-pieces : goal.invariant-pieces

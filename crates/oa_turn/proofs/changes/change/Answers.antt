@@ -1,5 +1,5 @@
 use Rattle.std.proofs.Common.{IsOk, refl, rules}
-use Rattle.oa_decision.specs.Limits.{allowed}
+use Rattle.oa_decision.specs.promise.Limits.{allowed}
 use Rattle.oa_turn.proofs.Allowed.{changed}
 use Rattle.oa_turn.proofs.Releases.{is_made, not_allowed}
 use Rattle.oa_turn.proofs.changes.change.Goals as goal

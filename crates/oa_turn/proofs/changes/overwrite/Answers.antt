@@ -1,10 +1,11 @@
 use Rattle.std.proofs.Common.{◌≡◌, ◌-◌, ◌≤◌, ℕ, [], None, true≢false, Result, Ok, Err, IfErr, IsOk, OnErr, OnOk, refl, sym, arith}
-use Rattle.oa_decision.specs.Limits.{allowed, limited}
-use Rattle.oa_image.specs.Tables.{reserved_bytes}
-use Rattle.oa_table.specs.Events.{applied}
-use Rattle.oa_formats.specs.Lengths.{value_size}
-use Rattle.oa_table.specs.Sizes.{size_after, size_due, table_size}
-use Rattle.oa_table.specs.Tables.{TableValue, cell_in, object_at}
+use Rattle.oa_decision.specs.promise.Limits.{allowed, limited}
+use Rattle.oa_image.specs.promise.Tables.{reserved_bytes}
+use Rattle.oa_table.specs.promise.Events.{applied}
+use Rattle.oa_formats.specs.promise.Lengths.{value_size}
+use Rattle.oa_table.specs.Sizes.{size_after, size_due}
+use Rattle.oa_table.specs.promise.Sizes.{table_size}
+use Rattle.oa_table.specs.promise.Tables.{TableValue, cell_in, object_at}
 use Rattle.oa_table.specs.declared.event.Event.TheVariants.{Put}
 use Rattle.oa_table.specs.declared.fault.TableFault.{TableFault}
 use Rattle.oa_table.specs.declared.name.CellName.{CellName}

@@ -2,9 +2,9 @@ use Rattle.std.proofs.Common.{◌≡◌, ℕ, ◌+◌, ◌++◌, Bool, map, take
 use Rattle.std.proofs.lemmas.List.{take_all, get_or_default}
 use Rattle.std.specs.List.{filter_map}
 use Rattle.std.specs.Option.{option_and_then}
-use Rattle.oa_sema.specs.DeclarationValues.{DeclarationValue}
-use Rattle.oa_sema.specs.Declarations.{declarations}
-use Rattle.oa_typelib.specs.Descriptions.{member_description}
+use Rattle.oa_sema.specs.promise.DeclarationValues.{DeclarationValue}
+use Rattle.oa_sema.specs.promise.Declarations.{declarations}
+use Rattle.oa_typelib.specs.promise.Descriptions.{member_description}
 use Rattle.oa_typelib.specs.Indexes.{is_put_or_not}
 use Rattle.oa_typelib.proofs.Kept.{one_more, none_more, described_more, filter_of_map}
 use Rattle.oa_typelib.proofs.describe.add_forms.Goals as goal

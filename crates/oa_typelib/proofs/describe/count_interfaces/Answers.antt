@@ -1,5 +1,5 @@
 use Rattle.std.proofs.Common.{◌+◌, ℕ, length, arith, sym, ap, ◌∙◌}
-use Rattle.oa_sema.specs.Libraries.{as_interface}
+use Rattle.oa_sema.specs.promise.Libraries.{as_interface}
 use Rattle.oa_typelib.proofs.Kept.{count_more, none_more}
 use Rattle.oa_typelib.proofs.describe.count_interfaces.Goals as goal
 use Rattle.oa_typelib.proofs.describe.count_interfaces.Goals.{in-Interface, in-Coclass}

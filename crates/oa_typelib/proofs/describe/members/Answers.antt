@@ -1,8 +1,8 @@
 use Rattle.std.proofs.Common.{ap, map, ◌∙◌, Vec, Global, ℕ, slice_get}
 use Rattle.std.proofs.lemmas.List.{take_all}
 use Rattle.std.specs.List.{filter_map, flat_map}
-use Rattle.oa_sema.specs.Declarations.{declarations}
-use Rattle.oa_typelib.specs.Descriptions.{member_description, put_last}
+use Rattle.oa_sema.specs.promise.Declarations.{declarations}
+use Rattle.oa_typelib.specs.promise.Descriptions.{member_description, put_last}
 use Rattle.oa_typelib.proofs.Looks.{in_order}
 use Rattle.oa_typelib.proofs.describe.members.Goals as goal
 

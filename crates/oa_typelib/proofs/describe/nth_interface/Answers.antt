@@ -1,6 +1,6 @@
 use Rattle.std.proofs.Common.{slice_get, drop, sym, ap, ◌∙◌}
-use Rattle.oa_typelib.specs.Descriptions.{interfaces_of}
-use Rattle.oa_sema.specs.Libraries.{as_interface}
+use Rattle.oa_typelib.specs.promise.Descriptions.{interfaces_of}
+use Rattle.oa_sema.specs.promise.Libraries.{as_interface}
 use Rattle.oa_typelib.proofs.Kept.{nth_here}
 use Rattle.oa_typelib.proofs.describe.nth_interface.Goals as goal
 

@@ -2,7 +2,7 @@ use Rattle.std.proofs.Common.{◌≡◌, rules, sym, ap, ◌∙◌}
 use Rattle.std.proofs.Math.Facts.{to_z-of_z}
 use Rattle.std.proofs.lemmas.Cmp.{int_eq_equiv}
 use Rattle.std.specs.Ordering.{int_eq}
-use Rattle.oa_sema.specs.DeclarationValues.{DeclarationValue}
+use Rattle.oa_sema.specs.promise.DeclarationValues.{DeclarationValue}
 use Rattle.oa_typelib.proofs.Grouping.{keys_grow, places_grow}
 use Rattle.oa_typelib.proofs.groups.places_by_id.Goals as goal
 use mir.Val.{SFits}

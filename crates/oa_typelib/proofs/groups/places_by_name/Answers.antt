@@ -1,7 +1,7 @@
 use Rattle.std.proofs.Common.{ℕ, List, sym, ◌∙◌, Bor}
 use Rattle.std.proofs.lemmas.Cmp.{nat_list_eq_equiv}
-use Rattle.oa_model.specs.Folding.{folded_name}
-use Rattle.oa_sema.specs.Libraries.{same}
+use Rattle.oa_model.specs.promise.Folding.{folded_name}
+use Rattle.oa_sema.specs.promise.Libraries.{same}
 use Rattle.oa_typelib.proofs.Grouping.{keys_grow, places_grow}
 use Rattle.oa_typelib.proofs.groups.places_by_name.Goals as goal
 

@@ -1,7 +1,7 @@
 use Rattle.std.proofs.Common.{ℕ, List, map, take, sym, ap, ◌∙◌, Bor}
-use Rattle.oa_idl.specs.Values.{InterfaceValue}
-use Rattle.oa_typelib.specs.Descriptions.{interfaces_of}
-use Rattle.oa_sema.specs.Libraries.{as_interface}
+use Rattle.oa_idl.specs.promise.Values.{InterfaceValue}
+use Rattle.oa_typelib.specs.promise.Descriptions.{interfaces_of}
+use Rattle.oa_sema.specs.promise.Libraries.{as_interface}
 use Rattle.oa_typelib.proofs.Kept.{one_more, none_more, seen_more}
 use Rattle.oa_typelib.proofs.index.interface_names.Goals as goal
 use Rattle.oa_typelib.proofs.index.interface_names.Goals.{in-Interface+in_ok-push-in-Interface, in-Coclass}

@@ -1,13 +1,13 @@
 use Rattle.std.proofs.Common.{◌≡◌, ℕ, List, map, sym, ap, subst, ◌∙◌}
-use Rattle.oa_idl.specs.Trees.{TreeValue}
+use Rattle.oa_idl.specs.promise.Trees.{TreeValue}
 use Rattle.oa_idl.specs.declared.items.Item.{Item}
-use Rattle.oa_printer.specs.Canonical.{canonical}
-use Rattle.oa_idl.specs.IsTree.{MayBeText, IsTree}
-use Rattle.oa_model.specs.Folding.{folded_name}
-use Rattle.oa_sema.specs.Libraries.{item_name, item_guid, marked, marked_item}
+use Rattle.oa_printer.specs.promise.Canonical.{canonical}
+use Rattle.oa_idl.specs.promise.IsTree.{MayBeText, IsTree}
+use Rattle.oa_model.specs.promise.Folding.{folded_name}
+use Rattle.oa_sema.specs.promise.Libraries.{item_name, item_guid, marked, marked_item}
 use Rattle.oa_typelib.specs.Indexes.{default_in}
 use Rattle.oa_sema.specs.Libraries.{folded_names}
-use Rattle.oa_sema.specs.Breaches.{tree_breach, text_breach}
+use Rattle.oa_sema.specs.promise.Breaches.{tree_breach, text_breach}
 use Rattle.oa_typelib.specs.Typed.{IsTyped}
 use Rattle.oa_sema.proofs.Passes.{refused, for_memory}
 use Rattle.oa_typelib.proofs.Finds.{fits_text, kept, name_kept, guid_kept, length_of_marked}

@@ -1,6 +1,6 @@
 use Rattle.std.proofs.Common.{◌++◌, ◌∷◌, [], ℤ, Some, rules, ap, ◌∙◌}
 use Rattle.std.proofs.Math.Facts.{to_z-of_z}
-use Rattle.oa_sema.specs.DeclarationValues.{DeclarationValue}
+use Rattle.oa_sema.specs.promise.DeclarationValues.{DeclarationValue}
 use Rattle.oa_typelib.proofs.Named.{ids_told}
 use Rattle.oa_typelib.proofs.names.ids_in.Goals as goal
 use mir.Syntax.{w32}

@@ -1,11 +1,11 @@
 use Rattle.std.proofs.Common.{◌≡◌, ℤ, List, Option, Some, None, IfOk, map, subst, ap, ◌∙◌}
 use Rattle.std.specs.List.{filter}
-use Rattle.oa_model.specs.Folding.{folded_name}
-use Rattle.oa_sema.specs.DeclarationValues.{DeclarationValue}
-use Rattle.oa_sema.specs.Declarations.{declarations}
-use Rattle.oa_sema.specs.Libraries.{same}
-use Rattle.oa_typelib.specs.Members.{main_form}
-use Rattle.oa_typelib.specs.Names.{ids_in}
+use Rattle.oa_model.specs.promise.Folding.{folded_name}
+use Rattle.oa_sema.specs.promise.DeclarationValues.{DeclarationValue}
+use Rattle.oa_sema.specs.promise.Declarations.{declarations}
+use Rattle.oa_sema.specs.promise.Libraries.{same}
+use Rattle.oa_typelib.specs.promise.Members.{main_form}
+use Rattle.oa_typelib.specs.promise.Names.{ids_in}
 use Rattle.oa_typelib.proofs.Named.{by_member}
 use Rattle.oa_typelib.proofs.names.named_in.Goals as goal
 

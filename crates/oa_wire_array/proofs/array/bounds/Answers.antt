@@ -1,5 +1,5 @@
 use Rattle.std.proofs.lemmas.Result.{err_from_is_err_and}
-use Rattle.oa_ndr.specs.Reading.{many}
+use Rattle.oa_ndr.specs.promise.Reading.{many}
 use Rattle.oa_ndr.proofs.Loop.{many_goes_on, many_done}
 use Rattle.oa_wire_array.specs.ArrayReading.{bound_at}
 use Rattle.oa_wire_array.proofs.Loops.{many_err}

@@ -1,5 +1,6 @@
 use Rattle.std.proofs.lemmas.Result.{err_from_is_err_and}
-use Rattle.oa_ndr.specs.Reading.{many, referent_at}
+use Rattle.oa_ndr.specs.promise.Reading.{many}
+use Rattle.oa_ndr.specs.Reading.{referent_at}
 use Rattle.oa_ndr.proofs.Loop.{many_goes_on, many_ends, many_done}
 use Rattle.oa_wire_array.proofs.array.flags.Goals as goal
 

@@ -1,5 +1,5 @@
 use Rattle.std.proofs.Common.{◌≡◌, true, is_some, refl, rules}
-use Rattle.oa_model.specs.Types.{sf_type_of}
+use Rattle.oa_model.specs.promise.Types.{sf_type_of}
 use Rattle.oa_wire_text.proofs.Fronts.{front_of, no_front_of}
 use Rattle.oa_wire_array.proofs.ArrayLaws.{array_reads}
 use Rattle.oa_wire_array.proofs.array.read_array.Goals as goal

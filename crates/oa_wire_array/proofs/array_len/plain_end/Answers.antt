@@ -1,5 +1,5 @@
 use Rattle.std.proofs.Common.{◌<◌, ap, length, arith, rules}
-use Rattle.oa_ndr.specs.Forms.{padding}
+use Rattle.oa_ndr.specs.promise.Forms.{padding}
 use Rattle.oa_wire_array.proofs.ArrayLengths.{row_from, row_small, own_types}
 use Rattle.oa_wire_array.proofs.array_len.plain_end.Goals as goal
 

@@ -1,6 +1,6 @@
 use Rattle.std.proofs.Common.{◌≡◌, List, ℕ, length, subst, arith}
 use Rattle.oa_variant.specs.declared.scalar.Scalar.{Scalar}
-use Rattle.oa_wire_array.specs.ArrayCanon.{put_pointee}
+use Rattle.oa_wire_array.specs.promise.ArrayCanon.{put_pointee}
 use Rattle.oa_wire_array.proofs.ArrayLengths.{runs_on, runs_end}
 use Rattle.oa_wire_array.proofs.array_len.pointees_end.Goals as goal
 

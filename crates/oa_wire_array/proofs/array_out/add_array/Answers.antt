@@ -1,4 +1,4 @@
-use Rattle.oa_wire_array.specs.ArrayCanon.{put_array}
+use Rattle.oa_wire_array.specs.promise.ArrayCanon.{put_array}
 use Rattle.oa_wire_array.proofs.array_out.add_array.Goals as goal
 
 pub returns-clause-ok : goal.returns-clause-ok

@@ -9,7 +9,8 @@ use Rattle.oa_wire_array.specs.declared.fault.WireFault.{WireFault}
 use Rattle.oa_wire_array.specs.declared.fault.WireFault.TheVariants.{BadStub, BadVarType, Memory}
 use Rattle.oa_wire_text.specs.Reading.{OnMemory}
 use Rattle.oa_wire_variant.specs.Reading.{ReadsWholeField, variant_at}
-use Rattle.oa_wire_variant.specs.Variants.{Spells, ReadsVariant, TakesMemory, field_fault}
+use Rattle.oa_wire_variant.specs.promise.Variants.{Spells, field_fault}
+use Rattle.oa_wire_variant.specs.Variants.{ReadsVariant, TakesMemory}
 use Rattle.oa_wire_variant.proofs.VariantLaws.{variant_reads}
 use Rattle.oa_wire_variant.proofs.variant.read_other.Goals as goal
 

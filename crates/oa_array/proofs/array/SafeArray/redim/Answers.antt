@@ -1,6 +1,6 @@
 use Rattle.std.proofs.Common.{◌≡◌, arith, ap, sym, ◌∙◌}
-use Rattle.oa_array.specs.Boxes.{box_size}
-use Rattle.oa_array.specs.Arrays.{kept_by_position, with_first}
+use Rattle.oa_array.specs.promise.Boxes.{box_size}
+use Rattle.oa_array.specs.promise.Arrays.{kept_by_position, with_first}
 use Rattle.oa_array.specs.Heads.{bounds_in}
 use Rattle.oa_array.proofs.Redim.{count_found, redimensioned_is, redimensioned_array}
 use Rattle.oa_array.proofs.array.SafeArray.redim.Goals as goal

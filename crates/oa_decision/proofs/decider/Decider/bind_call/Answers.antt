@@ -1,7 +1,7 @@
 use Rattle.std.proofs.Common.{sym}
 use Rattle.std.proofs.lemmas.Result.{err_from_is_err_and}
-use Rattle.oa_bind.specs.Bindings.{BindingTakesMemory, bound_to}
-use Rattle.oa_bind.specs.Given.{Given}
+use Rattle.oa_bind.specs.promise.Bindings.{BindingTakesMemory, bound_to}
+use Rattle.oa_bind.specs.promise.Given.{Given}
 use Rattle.oa_decision.proofs.Keys.{few_bound}
 use Rattle.oa_decision.proofs.Refusing.{finds}
 use Rattle.oa_decision.proofs.decider.Decider.bind_call.Goals as goal

@@ -2,10 +2,10 @@ use Rattle.std.proofs.Common.{◌≡◌, ℤ, List, get_or, length, slice_get, r
 use Rattle.std.proofs.Math.Facts.{to_z-of_z}
 use Rattle.std.proofs.lemmas.Option.{slice_get_read}
 use Rattle.std.specs.List.{filter_map}
-use Rattle.oa_sema.specs.Declarations.{declarations}
-use Rattle.oa_idl.specs.Values.{InterfaceValue}
+use Rattle.oa_sema.specs.promise.Declarations.{declarations}
+use Rattle.oa_idl.specs.promise.Values.{InterfaceValue}
 use Rattle.oa_idl.specs.declared.parts.Property.{Property}
-use Rattle.oa_typelib.specs.Members.{forms_with}
+use Rattle.oa_typelib.specs.promise.Members.{forms_with}
 use Rattle.oa_decision.proofs.Keyless.{keyless, only_one}
 use Rattle.oa_decision.proofs.decider.value_call.find_keyless.Goals as goal
 

@@ -3,7 +3,7 @@ use Rattle.std.proofs.lemmas.Result.{on_ok_weaker}
 use Rattle.oa_disk.specs.declared.call.DeviceCall.TheVariants.{Read}
 use Rattle.oa_disk.specs.declared.record.Record.{Record}
 use Rattle.oa_disk.specs.Record.{recorded_history}
-use Rattle.oa_disk.specs.Replay.{contents_after}
+use Rattle.oa_disk.specs.promise.Disk.{contents_after}
 use Rattle.oa_disk.specs.Replaying.{contents_size}
 use Rattle.oa_disk.proofs.Recorded.{time_is, read_stays}
 use Rattle.oa_disk.proofs.Noted.{at_ok, at_err, some_read, agrees_none, agrees_holds, holds_agrees}

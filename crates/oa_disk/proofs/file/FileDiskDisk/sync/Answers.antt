@@ -3,7 +3,7 @@ use Rattle.std.proofs.lemmas.Result.{on_ok_weaker}
 use Rattle.oa_disk.specs.declared.call.DeviceCall.TheVariants.{Read, Sync}
 use Rattle.oa_disk.specs.declared.record.Record.{Record}
 use Rattle.oa_disk.specs.Record.{recorded_history}
-use Rattle.oa_disk.specs.Replay.{contents_after}
+use Rattle.oa_disk.specs.promise.Disk.{contents_after}
 use Rattle.oa_disk.proofs.Recorded.{time_is, read_stays, sync_syncs, sync_images}
 use Rattle.oa_disk.proofs.Noted.{at_ok, at_err, at_either, agrees_none}
 use Rattle.oa_disk.proofs.file.FileDiskDisk.sync.Goals as goal

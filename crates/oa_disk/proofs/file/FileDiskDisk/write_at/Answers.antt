@@ -2,7 +2,7 @@ use Rattle.std.proofs.Common.{ap, refl, ◌∙◌}
 use Rattle.oa_disk.specs.declared.call.DeviceCall.TheVariants.{Write}
 use Rattle.oa_disk.specs.declared.record.Record.{Record}
 use Rattle.oa_disk.specs.Record.{recorded_history}
-use Rattle.oa_disk.specs.Replay.{contents_after}
+use Rattle.oa_disk.specs.promise.Disk.{contents_after}
 use Rattle.oa_disk.proofs.Recorded.{time_is, write_holds, write_writes, write_all}
 use Rattle.oa_disk.proofs.Noted.{agrees_none, on_ok}
 use Rattle.oa_disk.proofs.file.FileDiskDisk.write_at.Goals as goal

@@ -1,7 +1,8 @@
 use Rattle.std.proofs.Common.{List, ℕ, length, subst, arith}
 use Rattle.oa_disk.specs.Disk.{HasBytesAt}
 use Rattle.oa_disk.specs.declared.call.DeviceCall.{DeviceCall}
-use Rattle.oa_disk.specs.Replay.{AllInside, contents_after, zeros}
+use Rattle.oa_disk.specs.Replay.{AllInside}
+use Rattle.oa_disk.specs.promise.Disk.{contents_after, zeros}
 use Rattle.oa_disk.proofs.Calls.{inside_more}
 use Rattle.oa_disk.proofs.Laid.{zeros_hold, inside_zeros}
 use Rattle.oa_disk.proofs.layers.SparseImage.give.Goals as goal

@@ -1,7 +1,6 @@
 use Rattle.std.proofs.Common.{◌++◌, ◌∷◌, [], length, refl, ◌∙◌, ap}
 use Rattle.oa_disk.specs.declared.call.DeviceCall.TheVariants.{Write}
-use Rattle.oa_disk.specs.Layered.{layered}
-use Rattle.oa_disk.specs.Replay.{DiskState}
+use Rattle.oa_disk.specs.promise.Disk.{layered, DiskState}
 use Rattle.oa_disk.proofs.Laid.{one_more}
 use Rattle.oa_disk.proofs.Recorded.{whole_is, state_is}
 use Rattle.oa_disk.proofs.layers.SparseImage.put.Goals as goal

@@ -1,6 +1,6 @@
 use Rattle.std.proofs.Common.{◌≡◌, ◌++◌, ℕ, length, take, drop, ◌∙◌, sym, ap, rules}
 use Rattle.std.proofs.Math.Seq.{take-append_seam}
-use Rattle.oa_disk.specs.Memory.{memory_contents, memory_history}
+use Rattle.oa_disk.specs.promise.Memory.{memory_contents, memory_history}
 use Rattle.oa_disk.specs.Replaying.{contents_size}
 use Rattle.oa_disk.proofs.Laid.{held_whole}
 use Rattle.oa_disk.proofs.memory.MemoryDisk.bytes.Goals as goal

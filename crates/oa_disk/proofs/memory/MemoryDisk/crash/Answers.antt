@@ -1,8 +1,9 @@
 use Rattle.std.proofs.Common.{◌≤◌, ◌∷◌, ℕ, IfOk, length, sym, subst, arith, rules}
 use Rattle.std.proofs.lemmas.Result.{IfOk-weaker}
-use Rattle.oa_disk.specs.CallLog.{laid}
-use Rattle.oa_disk.specs.Memory.{IsTornAt, memory_contents, memory_history}
-use Rattle.oa_disk.specs.Replay.{AllInside, count_all, states, synced}
+use Rattle.oa_disk.specs.promise.CallLog.{laid}
+use Rattle.oa_disk.specs.promise.Memory.{IsTornAt, memory_contents, memory_history}
+use Rattle.oa_disk.specs.Replay.{AllInside, states}
+use Rattle.oa_disk.specs.promise.Disk.{count_all, synced}
 use Rattle.oa_disk.specs.Replaying.{contents_bytes}
 use Rattle.oa_disk.proofs.Calls.{since_state}
 use Rattle.oa_disk.proofs.Tearing.{torn_at}

@@ -2,7 +2,7 @@ use Rattle.std.proofs.Common.{length, refl}
 use Rattle.std.proofs.lemmas.Result.{on_ok_weaker}
 use Rattle.oa_disk.specs.declared.call.DeviceCall.TheVariants.{Write}
 use Rattle.oa_disk.specs.declared.disk.DeviceFault.TheVariants as faults
-use Rattle.oa_disk.specs.CallLog.{history}
+use Rattle.oa_disk.specs.promise.CallLog.{history}
 use Rattle.oa_disk.proofs.Entered.{recorded, refused, either_of}
 use Rattle.oa_disk.proofs.Recorded.{whole_is, time_is, same_whole, same_time, same_writes, write_holds, write_writes, write_all}
 use Rattle.oa_disk.proofs.memory.MemoryDiskDisk.write_at.Goals as goal

@@ -1,5 +1,5 @@
 use Rattle.std.proofs.Common.{◌<◌, ◌^◌, refl, length, arith}
-use Rattle.oa_image.specs.Tables.{table_image}
+use Rattle.oa_image.specs.promise.Tables.{table_image}
 use Rattle.oa_image.proofs.Sized.{table_sized}
 use Rattle.oa_image.proofs.Pieced.{whole_image, whole_rest}
 use Rattle.oa_image.proofs.pieces.ImageChunks.new.Goals as goal

@@ -1,6 +1,6 @@
 use Rattle.std.proofs.Common.{◌≡◌, [], Option, Some, None, true, false, ⊎_elim, refl, sym, ap, subst, ◌∙◌, arith}
 use Rattle.std.specs.Option.{is_some}
-use Rattle.oa_image.specs.Tables.{table_image}
+use Rattle.oa_image.specs.promise.Tables.{table_image}
 use Rattle.oa_image.specs.Reader.{IsReader, bytes_taken, table_taken}
 use Rattle.oa_image.proofs.Taken.{is_whole, not_whole, some_bytes}
 use Rattle.oa_image.proofs.reader.TableReader.finish.Goals as goal

@@ -2,7 +2,7 @@ use Rattle.std.proofs.Common.{ap, subst, sym, ◌∙◌}
 use Rattle.std.specs.List.Sorted.{IsStrictlySortedBy}
 use Rattle.std.specs.Map.{keys_of}
 use Rattle.std.specs.Ordering.{nat_cmp}
-use Rattle.oa_mux.specs.Steps.{client_state}
+use Rattle.oa_mux.specs.promise.Steps.{client_state}
 use Rattle.oa_mux.proofs.States.{absent_ends, ends_as, gone, others_left}
 use Rattle.oa_mux.proofs.clients.Clients.end.Goals as goal
 use Rattle.oa_mux.proofs.clients.Clients.end.Goals.{in-Some, in-None}

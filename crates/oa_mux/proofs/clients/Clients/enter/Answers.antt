@@ -1,5 +1,5 @@
 use Rattle.std.proofs.Common.{ap, ◌∙◌}
-use Rattle.oa_mux.specs.Steps.{client_state}
+use Rattle.oa_mux.specs.promise.Steps.{client_state}
 use Rattle.oa_mux.proofs.States.{brings_as, brings_first, entered, others_stay, some_taken}
 use Rattle.oa_mux.proofs.clients.Clients.enter.Goals as goal
 

@@ -1,6 +1,6 @@
 use Rattle.std.proofs.Common.{ap, sym, ◌∙◌, Some}
 use Rattle.std.proofs.lemmas.Result.{IfOk-weaker, on_err_weaker}
-use Rattle.oa_mux.specs.Steps.{client_state}
+use Rattle.oa_mux.specs.promise.Steps.{client_state}
 use Rattle.oa_mux.proofs.States.{brings_as, changed, others_unchanged}
 use Rattle.oa_mux.proofs.clients.Clients.step.Goals as goal
 

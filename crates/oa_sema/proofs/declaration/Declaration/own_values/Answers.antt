@@ -1,6 +1,6 @@
 use Rattle.std.proofs.Common.{sym, ap, ◌∙◌}
-use Rattle.oa_sema.specs.DeclarationValues.{DeclarationValue}
-use Rattle.oa_sema.specs.Declarations.{is_put}
+use Rattle.oa_sema.specs.promise.DeclarationValues.{DeclarationValue}
+use Rattle.oa_sema.specs.promise.Declarations.{is_put}
 use Rattle.oa_sema.proofs.Parameters.{own_of, all_of}
 use Rattle.oa_sema.proofs.declaration.Declaration.own_values.Goals as goal
 

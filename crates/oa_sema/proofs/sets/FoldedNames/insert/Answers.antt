@@ -1,5 +1,5 @@
 use Rattle.std.proofs.Common.{ℕ, List, map, ap, ◌∙◌, Vec, Global}
-use Rattle.oa_sema.specs.Libraries.{same}
+use Rattle.oa_sema.specs.promise.Libraries.{same}
 use Rattle.oa_sema.proofs.Lists.{list_any-map, insert_key-map}
 use Rattle.oa_sema.proofs.sets.FoldedNames.insert.Goals as goal
 

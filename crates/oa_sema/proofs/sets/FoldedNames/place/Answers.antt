@@ -1,5 +1,5 @@
 use Rattle.std.proofs.Common.{ℕ, sym, ◌∙◌, Vec, Global}
-use Rattle.oa_sema.specs.Libraries.{same}
+use Rattle.oa_sema.specs.promise.Libraries.{same}
 use Rattle.oa_sema.proofs.Lists.{position-map}
 use Rattle.oa_sema.proofs.sets.FoldedNames.place.Goals as goal
 

@@ -1,5 +1,5 @@
 use Rattle.std.proofs.Common.{rules, [], map, refl}
-use Rattle.oa_record.specs.Replies.{reply_record}
+use Rattle.oa_record.specs.promise.Replies.{reply_record}
 use Rattle.oa_server.proofs.serving.ServerStateResponder.drop_held.Goals as goal
 
 pub returns-in-Memory : goal.returns-in-Memory

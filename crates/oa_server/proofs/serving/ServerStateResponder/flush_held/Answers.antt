@@ -1,5 +1,5 @@
 use Rattle.std.proofs.Common.{[], refl}
-use Rattle.oa_frame.specs.Framings.{frames}
+use Rattle.oa_frame.specs.promise.Framings.{frames}
 use Rattle.oa_frame.proofs.Spelled.{puts_none}
 use Rattle.oa_server.proofs.serving.ServerStateResponder.flush_held.Goals as goal
 

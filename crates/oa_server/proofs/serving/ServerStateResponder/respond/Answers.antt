@@ -1,7 +1,7 @@
 use Rattle.std.proofs.Common.{rules, [], ◌∷◌, refl}
-use Rattle.oa_frame.specs.Framings.{frames}
+use Rattle.oa_frame.specs.promise.Framings.{frames}
 use Rattle.oa_frame.proofs.Spelled.{puts_none, puts_one}
-use Rattle.oa_record.specs.Replies.{reply_record}
+use Rattle.oa_record.specs.promise.Replies.{reply_record}
 use Rattle.oa_server.proofs.serving.ServerStateResponder.respond.Goals as goal
 
 pub returns-in-Memory : goal.returns-in-Memory

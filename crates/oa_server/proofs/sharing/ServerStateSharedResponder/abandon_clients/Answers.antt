@@ -1,5 +1,6 @@
 use Rattle.std.proofs.Common.{refl, subst}
-use Rattle.oa_server.specs.SharedGroups.{all_frames, told_at}
+use Rattle.oa_server.specs.promise.SharedSessions.{all_frames}
+use Rattle.oa_server.specs.SharedGroups.{told_at}
 use Rattle.oa_server.proofs.HeldForMany.{now_over}
 use Rattle.oa_server.proofs.sharing.ServerStateSharedResponder.abandon_clients.Goals as goal
 

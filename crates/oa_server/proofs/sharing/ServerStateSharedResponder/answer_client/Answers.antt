@@ -1,8 +1,9 @@
 use Rattle.std.proofs.Common.{arith, rules, [], ◌∷◌, refl}
-use Rattle.oa_record.specs.Replies.{reply_record}
-use Rattle.oa_server.specs.SharedGroups.{all_frames, told_at}
-use Rattle.oa_server.specs.Sharing.{Replies}
-use Rattle.oa_mux.specs.Readers.{Body}
+use Rattle.oa_record.specs.promise.Replies.{reply_record}
+use Rattle.oa_server.specs.promise.SharedSessions.{all_frames}
+use Rattle.oa_server.specs.SharedGroups.{told_at}
+use Rattle.oa_server.specs.promise.SharedMachine.{Replies}
+use Rattle.oa_mux.specs.promise.Readers.{Body}
 use Rattle.oa_server.proofs.HeldForMany.{held_over, told_over}
 use Rattle.oa_server.proofs.PutFrames.{puts_frame, puts_nothing}
 use Rattle.oa_server.proofs.sharing.ServerStateSharedResponder.answer_client.Goals as goal

@@ -1,6 +1,6 @@
 use Rattle.std.proofs.Common.{arith, [], ◌∷◌, refl}
-use Rattle.oa_record.specs.Replies.{reply_record}
-use Rattle.oa_server.specs.Sharing.{Replies}
+use Rattle.oa_record.specs.promise.Replies.{reply_record}
+use Rattle.oa_server.specs.promise.SharedMachine.{Replies}
 use Rattle.oa_server.proofs.BehindEnds.{none_told_of}
 use Rattle.oa_server.proofs.HeldForMany.{alone_over}
 use Rattle.oa_server.proofs.PutFrames.{puts_frame}

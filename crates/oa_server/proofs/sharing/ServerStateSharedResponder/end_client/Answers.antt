@@ -1,6 +1,7 @@
 use Rattle.std.proofs.Common.{rules, []}
-use Rattle.oa_server.specs.SharedGroups.{all_frames, told_at}
-use Rattle.oa_mux.specs.Readers.{Ends}
+use Rattle.oa_server.specs.promise.SharedSessions.{all_frames}
+use Rattle.oa_server.specs.SharedGroups.{told_at}
+use Rattle.oa_mux.specs.promise.Readers.{Ends}
 use Rattle.oa_server.proofs.HeldForMany.{held_over, told_over}
 use Rattle.oa_server.proofs.PutFrames.{puts_nothing}
 use Rattle.oa_server.proofs.sharing.ServerStateSharedResponder.end_client.Goals as goal

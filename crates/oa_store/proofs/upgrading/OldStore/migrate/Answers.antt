@@ -1,8 +1,9 @@
 use Rattle.std.proofs.Common.{◌-◌, List, ℕ, subst, rules}
 use Rattle.oa_disk.specs.Moments.{weakened}
-use Rattle.oa_table.specs.Tables.{unlocked_table}
-use Rattle.oa_journal.specs.Banks.{first_gate}
-use Rattle.oa_store.specs.Changes.{IsMove, IsMoved, IsUpgrade}
+use Rattle.oa_table.specs.promise.Tables.{unlocked_table}
+use Rattle.oa_journal.specs.promise.Bank.{first_gate}
+use Rattle.oa_store.specs.Changes.{IsMove, IsMoved}
+use Rattle.oa_store.specs.promise.Changes.{IsUpgrade}
 use Rattle.oa_store.proofs.Upgraded.{moved, arrived}
 use Rattle.oa_store.proofs.upgrading.OldStore.migrate.Goals as goal
 

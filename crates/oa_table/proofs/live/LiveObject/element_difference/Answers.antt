@@ -1,5 +1,5 @@
 use Rattle.std.proofs.Common.{sym}
-use Rattle.oa_table.specs.Elements.{with_element_put}
+use Rattle.oa_table.specs.promise.Elements.{with_element_put}
 use Rattle.oa_table.proofs.Sums.{cell_due}
 use Rattle.oa_table.proofs.live.LiveObject.element_difference.Goals as goal
 

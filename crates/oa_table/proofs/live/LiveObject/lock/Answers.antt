@@ -1,5 +1,5 @@
 use Rattle.std.proofs.Common.{sym}
-use Rattle.oa_table.specs.Elements.{locked_value}
+use Rattle.oa_table.specs.promise.Elements.{locked_value}
 use Rattle.oa_table.proofs.Through.{counts_in_cell}
 use Rattle.oa_table.proofs.live.LiveObject.lock.Goals as goal
 

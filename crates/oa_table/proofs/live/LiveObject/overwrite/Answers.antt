@@ -5,12 +5,14 @@ use Rattle.std.proofs.lemmas.Bool.{eqb-true}
 use Rattle.oa_variant.specs.declared.variant.Variant.{Variant}
 use Rattle.oa_table.specs.declared.difference.Difference.{Difference}
 use Rattle.oa_table.specs.declared.fault.TableFault.{TableFault}
-use Rattle.oa_table.specs.Elements.{locks_of, replaced_value}
-use Rattle.oa_table.specs.Objects.{with_put}
-use Rattle.oa_table.specs.Places.{PlaceValue, place_cmp}
-use Rattle.oa_table.specs.Sizes.{object_size, size_due}
-use Rattle.oa_table.specs.Tables.{ObjectValue, cell_at}
-use Rattle.oa_formats.specs.Lengths.{value_size}
+use Rattle.oa_table.specs.promise.Elements.{locks_of}
+use Rattle.oa_table.specs.Elements.{replaced_value}
+use Rattle.oa_table.specs.promise.Objects.{with_put}
+use Rattle.oa_table.specs.promise.Places.{PlaceValue, place_cmp}
+use Rattle.oa_table.specs.promise.Sizes.{object_size}
+use Rattle.oa_table.specs.Sizes.{size_due}
+use Rattle.oa_table.specs.promise.Tables.{ObjectValue, cell_at}
+use Rattle.oa_formats.specs.promise.Lengths.{value_size}
 use Rattle.oa_table.proofs.Sums.{put_is_change, put_over_due, set_sum}
 use Rattle.oa_table.proofs.Through.{back_in_cell, done_in_cell}
 use Rattle.oa_table.proofs.live.LiveObject.overwrite.Goals as goal

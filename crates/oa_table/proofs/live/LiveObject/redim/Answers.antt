@@ -1,5 +1,5 @@
 use Rattle.std.proofs.Common.{sym}
-use Rattle.oa_table.specs.Elements.{redimensioned_value}
+use Rattle.oa_table.specs.promise.Elements.{redimensioned_value}
 use Rattle.oa_table.proofs.Through.{does_in_cell}
 use Rattle.oa_table.proofs.live.LiveObject.redim.Goals as goal
 

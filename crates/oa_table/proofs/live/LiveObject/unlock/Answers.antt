@@ -1,5 +1,5 @@
 use Rattle.std.proofs.Common.{sym}
-use Rattle.oa_table.specs.Elements.{released_value}
+use Rattle.oa_table.specs.promise.Elements.{released_value}
 use Rattle.oa_table.proofs.Through.{counts_in_cell}
 use Rattle.oa_table.proofs.live.LiveObject.unlock.Goals as goal
 

@@ -1,7 +1,7 @@
 use Rattle.std.proofs.Common.{refl, sym}
-use Rattle.oa_table.specs.Elements.{locked_value}
+use Rattle.oa_table.specs.promise.Elements.{locked_value}
 use Rattle.oa_table.specs.Locks.{locks_at}
-use Rattle.oa_table.specs.Objects.{locks_of_cell, with_change}
+use Rattle.oa_table.specs.promise.Objects.{locks_of_cell, with_change}
 use Rattle.oa_table.proofs.Through.{counts_in_object, locks_seen}
 use Rattle.oa_table.proofs.objects.Objects.lock.Goals as goal
 

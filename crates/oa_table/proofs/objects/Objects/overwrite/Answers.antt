@@ -1,13 +1,14 @@
 use Rattle.std.proofs.Common.{◌≡◌, ◌+◌, ◌≤◌, ℕ, Some, None, Result, Ok, Err, IfOk, IsOk, OnErr, arith, sym}
-use Rattle.oa_formats.specs.Lengths.{value_size}
+use Rattle.oa_formats.specs.promise.Lengths.{value_size}
 use Rattle.oa_variant.specs.declared.variant.Variant.{Variant}
 use Rattle.oa_table.specs.declared.difference.Difference.{Difference}
-use Rattle.oa_table.specs.Events.{on_object, with_object}
-use Rattle.oa_table.specs.Objects.{with_put}
-use Rattle.oa_table.specs.Outcomes.{mapped}
-use Rattle.oa_table.specs.Places.{PlaceValue}
-use Rattle.oa_table.specs.Sizes.{object_size, size_due, table_size}
-use Rattle.oa_table.specs.Tables.{ObjectValue, TableValue, cell_at, cell_in, object_at}
+use Rattle.oa_table.specs.promise.Events.{on_object, with_object}
+use Rattle.oa_table.specs.promise.Objects.{with_put}
+use Rattle.oa_table.specs.promise.Outcomes.{mapped}
+use Rattle.oa_table.specs.promise.Places.{PlaceValue}
+use Rattle.oa_table.specs.promise.Sizes.{object_size, table_size}
+use Rattle.oa_table.specs.Sizes.{size_due}
+use Rattle.oa_table.specs.promise.Tables.{ObjectValue, TableValue, cell_at, cell_in, object_at}
 use Rattle.oa_table.specs.declared.fault.TableFault.{TableFault}
 use Rattle.oa_table.proofs.Sums.{object_due, object_set_sum}
 use Rattle.oa_table.proofs.Through.{back_in_object, done_in_object}

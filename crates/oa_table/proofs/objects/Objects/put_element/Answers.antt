@@ -1,6 +1,6 @@
 use Rattle.std.proofs.Common.{sym}
-use Rattle.oa_table.specs.Elements.{with_element_put}
-use Rattle.oa_table.specs.Objects.{with_change}
+use Rattle.oa_table.specs.promise.Elements.{with_element_put}
+use Rattle.oa_table.specs.promise.Objects.{with_change}
 use Rattle.oa_table.specs.declared.event.Event.TheVariants.{PutElement}
 use Rattle.oa_table.proofs.Through.{refused_in_object}
 use Rattle.oa_table.proofs.objects.Objects.put_element.Goals as goal

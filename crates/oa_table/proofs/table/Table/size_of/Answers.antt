@@ -1,5 +1,5 @@
 use Rattle.std.proofs.Common.{◌<◌, ◌≤◌, ◌^◌, arith, rules}
-use Rattle.oa_table.specs.Sizes.{object_size, table_size}
+use Rattle.oa_table.specs.promise.Sizes.{object_size, table_size}
 use Rattle.oa_table.proofs.Sums.{object_within}
 use Rattle.oa_table.proofs.table.Table.size_of.Goals as goal
 

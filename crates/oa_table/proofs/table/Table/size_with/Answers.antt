@@ -1,5 +1,5 @@
 use Rattle.std.proofs.Common.{arith, ap}
-use Rattle.oa_table.specs.Sizes.{table_size}
+use Rattle.oa_table.specs.promise.Sizes.{table_size}
 use Rattle.oa_table.proofs.Sums.{create_due, object_within}
 use Rattle.oa_table.proofs.table.Table.size_with.Goals as goal
 

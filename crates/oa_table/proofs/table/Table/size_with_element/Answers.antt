@@ -1,6 +1,6 @@
 use Rattle.std.proofs.Common.{sym, arith}
-use Rattle.oa_table.specs.Objects.{with_change}
-use Rattle.oa_table.specs.Elements.{with_element_put}
+use Rattle.oa_table.specs.promise.Objects.{with_change}
+use Rattle.oa_table.specs.promise.Elements.{with_element_put}
 use Rattle.oa_table.proofs.Sums.{object_due}
 use Rattle.oa_table.proofs.table.Table.size_with_element.Goals as goal
 

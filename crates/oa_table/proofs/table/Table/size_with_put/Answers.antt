@@ -1,5 +1,5 @@
 use Rattle.std.proofs.Common.{sym, arith}
-use Rattle.oa_table.specs.Objects.{with_put}
+use Rattle.oa_table.specs.promise.Objects.{with_put}
 use Rattle.oa_table.proofs.Sums.{object_due}
 use Rattle.oa_table.proofs.table.Table.size_with_put.Goals as goal
 

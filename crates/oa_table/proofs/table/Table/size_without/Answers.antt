@@ -1,5 +1,5 @@
 use Rattle.std.proofs.Common.{sym, arith, ◌∙◌, ap}
-use Rattle.oa_table.specs.Sizes.{table_size}
+use Rattle.oa_table.specs.promise.Sizes.{table_size}
 use Rattle.oa_table.proofs.Sums.{object_within, release_due}
 use Rattle.oa_table.proofs.table.Table.size_without.Goals as goal
 

@@ -1,6 +1,6 @@
 use Rattle.std.proofs.Common.{refl, subst}
 use Rattle.oa_turn.specs.Changes.{MakesChange}
-use Rattle.oa_decision.specs.States.{State, state_of}
+use Rattle.oa_decision.specs.promise.States.{State, state_of}
 use Rattle.oa_turn.proofs.Changing.{made}
 use Rattle.oa_turn.proofs.host.Machine.apply.Goals as goal
 

@@ -1,6 +1,6 @@
 use Rattle.std.proofs.Common.{◌≡◌, ◌≤◌, take, map, length}
 use Rattle.std.specs.Prelude.{vec_capacity}
-use Rattle.oa_turn.specs.Turns.{Run}
+use Rattle.oa_turn.specs.promise.Turns.{Run}
 use Rattle.oa_turn.proofs.host.Machine.run.Given as goal
 
 abbrev pub invariant-bodies : goal.invariant-bodies

@@ -1,5 +1,5 @@
 use Rattle.std.proofs.Common.{ap, ◌∙◌}
-use Rattle.oa_sema.specs.Declarations.{declarations}
+use Rattle.oa_sema.specs.promise.Declarations.{declarations}
 use Rattle.oa_typelib.specs.IndexValues.{MembersValue}
 use Rattle.oa_typelib.proofs.Looks.{kept_at}
 use Rattle.oa_typelib.proofs.dispinterface.Dispinterface.form.Goals as goal

@@ -1,10 +1,10 @@
 use Rattle.std.proofs.Common.{position, ap, sym, slice_get, ◌∙◌}
 use Rattle.std.specs.List.{filter_map}
-use Rattle.oa_idl.specs.Values.{InterfaceValue}
-use Rattle.oa_sema.specs.Declarations.{declarations}
+use Rattle.oa_idl.specs.promise.Values.{InterfaceValue}
+use Rattle.oa_sema.specs.promise.Declarations.{declarations}
 use Rattle.oa_typelib.specs.Groups.{places_in}
 use Rattle.oa_typelib.specs.IndexValues.{MembersValue}
-use Rattle.oa_sema.specs.Libraries.{same}
+use Rattle.oa_sema.specs.promise.Libraries.{same}
 use Rattle.oa_typelib.proofs.Looks.{with_name}
 use Rattle.oa_typelib.proofs.dispinterface.Dispinterface.forms_named.Goals as goal
 

@@ -2,8 +2,8 @@ use Rattle.std.proofs.Common.{◌≡◌, ℤ, position, ap, sym, subst, slice_ge
 use Rattle.std.proofs.Math.Facts.{to_z-of_z}
 use Rattle.std.specs.List.{filter_map}
 use Rattle.std.specs.Ordering.{int_eq}
-use Rattle.oa_idl.specs.Values.{InterfaceValue}
-use Rattle.oa_sema.specs.Declarations.{declarations}
+use Rattle.oa_idl.specs.promise.Values.{InterfaceValue}
+use Rattle.oa_sema.specs.promise.Declarations.{declarations}
 use Rattle.oa_typelib.specs.Groups.{places_in}
 use Rattle.oa_typelib.specs.IndexValues.{MembersValue}
 use Rattle.oa_typelib.proofs.Looks.{with_id}

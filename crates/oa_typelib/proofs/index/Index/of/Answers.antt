@@ -1,8 +1,8 @@
 use Rattle.std.proofs.Common.{List, map, ap}
-use Rattle.oa_model.specs.Folding.{folded_name}
-use Rattle.oa_idl.specs.Values.{InterfaceValue}
+use Rattle.oa_model.specs.promise.Folding.{folded_name}
+use Rattle.oa_idl.specs.promise.Values.{InterfaceValue}
 use Rattle.oa_idl.specs.declared.items.Item.{Item}
-use Rattle.oa_typelib.specs.Descriptions.{interfaces_of}
+use Rattle.oa_typelib.specs.promise.Descriptions.{interfaces_of}
 use Rattle.oa_typelib.specs.Indexes.{members_in, entered_in}
 use Rattle.oa_sema.specs.Libraries.{folded_names}
 use Rattle.oa_typelib.proofs.Looks.{indexed_by}

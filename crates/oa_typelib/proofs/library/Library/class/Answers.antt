@@ -1,7 +1,7 @@
 use Rattle.std.proofs.Common.{slice_get, None, Some, sym, ap, ◌∙◌}
 use Rattle.std.specs.Option.{option_and_then}
 use Rattle.oa_idl.specs.declared.items.Item.{Item}
-use Rattle.oa_sema.specs.Libraries.{same, item_guid, as_class}
+use Rattle.oa_sema.specs.promise.Libraries.{same, item_guid, as_class}
 use Rattle.oa_typelib.proofs.Finds.{found_by_place}
 use Rattle.oa_typelib.proofs.library.Library.class.Goals as goal
 

@@ -1,6 +1,6 @@
 use Rattle.std.proofs.Common.{ℕ, List, map, slice_get, Option, ap, ◌∙◌}
 use Rattle.std.proofs.lemmas.Option.{slice_get-map}
-use Rattle.oa_idl.specs.Trees.{TreeValue}
+use Rattle.oa_idl.specs.promise.Trees.{TreeValue}
 use Rattle.oa_typelib.specs.Indexes.{default_in}
 use Rattle.oa_sema.specs.Libraries.{folded_names}
 use Rattle.oa_typelib.proofs.Finds.{flat}

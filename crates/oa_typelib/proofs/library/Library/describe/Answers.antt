@@ -1,8 +1,8 @@
 use Rattle.std.proofs.Common.{◌-◌, ℕ, List, Some, IsSome, option_copied, slice_get, length, refl, subst, sym, ap, ◌∙◌}
 use Rattle.std.proofs.lemmas.Result.{err_from_is_err_and}
-use Rattle.oa_idl.specs.Trees.{TreeValue}
+use Rattle.oa_idl.specs.promise.Trees.{TreeValue}
 use Rattle.oa_idl.specs.declared.items.Item.{Item}
-use Rattle.oa_typelib.specs.Descriptions.{interfaces_of, classes_of}
+use Rattle.oa_typelib.specs.promise.Descriptions.{interfaces_of, classes_of}
 use Rattle.oa_typelib.specs.IndexValues.{IndexValue}
 use Rattle.oa_typelib.specs.Indexes.{described_class, index_of}
 use Rattle.oa_typelib.proofs.Looks.{class_there, class_by_name}

@@ -1,7 +1,7 @@
 use Rattle.std.proofs.Common.{slice_get, position, None, Some, refl, ◌∙◌}
 use Rattle.std.specs.Option.{option_and_then}
 use Rattle.oa_idl.specs.declared.items.Item.{Item}
-use Rattle.oa_sema.specs.Libraries.{same, item_guid, as_class}
+use Rattle.oa_sema.specs.promise.Libraries.{same, item_guid, as_class}
 use Rattle.oa_typelib.proofs.Finds.{by_places, never}
 use Rattle.oa_typelib.proofs.library.Library.entered.Goals as goal
 

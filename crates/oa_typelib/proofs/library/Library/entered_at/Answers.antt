@@ -1,6 +1,6 @@
 use Rattle.std.proofs.Common.{slice_get, ap, sym, ◌∙◌, true, false}
 use Rattle.std.specs.Option.{option_and_then}
-use Rattle.oa_sema.specs.Libraries.{as_class, if_entered}
+use Rattle.oa_sema.specs.promise.Libraries.{as_class, if_entered}
 use Rattle.oa_typelib.proofs.Finds.{chosen, never}
 use Rattle.oa_typelib.proofs.library.Library.entered_at.Goals as goal
 

@@ -1,6 +1,6 @@
 use Rattle.std.proofs.Common.{None, Some, sym, ◌∙◌}
 use Rattle.oa_idl.specs.declared.items.Item.{Item}
-use Rattle.oa_sema.specs.Libraries.{same, item_guid, as_interface}
+use Rattle.oa_sema.specs.promise.Libraries.{same, item_guid, as_interface}
 use Rattle.oa_typelib.proofs.Finds.{found_by_place}
 use Rattle.oa_typelib.proofs.library.Library.interface.Goals as goal
 

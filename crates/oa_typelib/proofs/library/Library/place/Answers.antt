@@ -1,6 +1,6 @@
 use Rattle.std.proofs.Common.{map, position, ap, ◌∙◌}
-use Rattle.oa_idl.specs.Trees.{TreeValue}
-use Rattle.oa_sema.specs.Libraries.{same, item_guid}
+use Rattle.oa_idl.specs.promise.Trees.{TreeValue}
+use Rattle.oa_sema.specs.promise.Libraries.{same, item_guid}
 use Rattle.oa_sema.proofs.Lists.{position-map}
 use Rattle.oa_typelib.proofs.library.Library.place.Goals as goal
 

@@ -33,7 +33,14 @@ module _ {X : Type 0} where
   pub length-laid : (before : ℕ) (xs : List X) (after : ℕ) → length (window_row before xs after) ≡ before + length xs + after
   unfolding window_row
   length-laid before xs after = let none = replicate after empty in
-      omega (arith, length-append (replicate before empty) (map Some xs ++ none), length-append (map Some xs) none, length-map xs Some, length-replicate before empty, length-replicate after empty)
+      omega (
+        arith,
+        length-append (replicate before empty) (map Some xs ++ none),
+        length-append (map Some xs) none,
+        length-map xs Some,
+        length-replicate before empty,
+        length-replicate after empty,
+      )
 
   -- ---- the places at either end
 
@@ -52,7 +59,8 @@ module _ {X : Type 0} where
       → window_row before (xs ++ x ∷ []) after ≡ front before xs ++ Some x ∷ replicate after None
   unfolding window_row
   last before xs x after = let none = replicate before None in let rest = replicate after None in
-      ap (λ l. none ++ (l ++ rest)) (map-append Some xs (x ∷ [])) ∙ ap (λ l. none ++ l) (append_assoc (map Some xs) (Some x ∷ []) rest) ∙ sym (append_assoc none (map Some xs) (Some x ∷ rest))
+      ap (λ l. none ++ (l ++ rest)) (map-append Some xs (x ∷ [])) ∙ ap (λ l. none ++ l) (append_assoc (map Some xs) (Some x ∷ []) rest)
+      ∙ sym (append_assoc none (map Some xs) (Some x ∷ rest))
 
   one_less : (n : ℕ) (ys : List (Option X)) → replicate (suc n) None ++ ys ≡ replicate n None ++ None ∷ ys
   one_less zero ys = refl
@@ -67,24 +75,29 @@ module _ {X : Type 0} where
 
   module _ (slots : List (Option X)) (b : ℕ) (xs : List X) (x : X) (a n i : ℕ) where
     pub empty_behind : slots ≡ window_row b xs n → n ≡ suc a → i ≡ b + length xs → get_or slots i None ≡ None
-    empty_behind e f at = ap (λ l. get_or l i None) (e ∙ ap (window_row b xs) f ∙ behind b xs a) ∙ get_or_at (front b xs) None (replicate a None) None i (length-front b xs ∙ sym at)
+    empty_behind e f at = ap (λ l. get_or l i None) (e ∙ ap (window_row b xs) f ∙ behind b xs a) ∙ get_or_at (front b xs) None (replicate a None) None i
+        (length-front b xs ∙ sym at)
 
     pub put_behind : slots ≡ window_row b xs n → n ≡ suc a → i ≡ b + length xs → slice_set slots i (Some x) ≡ window_row b (xs ++ x ∷ []) a
-    put_behind e f at = ap (λ l. slice_set l i (Some x)) (e ∙ ap (window_row b xs) f ∙ behind b xs a) ∙ set_at (front b xs) None (replicate a None) (Some x) i (length-front b xs ∙ sym at) ∙ sym (last b xs x a)
+    put_behind e f at = ap (λ l. slice_set l i (Some x)) (e ∙ ap (window_row b xs) f ∙ behind b xs a) ∙ set_at (front b xs) None (replicate a None) (Some x) i
+        (length-front b xs ∙ sym at) ∙ sym (last b xs x a)
 
     pub value_last : slots ≡ window_row b (xs ++ x ∷ []) a → i ≡ b + length xs → get_or slots i None ≡ Some x
     value_last e at = ap (λ l. get_or l i None) (e ∙ last b xs x a) ∙ get_or_at (front b xs) (Some x) (replicate a None) None i (length-front b xs ∙ sym at)
 
     pub take_last : slots ≡ window_row b (xs ++ x ∷ []) a → n ≡ suc a → i ≡ b + length xs → slice_set slots i None ≡ window_row b xs n
-    take_last e f at = ap (λ l. slice_set l i None) (e ∙ last b xs x a) ∙ set_at (front b xs) (Some x) (replicate a None) None i (length-front b xs ∙ sym at) ∙ sym (ap (window_row b xs) f ∙ behind b xs a)
+    take_last e f at = ap (λ l. slice_set l i None) (e ∙ last b xs x a) ∙ set_at (front b xs) (Some x) (replicate a None) None i (length-front b xs ∙ sym at)
+        ∙ sym (ap (window_row b xs) f ∙ behind b xs a)
 
   module _ (slots : List (Option X)) (b n : ℕ) (xs : List X) (x : X) (a : ℕ) where
     pub empty_ahead : slots ≡ window_row n xs a → n ≡ suc b → get_or slots b None ≡ None
-    empty_ahead e f = ap (λ l. get_or l b None) (e ∙ ap (λ k. window_row k xs a) f ∙ ahead b xs a) ∙ get_or_at (replicate b None) None (map Some xs ++ replicate a None) None b (length-replicate b empty)
+    empty_ahead e f = ap (λ l. get_or l b None) (e ∙ ap (λ k. window_row k xs a) f ∙ ahead b xs a)
+        ∙ get_or_at (replicate b None) None (map Some xs ++ replicate a None) None b (length-replicate b empty)
 
     pub put_ahead : slots ≡ window_row n xs a → n ≡ suc b → slice_set slots b (Some x) ≡ window_row b (x ∷ xs) a
     unfolding window_row
-    put_ahead e f = ap (λ l. slice_set l b (Some x)) (e ∙ ap (λ k. window_row k xs a) f ∙ ahead b xs a) ∙ set_at (replicate b None) None (map Some xs ++ replicate a None) (Some x) b (length-replicate b empty)
+    put_ahead e f = ap (λ l. slice_set l b (Some x)) (e ∙ ap (λ k. window_row k xs a) f ∙ ahead b xs a)
+        ∙ set_at (replicate b None) None (map Some xs ++ replicate a None) (Some x) b (length-replicate b empty)
 
   -- a list that has members ends in one
   pub split_last : (xs : List X) → 0 < length xs → (front : List X) × (x : X) × (xs ≡ front ++ x ∷ [])
@@ -100,12 +113,14 @@ module _ {X : Type 0} where
   module _ (row : List (Option X)) (from to len : ℕ) (count : from + length (values row) ≡ to) (fits : to ≤ len)
       (shape : row ≡ window_row from (values row) (len - to)) where
     pub length-row : length row ≡ len
-    length-row = let all : length row ≡ from + length (values row) + (len - to) = ap length shape ∙ length-laid from (values row) (len - to) in omega (arith, all, count, fits)
+    length-row = let all : length row ≡ from + length (values row) + (len - to) = ap length shape ∙ length-laid from (values row) (len - to) in
+        omega (arith, all, count, fits)
 
     pub pushed_back : (new : List (Option X)) (x : X) → 0 < len - to → new ≡ slice_set row to (Some x)
         → (values new ≡ values row ++ x ∷ []) × (new ≡ window_row from (values new) (len - (to + 1)))
     pushed_back new x room e =
-        is_laid new from (values row ++ x ∷ []) (len - (to + 1)) (e ∙ put_behind row from (values row) x (len - (to + 1)) (len - to) to shape (omega (arith, room)) (sym count))
+        is_laid new from (values row ++ x ∷ []) (len - (to + 1))
+        (e ∙ put_behind row from (values row) x (len - (to + 1)) (len - to) to shape (omega (arith, room)) (sym count))
 
     pub pushed_front : (new : List (Option X)) (x : X) → 0 < from → new ≡ slice_set row (from - 1) (Some x)
         → (values new ≡ x ∷ values row) × (new ≡ window_row (from - 1) (values new) (len - to))
@@ -115,8 +130,11 @@ module _ {X : Type 0} where
     pub last_value : 0 < length (values row) → (x : X) × (get_or row (to - 1) None ≡ Some x)
     last_value some =
         let parts = split_last (values row) some in
-        let long : length (values row) ≡ length parts.0 + 1 = ap length parts.2 ∙ length-append parts.0 (parts.1 ∷ []) in
-        (parts.1, value_last row from parts.0 parts.1 (len - to) 0 (to - 1) (shape ∙ ap (λ l. window_row from l (len - to)) parts.2) (omega (arith, long, count)))
+        let long : length (values row) ≡ length parts.0 + 1 = ap length parts.2 ∙ length-append parts.0 (parts.1 ∷ []) in (
+          parts.1,
+          value_last row from parts.0 parts.1 (len - to) 0 (to - 1) (shape ∙ ap (λ l. window_row from l (len - to)) parts.2)
+              (omega (arith, long, count)),
+        )
 
     pub popped : (new : List (Option X)) (x : X) → 0 < length (values row) → get_or row (to - 1) None ≡ Some x
         → new ≡ slice_set row (to - 1) None → (values row ≡ values new ++ x ∷ []) × (new ≡ window_row from (values new) (len - (to - 1)))

@@ -34,7 +34,8 @@ up : (w u quotient rest : ℕ) → quotient * u + rest ≡ w → rest < u → u 
 up w u quotient rest made small large odd = let next : (quotient + 1) * u ≡ quotient * u + u = omega arith in
     record {
       near = subst (λ x. 2 * abs_diff x w ≤ u) (sym next) (omega (arith, made, small, large));
-      even = λ half. let h : 2 * abs_diff (quotient * u + u) w ≡ u = subst (λ x. 2 * abs_diff x w ≡ u) next half in omega (arith, odd (omega (arith, made, small, h)));
+      even = λ half. let h : 2 * abs_diff (quotient * u + u) w ≡ u = subst (λ x. 2 * abs_diff x w ≡ u) next half in
+          omega (arith, odd (omega (arith, made, small, h)));
     }
 
 down : (w u quotient rest : ℕ) → quotient * u + rest ≡ w → 2 * rest ≤ u → (2 * rest ≡ u → quotient % 2 ≡ 0) → IsNearestWhole w u quotient

@@ -118,7 +118,9 @@ element_leaves : (index : List ℤ) (element : Scalar) → LeavesType (with_elem
 element_leaves index element (One s) = tt
 element_leaves index element (AnArray a) = by (in_bounds a.bounds index) (fits_type element a.elem)
   where
-    by : (b c : Bool) → IfOk (if b then (if c then Ok (AnArray (with_cell a index element)) else Err (Array arrays.TypeMismatch)) else Err (Array arrays.BadIndex)) (Alike (AnArray a))
+    by : (b c : Bool)
+        → IfOk (if b then (if c then Ok (AnArray (with_cell a index element)) else Err (Array arrays.TypeMismatch)) else Err (Array arrays.BadIndex))
+        (Alike (AnArray a))
     by true true = one_type a (with_cell a index element) refl
     by true false = tt
     by false c = tt
@@ -127,7 +129,9 @@ pub redim_leaves : (bound : Bound) → LeavesType (redimensioned_value bound)
 redim_leaves bound (One s) = tt
 redim_leaves bound (AnArray a) = by (nat_lt 0 a.locks) (nat_lt max_cells (box_size (with_first bound a.bounds)))
   where
-    by : (b c : Bool) → IfOk (if b then Err (Array arrays.IsLocked) else if c then Err (Array arrays.InvalidArgument) else Ok (AnArray (redimensioned (zero_of a.elem) bound a))) (Alike (AnArray a))
+    by : (b c : Bool)
+        → IfOk (if b then Err (Array arrays.IsLocked) else if c then Err (Array arrays.InvalidArgument) else Ok
+        (AnArray (redimensioned (zero_of a.elem) bound a))) (Alike (AnArray a))
     by true c = tt
     by false true = tt
     by false false = one_type a (redimensioned (zero_of a.elem) bound a) refl
@@ -190,7 +194,8 @@ module _ (library : TreeValue) where
       on value (Ok new) is alike =
           let parts = object_parts object fit in
           object_from object.class (set_value (is_at (place_cmp place)) object.cells new) parts.0
-          (set_all (cell_fits library object.class) (is_at (place_cmp place)) object.cells value new is (λ k h. sym (cell_alike value new object.class k alike) ∙ h) parts.1)
+          (set_all (cell_fits library object.class) (is_at (place_cmp place)) object.cells value new is
+          (λ k h. sym (cell_alike value new object.class k alike) ∙ h) parts.1)
       on value (Err fault) is alike = tt
 
       by : (o : Option Variant) → cell_at place object.cells ≡ o → IfOk (changed_if_put place change object o) Fitting
@@ -230,7 +235,8 @@ module _ (library : TreeValue) where
 
       by : (o : Option ObjectValue) → object_at number table ≡ o → IfOk (changed_if_live number change table o) Fits
       by None is = tt
-      by (Some object) is = on object (change object) is (each object is (found_passes (object_fits library) (is_at (nat_cmp number)) table.objects object is fit))
+      by (Some object) is =
+          on object (change object) is (each object is (found_passes (object_fits library) (is_at (nat_cmp number)) table.objects object is fit))
 
   cell_kept : (name : CellName) (table : TableValue) (change : Variant → Result Variant TableFault) → LeavesType change → Fits table
       → IfOk (on_object name.object (with_change name.place change) table) Fits
@@ -265,14 +271,16 @@ module _ (library : TreeValue) where
   put_here : (place : PlaceValue) (value : Variant) (o : Option ObjectValue) (object : ObjectValue) → put_fits library place value o ≡ true
       → o ≡ Some object → cell_fits library object.class (place, value) ≡ true
   put_here place value None object h is = absurd (none-some object is)
-  put_here place value (Some other) object h is = let same : other ≡ object = cc in subst (λ (x : ObjectValue). cell_fits library x.class (place, value) ≡ true) same h
+  put_here place value (Some other) object h is = let same : other ≡ object = cc in
+      subst (λ (x : ObjectValue). cell_fits library x.class (place, value) ≡ true) same h
 
   pub event_kept : CmpEqualImpliesEq scalar_cmp → (table : TableValue) (event : Event) → Fits table
       → brings_fitting library table event ≡ true → IfOk (applied event table) Fits
   event_kept exact table (Create number class) fit brings = create_kept table number class brings fit
   event_kept exact table (Release number) fit brings = release_kept table number fit
   event_kept exact table (Put name value) fit brings =
-      on_kept name.object table (with_put name.place value) (λ object is. put_kept name.place value object exact (put_here name.place value (object_at name.object table) object brings is)) fit
+      on_kept name.object table (with_put name.place value)
+      (λ object is. put_kept name.place value object exact (put_here name.place value (object_at name.object table) object brings is)) fit
   event_kept exact table (PutElement name index value) fit brings = cell_kept name table (with_element_put index value) (element_leaves index value) fit
   event_kept exact table (Redim name bound) fit brings = cell_kept name table (redimensioned_value bound) (redim_leaves bound) fit
 
@@ -287,7 +295,8 @@ module _ (library : TreeValue) where
       → list_all (cell_fits library class) (map unlocked_cell cells) ≡ list_all (cell_fits library class) cells
   cells_unlocked class [] = refl
   cells_unlocked class (cell ∷ cells) =
-      let here : cell_fits library class (unlocked_cell cell) ≡ cell_fits library class cell = sym (cell_alike cell.1 (unlocked cell.1) class cell.0 (unlocked_alike cell.1)) in
+      let here : cell_fits library class (unlocked_cell cell) ≡ cell_fits library class cell =
+      sym (cell_alike cell.1 (unlocked cell.1) class cell.0 (unlocked_alike cell.1)) in
       let rest = cells_unlocked class cells in
       λ i. here i && rest i
 

@@ -36,16 +36,19 @@ all_of p q each [] h = refl
 all_of p q each (x ∷ xs) h = let parts = and_parts (p x) (list_all p xs) h in and_from (q x) (list_all q xs) (each x parts.0) (all_of p q each xs parts.1)
 
 module _ (new old : TreeValue) (is : IsChecked new) (keeps : KeepsLibrary new old) where
-  kept_property : (key : List Scalar) (value : Variant) (i : InterfaceValue) (place : PlaceValue) (m : MemberValue) → HasProperty i place.dispid m → property_fits key value (Some m) ≡ true → property_fits key value (property_in i place.dispid) ≡ true
+  kept_property : (key : List Scalar) (value : Variant) (i : InterfaceValue) (place : PlaceValue) (m : MemberValue) → HasProperty i place.dispid m
+      → property_fits key value (Some m) ≡ true → property_fits key value (property_in i place.dispid) ≡ true
   kept_property key value i place m has h =
       let parts = and_parts (key_fits m.parameters key) (fits_declared value m.value_type) h in
       ap (property_fits key value) has.found
-      ∙ and_from (key_fits has.member.parameters key) (fits_declared value has.member.value_type) (sym (key_types m.parameters has.member.parameters key has.parameters) ∙ parts.0) (ap (fits_declared value) has.type ∙ parts.1)
+      ∙ and_from (key_fits has.member.parameters key) (fits_declared value has.member.value_type)
+      (sym (key_types m.parameters has.member.parameters key has.parameters) ∙ parts.0) (ap (fits_declared value) has.type ∙ parts.1)
 
   kept_cell : (class : List ℕ) (cell : PlaceValue × Variant) → cell_fits old class cell ≡ true → cell_fits new class cell ≡ true
   kept_cell class cell h = by (entered old class cell.0.interface) refl h
     where
-      on : (was : InterfaceValue) (o : Option MemberValue) → entered old class cell.0.interface ≡ Some was → property_in was cell.0.dispid ≡ o → property_fits cell.0.key cell.1 o ≡ true → cell_fits new class cell ≡ true
+      on : (was : InterfaceValue) (o : Option MemberValue) → entered old class cell.0.interface ≡ Some was → property_in was cell.0.dispid ≡ o
+          → property_fits cell.0.key cell.1 o ≡ true → cell_fits new class cell ≡ true
       on was None at found k = absurd (true≢false (sym k))
       on was (Some m) at found k =
           let still = kept_entered new old is keeps class cell.0.interface was at in
@@ -62,4 +65,5 @@ module _ (new old : TreeValue) (is : IsChecked new) (keeps : KeepsLibrary new ol
       (all_of (cell_fits old object.class) (cell_fits new object.class) (kept_cell object.class) object.cells parts.1)
 
   pub kept_fits : (table : TableValue) → fits old table ≡ true → fits new table ≡ true
-  kept_fits table h = all_of (λ (e : ℕ × ObjectValue). object_fits old e.1) (λ (e : ℕ × ObjectValue). object_fits new e.1) (λ e. kept_object e.1) table.objects h
+  kept_fits table h = all_of (λ (e : ℕ × ObjectValue). object_fits old e.1) (λ (e : ℕ × ObjectValue). object_fits new e.1)
+      (λ e. kept_object e.1) table.objects h

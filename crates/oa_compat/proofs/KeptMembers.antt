@@ -69,7 +69,8 @@ abbrev OneName : DeclarationValue → DeclarationValue → Type 0
 OneName d e = d.id ≡ e.id → same_name d.name e.name ≡ true
 
 shared : (d e : DeclarationValue) → shares_id d e ≡ false → OneName d e
-shared d e apart is = unnot (same_name d.name e.name) (subst (λ (b : Bool). (b && not (same_name d.name e.name)) ≡ false) ((Decides-int_eq d.id e.id).1 is) apart)
+shared d e apart is =
+    unnot (same_name d.name e.name) (subst (λ (b : Bool). (b && not (same_name d.name e.name)) ≡ false) ((Decides-int_eq d.id e.id).1 is) apart)
 
 -- of one name: both methods, or none
 abbrev OneSort : DeclarationValue → DeclarationValue → Type 0
@@ -103,13 +104,16 @@ forms_only kinds.Put kinds.Get e = refl
 forms_only kinds.Put kinds.Put e = absurd (true≢false (sym e))
 
 one_sort : (d e : DeclarationValue) → clashes d e ≡ false → OneSort d e
-one_sort d e apart is = forms_only d.kind e.kind (unnot (are_one_member d.kind e.kind) (subst (λ (b : Bool). (b && not (are_one_member d.kind e.kind)) ≡ false) is apart))
+one_sort d e apart is =
+    forms_only d.kind e.kind (unnot (are_one_member d.kind e.kind) (subst (λ (b : Bool). (b && not (are_one_member d.kind e.kind)) ≡ false) is apart))
 
 no_id_breach : (t : TreeValue) → tree_breach t ≡ None → id_breach t.items ≡ None
 no_id_breach t e =
     let keys = neither (key_breaches t) (option_or (option_map UnknownInterface (interface_breach t.items)) (form_breaches t.items)) e in
-    let rest = neither (option_map DuplicateName (name_breach t.items)) (option_or (option_map DuplicateId (id_breach t.items)) (option_map DuplicateGuid (guid_breach t.guid t.items))) keys.0 in
-    unmapped DuplicateId (id_breach t.items) (neither (option_map DuplicateId (id_breach t.items)) (option_map DuplicateGuid (guid_breach t.guid t.items)) rest.1).0
+    let rest = neither (option_map DuplicateName (name_breach t.items))
+    (option_or (option_map DuplicateId (id_breach t.items)) (option_map DuplicateGuid (guid_breach t.guid t.items))) keys.0 in
+    unmapped DuplicateId (id_breach t.items)
+    (neither (option_map DuplicateId (id_breach t.items)) (option_map DuplicateGuid (guid_breach t.guid t.items)) rest.1).0
 
 -- what the checks give for the declarations of an interface that have one DISPID
 abbrev Alike : DeclarationValue → DeclarationValue → Type 0
@@ -122,15 +126,19 @@ pub one_member : (t : TreeValue) (n : ℕ) (i : InterfaceValue) → IsChecked t 
 unfolding IsOneMember
 one_member t n i is at =
     let w = is.1.tree in
-    let there : slice_get w.items n ≡ Some (Interface i) = unmarked (slice_get w.items n) i (sym (slice_get-map _ w.items n) ∙ ap (λ (u : TreeValue). slice_get u.items n) (sym is.1.says) ∙ at) in
+    let there : slice_get w.items n ≡ Some (Interface i) =
+    unmarked (slice_get w.items n) i (sym (slice_get-map _ w.items n) ∙ ap (λ (u : TreeValue). slice_get u.items n) (sym is.1.says) ∙ at) in
     let none = (neither (tree_breach w) (text_breach w) is.1.unbroken).0 in
-    let ids : first_broken shares_id (declarations i) ≡ None = none_at (in_interface (first_broken shares_id)) w.items (no_id_breach w none) n (Interface i) there in
+    let ids : first_broken shares_id (declarations i) ≡ None = none_at (in_interface (first_broken shares_id)) w.items (no_id_breach w none) n
+    (Interface i) there in
     let names = no_repeats w.items (no_name_breach w none) n i there in
     let well = names_well t n i is at in
     λ m k d e dat eat same.
-    (let name = any_two (broken_by shares_id) shares_id OneName (λ before x h. (unless (list_any (shares_id x) before) x.name None h).0) shared (λ x _. same_itself (folded_name x.name)) (λ x y r k. name_symm y.name x.name ∙ r (sym k)) [] (declarations i) ids m k d e dat eat same in
+    (let name = any_two (broken_by shares_id) shares_id OneName (λ before x h. (unless (list_any (shares_id x) before) x.name None h).0) shared
+    (λ x _. same_itself (folded_name x.name)) (λ x y r k. name_symm y.name x.name ∙ r (sym k)) [] (declarations i) ids m k d e dat eat same in
     let sort = any_two declared_breach clashes OneSort
-    (λ before x h. (unless (list_any (clashes x) before) x.name (repeated_name (map (λ (p : Parameter). p.name) x.parameters)) h).0) one_sort (λ x _. refl) (λ x y r k. sym (r (name_symm x.name y.name ∙ k))) [] (declarations i) names m k d e dat eat name in
+    (λ before x h. (unless (list_any (clashes x) before) x.name (repeated_name (map (λ (p : Parameter). p.name) x.parameters)) h).0) one_sort (λ x _. refl)
+    (λ x y r k. sym (r (name_symm x.name y.name ∙ k))) [] (declarations i) names m k d e dat eat name in
     (well.agree m k d e dat eat name, sort))
 
 -- ---- the types of a declaration
@@ -141,7 +149,8 @@ parameter_type p q is =
     let b = same_value_type p.value_type q.value_type in
     let c = beq p.is_in q.is_in in
     let d = beq (is_optional p) (is_optional q) in
-    types_are p.value_type q.value_type (and_parts a b (and_parts (a && b) c (and_parts ((a && b) && c) d (and_parts (((a && b) && c) && d) (same_default p.default q.default) is).0).0).0).1
+    types_are p.value_type q.value_type (and_parts a b
+    (and_parts (a && b) c (and_parts ((a && b) && c) d (and_parts (((a && b) && c) && d) (same_default p.default q.default) is).0).0).0).1
 
 same_types : (ps qs : List Parameter) → pointwise same_parameter ps qs ≡ true → types_of ps ≡ types_of qs
 same_types [] [] e = refl
@@ -164,14 +173,20 @@ owned : (d : DeclarationValue) → types_of (own_parameters d) ≡ own_types (is
 owned d = by (is_put d.kind)
   where
     by : (b : Bool) → types_of (if b then take (length d.parameters - 1) d.parameters else d.parameters) ≡ own_types b (types_of d.parameters)
-    by true = sym (ap (λ n. take (n - 1) (types_of d.parameters)) (length-map d.parameters (λ (p : Parameter). p.value_type)) ∙ take-map (λ (p : Parameter). p.value_type) (length d.parameters - 1) d.parameters)
+    by true =
+        sym (ap (λ n. take (n - 1) (types_of d.parameters)) (length-map d.parameters (λ (p : Parameter). p.value_type))
+        ∙ take-map (λ (p : Parameter). p.value_type) (length d.parameters - 1) d.parameters)
     by false = refl
 
 held : (d : DeclarationValue) → type_of_value d ≡ value_type (is_put d.kind) d.value_type (types_of d.parameters)
 held d = by (is_put d.kind)
   where
-    by : (b : Bool) → (if b then option_map (λ (p : Parameter). p.value_type) (if b then slice_get d.parameters (length d.parameters - 1) else None) else d.value_type) ≡ value_type b d.value_type (types_of d.parameters)
-    by true = sym (ap (λ n. slice_get (types_of d.parameters) (n - 1)) (length-map d.parameters (λ (p : Parameter). p.value_type)) ∙ slice_get-map (λ (p : Parameter). p.value_type) d.parameters (length d.parameters - 1))
+    by : (b : Bool)
+        → (if b then option_map (λ (p : Parameter). p.value_type) (if b then slice_get d.parameters (length d.parameters - 1) else None) else d.value_type)
+        ≡ value_type b d.value_type (types_of d.parameters)
+    by true =
+        sym (ap (λ n. slice_get (types_of d.parameters) (n - 1)) (length-map d.parameters (λ (p : Parameter). p.value_type))
+        ∙ slice_get-map (λ (p : Parameter). p.value_type) d.parameters (length d.parameters - 1))
     by false = refl
 
 -- two declarations have the same types
@@ -188,25 +203,30 @@ kept_typed d e h =
 agree_typed : (d e : DeclarationValue) → agree d e ≡ true → Typed d e
 unfolding agree
 agree_typed d e is =
-    let one = and_parts (int_eq d.id e.id && same_result (type_of_value d) (type_of_value e)) (pointwise same_parameter (own_parameters d) (own_parameters e)) is in
+    let one = and_parts (int_eq d.id e.id && same_result (type_of_value d) (type_of_value e)) (pointwise same_parameter (own_parameters d) (own_parameters e))
+    is in
     let two = and_parts (int_eq d.id e.id) (same_result (type_of_value d) (type_of_value e)) one.0 in
     (sym (same_types (own_parameters d) (own_parameters e) one.1), sym (results_are (type_of_value d) (type_of_value e) two.1))
 
 -- ---- the property
 -- the declaration that speaks for a DISPID is like each that has it
-speaks : (i : InterfaceValue) (id : ℤ) (n : ℕ) (d : DeclarationValue) → slice_get (declarations i) n ≡ Some d → id ≡ d.id → IsOneMember i → (e : DeclarationValue) × (main_form (forms_with id i) ≡ Some e) × Alike d e
+speaks : (i : InterfaceValue) (id : ℤ) (n : ℕ) (d : DeclarationValue) → slice_get (declarations i) n ≡ Some d → id ≡ d.id → IsOneMember i
+    → (e : DeclarationValue) × (main_form (forms_with id i) ≡ Some e) × Alike d e
 unfolding IsOneMember
 speaks i id n d at is one = by (main_form (forms_with id i)) refl
   where
     by : (o : Option DeclarationValue) → main_form (forms_with id i) ≡ o → (e : DeclarationValue) × (main_form (forms_with id i) ≡ Some e) × Alike d e
-    by None main = let f = filtered (λ (x : DeclarationValue). int_eq id x.id) (declarations i) n d at ((Decides-int_eq id d.id).1 is) in absurd (some_main (forms_with id i) f.0 d f.1 main)
+    by None main = let f = filtered (λ (x : DeclarationValue). int_eq id x.id) (declarations i) n d at ((Decides-int_eq id d.id).1 is) in
+        absurd (some_main (forms_with id i) f.0 d f.1 main)
     by (Some e) main =
         let f = main_in (forms_with id i) e main in
         let g = in_filter (λ (x : DeclarationValue). int_eq id x.id) (declarations i) f.0 e f.1 in
         (e, main, one n g.0 d e at g.1 (sym is ∙ (Decides-int_eq id e.id).0 g.2))
 
-spoken : (forms : List DeclarationValue) (e : DeclarationValue) (t : ValueType) → is_method e.kind ≡ false → type_of_value e ≡ Some t → property_with (Some e) forms ≡ Some (property_of forms e t)
-spoken forms e t not_method is = ap (λ b. if b then None else option_map (property_of forms e) (type_of_value e)) not_method ∙ ap (option_map (property_of forms e)) is
+spoken : (forms : List DeclarationValue) (e : DeclarationValue) (t : ValueType) → is_method e.kind ≡ false → type_of_value e ≡ Some t
+    → property_with (Some e) forms ≡ Some (property_of forms e t)
+spoken forms e t not_method is = ap (λ b. if b then None else option_map (property_of forms e) (type_of_value e)) not_method
+    ∙ ap (option_map (property_of forms e)) is
 
 pub has_property : (was now : InterfaceValue) → IsOneMember now → DeclaresAll now was → HasProperties now was
 has_property was now one keeps id m h = by (main_form (forms_with id was)) refl h
@@ -229,7 +249,8 @@ has_property was now one keeps id m h = by (main_form (forms_with id was)) refl 
         let same : property_of (forms_with id was) d t ≡ m = inside (property_of (forms_with id was) d t) m k in
         record {
           member = member;
-          found = ap (λ (o : Option DeclarationValue). property_with o (forms_with id now)) s.1 ∙ spoken (forms_with id now) s.0 t sort (second.1 ∙ first.1 ∙ type);
+          found = ap (λ (o : Option DeclarationValue). property_with o (forms_with id now)) s.1
+              ∙ spoken (forms_with id now) s.0 t sort (second.1 ∙ first.1 ∙ type);
           type = ap (λ (x : MemberValue). x.value_type) same;
           parameters = second.0 ∙ first.0 ∙ ap (λ (x : MemberValue). types_of x.parameters) same;
         }
@@ -239,7 +260,8 @@ has_property was now one keeps id m h = by (main_form (forms_with id was)) refl 
     by (Some d) main k = on d (is_method d.kind) (type_of_value d) main refl refl k
 
 -- ---- what a coclass has
-pub kept_class : (new old : TreeValue) → IsChecked new → KeepsLibrary new old → (class : List ℕ) → is_some (class_of old class) ≡ true → is_some (class_of new class) ≡ true
+pub kept_class : (new old : TreeValue) → IsChecked new → KeepsLibrary new old → (class : List ℕ) → is_some (class_of old class) ≡ true
+    → is_some (class_of new class) ≡ true
 kept_class new old is keeps class h = by (class_of old class) refl h
   where
     by : (o : Option CoclassValue) → class_of old class ≡ o → is_some o ≡ true → is_some (class_of new class) ≡ true
@@ -254,10 +276,12 @@ properties_of new is now was there declares =
     let r = in_mapped as_interface new.items there.0 now there.1 in
     has_property was now (one_member new r.0 now is (r.2 ∙ ap (λ (x : Item). Some x) (was_interface r.1 now r.3))) declares
 
-pub kept_entered : (new old : TreeValue) → IsChecked new → KeepsLibrary new old → (class guid : List ℕ) (was : InterfaceValue) → entered old class guid ≡ Some was → EntersStill new class guid was
+pub kept_entered : (new old : TreeValue) → IsChecked new → KeepsLibrary new old → (class guid : List ℕ) (was : InterfaceValue)
+    → entered old class guid ≡ Some was → EntersStill new class guid was
 kept_entered new old is keeps class guid was h = by (class_of old class) refl h
   where
-    on : (c : CoclassValue) (i : InterfaceValue) (b : Bool) → class_of old class ≡ Some c → interface_of old guid ≡ Some i → has_interface c i ≡ b → (if b then Some i else None) ≡ Some was → EntersStill new class guid was
+    on : (c : CoclassValue) (i : InterfaceValue) (b : Bool) → class_of old class ≡ Some c → interface_of old guid ≡ Some i → has_interface c i ≡ b
+        → (if b then Some i else None) ≡ Some was → EntersStill new class guid was
     on c i false at there has k = absurd (none-some was k)
     on c i true at there has k =
         let atc = class_there old class c at in
@@ -279,10 +303,12 @@ kept_entered new old is keeps class guid was h = by (class_of old class) refl h
           properties = subst (HasProperties ki.now) (inside i was k) (properties_of new is ki.now i ki.there ki.declarations);
         }
 
-    in_class : (c : CoclassValue) (o : Option InterfaceValue) → class_of old class ≡ Some c → interface_of old guid ≡ o → option_and_then (if_entered c) o ≡ Some was → EntersStill new class guid was
+    in_class : (c : CoclassValue) (o : Option InterfaceValue) → class_of old class ≡ Some c → interface_of old guid ≡ o
+        → option_and_then (if_entered c) o ≡ Some was → EntersStill new class guid was
     in_class c None at there k = absurd (none-some was k)
     in_class c (Some i) at there k = on c i (has_interface c i) at there refl k
 
-    by : (o : Option CoclassValue) → class_of old class ≡ o → option_and_then (λ c. option_and_then (if_entered c) (interface_of old guid)) o ≡ Some was → EntersStill new class guid was
+    by : (o : Option CoclassValue) → class_of old class ≡ o → option_and_then (λ c. option_and_then (if_entered c) (interface_of old guid)) o ≡ Some was
+        → EntersStill new class guid was
     by None at k = absurd (none-some was k)
     by (Some c) at k = in_class c (interface_of old guid) at refl k

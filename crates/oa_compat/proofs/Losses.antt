@@ -51,19 +51,25 @@ first_once : (before : List (List ℕ)) (y : Item) (ys : List Item) → Once bef
 unfolding first_repeat
 first_once before y ys once = unless (list_any (same (item_guid y)) before) (item_guid y) _ once
 
-not_before : (before : List (List ℕ)) (items : List Item) → Once before items → (n : ℕ) (x : Item) → slice_get items n ≡ Some x → list_any (same (item_guid x)) before ≡ false
+not_before : (before : List (List ℕ)) (items : List Item) → Once before items → (n : ℕ) (x : Item) → slice_get items n ≡ Some x
+    → list_any (same (item_guid x)) before ≡ false
 not_before before [] once n x h = absurd cc
 not_before before (y ∷ ys) once zero x h = subst (λ (z : Item). list_any (same (item_guid z)) before ≡ false) (inside y x h) (first_once before y ys once).0
 not_before before (y ∷ ys) once (suc n) x h =
-    (or_parts (list_any (same (item_guid x)) before) _ (sym (list_any-append (same (item_guid x)) before (item_guid y ∷ [])) ∙ not_before (before ++ item_guid y ∷ []) ys (first_once before y ys once).1 n x h)).0
+    (or_parts (list_any (same (item_guid x)) before) _
+    (sym (list_any-append (same (item_guid x)) before (item_guid y ∷ [])) ∙ not_before (before ++ item_guid y ∷ []) ys (first_once before y ys once).1 n x h)).0
 
-own_item : (before : List (List ℕ)) (items : List Item) → Once before items → (n : ℕ) (x : Item) → slice_get items n ≡ Some x → find (λ y. same (item_guid x) (item_guid y)) items ≡ Some x
+own_item : (before : List (List ℕ)) (items : List Item) → Once before items → (n : ℕ) (x : Item) → slice_get items n ≡ Some x
+    → find (λ y. same (item_guid x) (item_guid y)) items ≡ Some x
 own_item before [] once n x h = absurd cc
 own_item before (y ∷ ys) once zero x h =
-    subst (λ (z : Item). find (λ w. same (item_guid z) (item_guid w)) (y ∷ ys) ≡ Some z) (inside y x h) (ap (λ b. cond b (Some y) (find (λ w. same (item_guid y) (item_guid w)) ys)) (same_itself (item_guid y)))
+    subst (λ (z : Item). find (λ w. same (item_guid z) (item_guid w)) (y ∷ ys) ≡ Some z) (inside y x h)
+    (ap (λ b. cond b (Some y) (find (λ w. same (item_guid y) (item_guid w)) ys)) (same_itself (item_guid y)))
 own_item before (y ∷ ys) once (suc n) x h =
     let rest = (first_once before y ys once).1 in
-    let last = (or_parts (list_any (same (item_guid x)) before) _ (sym (list_any-append (same (item_guid x)) before (item_guid y ∷ [])) ∙ not_before (before ++ item_guid y ∷ []) ys rest n x h)).1 in
+    let last =
+    (or_parts (list_any (same (item_guid x)) before) _
+    (sym (list_any-append (same (item_guid x)) before (item_guid y ∷ [])) ∙ not_before (before ++ item_guid y ∷ []) ys rest n x h)).1 in
     let differs : same (item_guid x) (item_guid y) ≡ false = (or_parts (same (item_guid x) (item_guid y)) false last).0 in
     ap (λ b. cond b (Some y) (find (λ w. same (item_guid x) (item_guid w)) ys)) differs ∙ own_item (before ++ item_guid y ∷ []) ys rest n x h
 
@@ -71,7 +77,8 @@ no_guid_breach : (t : TreeValue) → first_breach t ≡ None → guid_breach t.g
 no_guid_breach t e =
     let a = neither (tree_breach t) (text_breach t) e in
     let b = neither (key_breaches t) (option_or (option_map UnknownInterface (interface_breach t.items)) (form_breaches t.items)) a.0 in
-    let c = neither (option_map DuplicateName (name_breach t.items)) (option_or (option_map DuplicateId (id_breach t.items)) (option_map DuplicateGuid (guid_breach t.guid t.items))) b.0 in
+    let c = neither (option_map DuplicateName (name_breach t.items))
+    (option_or (option_map DuplicateId (id_breach t.items)) (option_map DuplicateGuid (guid_breach t.guid t.items))) b.0 in
     let d = neither (option_map DuplicateId (id_breach t.items)) (option_map DuplicateGuid (guid_breach t.guid t.items)) c.1 in
     unmapped DuplicateGuid (guid_breach t.guid t.items) d.1
 
@@ -80,7 +87,8 @@ unfolding first_repeat
 each_once t is =
     let w = is.1.tree in (
       w.guid ∷ [],
-      subst (λ (u : TreeValue). Once (w.guid ∷ []) u.items) (sym is.1.says) (ap (first_repeat same (λ g. g) (w.guid ∷ [])) (kept item_guid guid_kept w.items) ∙ no_guid_breach w is.1.unbroken),
+      subst (λ (u : TreeValue). Once (w.guid ∷ []) u.items) (sym is.1.says)
+          (ap (first_repeat same (λ g. g) (w.guid ∷ [])) (kept item_guid guid_kept w.items) ∙ no_guid_breach w is.1.unbroken),
     )
 
 own : (t : TreeValue) → IsChecked t → (n : ℕ) (x : Item) → slice_get t.items n ≡ Some x → item_with t.items (item_guid x) ≡ Some x
@@ -165,10 +173,12 @@ either true b c = refl
 either false b c = refl
 
 -- each name is equal to one that is taken
-taken : (name : List ℕ) (before names : List (List ℕ)) → list_any (same_name name) names ≡ true → (list_any (same_name name) before || list_any (same_name name) (first_names before names)) ≡ true
+taken : (name : List ℕ) (before names : List (List ℕ)) → list_any (same_name name) names ≡ true
+    → (list_any (same_name name) before || list_any (same_name name) (first_names before names)) ≡ true
 unfolding first_names
 taken name before [] e = absurd (true≢false (sym e))
-taken name before (x ∷ names) e = by (same_name name x) refl (list_any (same_name x) before) refl e (taken name before names) (taken name (before ++ x ∷ []) names)
+taken name before (x ∷ names) e = by (same_name name x) refl (list_any (same_name x) before) refl e (taken name before names)
+    (taken name (before ++ x ∷ []) names)
   where
     here : same_name name x ≡ true → list_any (same_name x) before ≡ true → list_any (same_name name) before ≡ true
     here is h =
@@ -177,15 +187,19 @@ taken name before (x ∷ names) e = by (same_name name x) refl (list_any (same_n
 
     by : (s : Bool) → same_name name x ≡ s → (b : Bool) → list_any (same_name x) before ≡ b → (s || list_any (same_name name) names) ≡ true
         → (list_any (same_name name) names ≡ true → (list_any (same_name name) before || list_any (same_name name) (first_names before names)) ≡ true)
-        → (list_any (same_name name) names ≡ true → (list_any (same_name name) (before ++ x ∷ []) || list_any (same_name name) (first_names (before ++ x ∷ []) names)) ≡ true)
-        → (list_any (same_name name) before || list_any (same_name name) (if b then first_names before names else x ∷ first_names (before ++ x ∷ []) names)) ≡ true
+        → (list_any (same_name name) names ≡ true
+        → (list_any (same_name name) (before ++ x ∷ []) || list_any (same_name name) (first_names (before ++ x ∷ []) names)) ≡ true)
+        → (list_any (same_name name) before || list_any (same_name name) (if b then first_names before names else x ∷ first_names (before ++ x ∷ []) names))
+        ≡ true
     by true is true seen h rest later = ap (λ b. b || list_any (same_name name) (first_names before names)) (here is seen)
     by false is true seen h rest later = rest h
     by true is false seen h rest later =
-        ap (λ b. list_any (same_name name) before || (b || list_any (same_name name) (first_names (before ++ x ∷ []) names))) is ∙ or_true (list_any (same_name name) before)
+        ap (λ b. list_any (same_name name) before || (b || list_any (same_name name) (first_names (before ++ x ∷ []) names))) is
+        ∙ or_true (list_any (same_name name) before)
     by false is false seen h rest later =
         either (list_any (same_name name) before) (same_name name x) (list_any (same_name name) (first_names (before ++ x ∷ []) names))
-        ∙ ap (λ b. b || list_any (same_name name) (first_names (before ++ x ∷ []) names)) (ap (λ b. list_any (same_name name) before || b) (sym (or_false (same_name name x))) ∙ sym (list_any-append (same_name name) before (x ∷ [])))
+        ∙ ap (λ b. b || list_any (same_name name) (first_names (before ++ x ∷ []) names))
+        (ap (λ b. list_any (same_name name) before || b) (sym (or_false (same_name name x))) ∙ sym (list_any-append (same_name name) before (x ∷ [])))
         ∙ later h
       where
         or_false : (b : Bool) → (b || false) ≡ b
@@ -223,25 +237,33 @@ put_or_not : (forms : List DeclarationValue) (d : DeclarationValue) → Has form
 put_or_not forms d h = by (is_put d.kind) refl
   where
     by : (b : Bool) → is_put d.kind ≡ b → Has (put_last forms) d
-    by true is = in_second (filter (λ (e : DeclarationValue). not (is_put e.kind)) forms) _ d (filtered (λ (e : DeclarationValue). is_put e.kind) forms h.0 d h.1 is)
-    by false is = let r = filtered (λ (e : DeclarationValue). not (is_put e.kind)) forms h.0 d h.1 (ap not is) in in_first _ (filter (λ (e : DeclarationValue). is_put e.kind) forms) r.0 d r.1
+    by true is = in_second (filter (λ (e : DeclarationValue). not (is_put e.kind)) forms) _ d
+        (filtered (λ (e : DeclarationValue). is_put e.kind) forms h.0 d h.1 is)
+    by false is = let r = filtered (λ (e : DeclarationValue). not (is_put e.kind)) forms h.0 d h.1 (ap not is) in
+        in_first _ (filter (λ (e : DeclarationValue). is_put e.kind) forms) r.0 d r.1
 
-named : (ds : List DeclarationValue) (n : ℕ) (d : DeclarationValue) → slice_get ds n ≡ Some d → list_any (same_name d.name) (map (λ (e : DeclarationValue). e.name) ds) ≡ true
+named : (ds : List DeclarationValue) (n : ℕ) (d : DeclarationValue) → slice_get ds n ≡ Some d
+    → list_any (same_name d.name) (map (λ (e : DeclarationValue). e.name) ds) ≡ true
 named [] n d h = absurd cc
-named (e ∷ ds) zero d h = ap (λ b. b || list_any (same_name d.name) (map (λ (e : DeclarationValue). e.name) ds)) (ap (λ (x : DeclarationValue). same_name d.name x.name) (inside e d h) ∙ name_itself d.name)
+named (e ∷ ds) zero d h = ap (λ b. b || list_any (same_name d.name) (map (λ (e : DeclarationValue). e.name) ds))
+    (ap (λ (x : DeclarationValue). same_name d.name x.name) (inside e d h) ∙ name_itself d.name)
 named (e ∷ ds) (suc n) d h = ap (λ b. same_name d.name e.name || b) (named ds n d h) ∙ or_true (same_name d.name e.name)
 
 pub described : (i : InterfaceValue) (d : DeclarationValue) → Has (declarations i) d → Has (members_described i) d
 described i d h =
-    let r = any_at (same_name d.name) (member_names i) (taken d.name [] (map (λ (e : DeclarationValue). e.name) (declarations i)) (named (declarations i) h.0 d h.1)) in
+    let r =
+    any_at (same_name d.name) (member_names i) (taken d.name [] (map (λ (e : DeclarationValue). e.name) (declarations i)) (named (declarations i) h.0 d h.1)) in
     let forms = filtered (λ (e : DeclarationValue). same_name r.1 e.name) (declarations i) h.0 d h.1 (name_symm r.1 d.name ∙ r.3) in
     in_flat (λ name. put_last (forms_named name i)) (member_names i) r.0 r.1 d r.2 (put_or_not (forms_named r.1 i) d forms)
 
 pub declared : (i : InterfaceValue) (d : DeclarationValue) → Has (members_described i) d → Has (declarations i) d
 declared i d h =
     of_flat (Has (declarations i)) (λ name. put_last (forms_named name i))
-    (λ name e k. of_both (Has (declarations i)) _ _ (λ x l. of_filter (λ (y : DeclarationValue). same_name name y.name) (declarations i) x (of_filter (λ (y : DeclarationValue). not (is_put y.kind)) (forms_named name i) x l))
-    (λ x l. of_filter (λ (y : DeclarationValue). same_name name y.name) (declarations i) x (of_filter (λ (y : DeclarationValue). is_put y.kind) (forms_named name i) x l)) e k)
+    (λ name e k. of_both (Has (declarations i)) _ _
+    (λ x l. of_filter (λ (y : DeclarationValue). same_name name y.name) (declarations i) x
+    (of_filter (λ (y : DeclarationValue). not (is_put y.kind)) (forms_named name i) x l))
+    (λ x l. of_filter (λ (y : DeclarationValue). same_name name y.name) (declarations i) x
+    (of_filter (λ (y : DeclarationValue). is_put y.kind) (forms_named name i) x l)) e k)
     (member_names i) d h
 
 -- ---- an interface
@@ -256,7 +278,9 @@ keeps_declaration now was none =
     record { declaration = r.1; declared = (r.0, r.2); kept = is_kept was r.1 r.3 }
 
 none_lost : (now : InterfaceValue) (was : DeclarationValue) → KeepsDeclaration now was → lost_declaration now was ≡ None
-none_lost now was h = ap (λ b. if b then None else Some was.id) (at_any (is_kept_by was) (declarations now) h.declared.0 h.declaration h.declared.1 (by_kept was h.declaration h.kept))
+none_lost now was h =
+    ap (λ b. if b then None else Some was.id)
+    (at_any (is_kept_by was) (declarations now) h.declared.0 h.declaration h.declared.1 (by_kept was h.declaration h.kept))
 
 keeps_interface : (new : TreeValue) (was : InterfaceValue) → lost_interface new was ≡ None → KeepsInterface new.items was
 keeps_interface new was none = by (interface_of new was.guid) refl none
@@ -302,15 +326,18 @@ unless_has false c h = refl
 entered_is : (new : TreeValue) (now : CoclassValue) (guid : List ℕ) → is_some (interface_in new now guid) ≡ true → HasGuid (IsOf new.items now) guid
 entered_is new now guid e = by (interface_of new guid) refl e
   where
-    on : (i : InterfaceValue) (b : Bool) → has_interface now i ≡ b → interface_of new guid ≡ Some i → is_some (if b then Some i else None) ≡ true → HasGuid (IsOf new.items now) guid
-    on i true has is h = let there = interface_there new guid i is in record { interface = i; is = record { there = there.0; entered = has }; has = sym there.1 }
+    on : (i : InterfaceValue) (b : Bool) → has_interface now i ≡ b → interface_of new guid ≡ Some i → is_some (if b then Some i else None) ≡ true
+        → HasGuid (IsOf new.items now) guid
+    on i true has is h = let there = interface_there new guid i is in
+        record { interface = i; is = record { there = there.0; entered = has }; has = sym there.1 }
     on i false has is h = absurd (true≢false (sym h))
 
     by : (o : Option InterfaceValue) → interface_of new guid ≡ o → is_some (option_and_then (if_entered now) o) ≡ true → HasGuid (IsOf new.items now) guid
     by None is h = absurd (true≢false (sym h))
     by (Some i) is h = on i (has_interface now i) refl is h
 
-is_entered : (new : TreeValue) → IsChecked new → (now : CoclassValue) (guid : List ℕ) → HasGuid (IsOf new.items now) guid → is_some (interface_in new now guid) ≡ true
+is_entered : (new : TreeValue) → IsChecked new → (now : CoclassValue) (guid : List ℕ) → HasGuid (IsOf new.items now) guid
+    → is_some (interface_in new now guid) ≡ true
 is_entered new is now guid h =
     let found : interface_of new guid ≡ Some h.interface = ap (interface_of new) (sym h.has) ∙ interface_found new is h.interface h.is.there in
     ap (λ o. is_some (option_and_then (if_entered now) o)) found ∙ ap (λ b. is_some (if b then Some h.interface else None)) h.is.entered
@@ -318,7 +345,8 @@ is_entered new is now guid h =
 keeps_one : (new old : TreeValue) (was : CoclassValue) → lost_class new old was ≡ None → KeepsClass new.items old.items was
 keeps_one new old was none = by (class_of new was.guid) refl (if_none (keeps_class new old was) (losses.Coclass was.guid) none)
   where
-    by : (o : Option CoclassValue) → class_of new was.guid ≡ o → option_map_or (λ now. keeps_entries new old now was && keeps_default new old now was) o false ≡ true → KeepsClass new.items old.items was
+    by : (o : Option CoclassValue) → class_of new was.guid ≡ o → option_map_or (λ now. keeps_entries new old now was && keeps_default new old now was) o false
+        ≡ true → KeepsClass new.items old.items was
     by None is h = absurd (true≢false (sym h))
     by (Some now) is h =
         let there = class_there new was.guid now is in
@@ -327,17 +355,21 @@ keeps_one new old was none = by (class_of new was.guid) refl (if_none (keeps_cla
           now = now;
           there = there.0;
           guid = sym there.1;
-          interfaces = λ i k. entered_is new now i.guid (has_unless (has_interface was i) _ (all_at (keeps_entry new now was) (interfaces_of old.items) parts.0 k.there.0 i k.there.1) k.entered);
+          interfaces =
+              λ i k. entered_is new now i.guid (has_unless (has_interface was i) _
+              (all_at (keeps_entry new now was) (interfaces_of old.items) parts.0 k.there.0 i k.there.1) k.entered);
           default = same_guids (default_guid old.items was) (default_guid new.items now) parts.1;
         }
 
 one_kept : (new old : TreeValue) → IsChecked new → (was : CoclassValue) → KeepsClass new.items old.items was → lost_class new old was ≡ None
 one_kept new old is was h =
     let found : class_of new was.guid ≡ Some h.now = ap (class_of new) (sym h.guid) ∙ class_found new is h.now h.there in
-    let entries = all_from (keeps_entry new h.now was) (interfaces_of old.items) (λ n i k. unless_has (has_interface was i) _ (λ has. is_entered new is h.now i.guid (h.interfaces i (record { there = (n, k); entered = has })))) in
+    let entries = all_from (keeps_entry new h.now was) (interfaces_of old.items)
+    (λ n i k. unless_has (has_interface was i) _ (λ has. is_entered new is h.now i.guid (h.interfaces i (record { there = (n, k); entered = has })))) in
     let default = ap (option_eq same (default_guid old.items was)) h.default ∙ guids_same (default_guid old.items was) in
     ap (λ b. if b then None else Some (losses.Coclass was.guid))
-    (ap (λ o. option_map_or (λ now. keeps_entries new old now was && keeps_default new old now was) o false) found ∙ and_from (keeps_entries new old h.now was) (keeps_default new old h.now was) entries default)
+    (ap (λ o. option_map_or (λ now. keeps_entries new old now was && keeps_default new old now was) o false) found
+    ∙ and_from (keeps_entries new old h.now was) (keeps_default new old h.now was) entries default)
 
 -- ---- the library
 

@@ -1,5 +1,6 @@
 -- The turns of the search for what is lost.
-use Rattle.std.proofs.Common.{◌≡◌, ℕ, ℤ, suc, Bool, true, false, cond, ◌&&◌, ◌||◌, List, [], ◌∷◌, map, slice_get, drop, length, get_or, ◌<◌, ◌≤◌, ◌+◌, add-one, Vec, Global}
+use Rattle.std.proofs.Common.{◌≡◌, ℕ, ℤ, suc, Bool, true, false, cond, ◌&&◌, ◌||◌, List, [], ◌∷◌, map, slice_get, drop, length, get_or, ◌<◌, ◌≤◌, ◌+◌}
+use Rattle.std.proofs.Common.{add-one, Vec, Global}
 use Rattle.std.proofs.Common.{Option, None, Some, is_some, refl, sym, ap, ◌∙◌, true≢false, if◌then◌else◌}
 use Rattle.std.proofs.Math.Seq.{drop-cons}
 use Rattle.std.proofs.Math.ListN.{drop_of_length-le}
@@ -32,14 +33,19 @@ among_forms i was = by (declarations i)
     by [] = refl
     by (d ∷ ds) = step d (int_eq was.id d.id) refl (by ds)
       where
-        step : (d : DeclarationValue) (b : Bool) → int_eq was.id d.id ≡ b → list_any (is_kept_by was) (filter (λ (d : DeclarationValue). int_eq was.id d.id) ds) ≡ list_any (is_kept_by was) ds → list_any (is_kept_by was) (cond b (d ∷ filter (λ (d : DeclarationValue). int_eq was.id d.id) ds) (filter (λ (d : DeclarationValue). int_eq was.id d.id) ds)) ≡ (is_kept_by was d || list_any (is_kept_by was) ds)
+        step : (d : DeclarationValue) (b : Bool) → int_eq was.id d.id ≡ b → list_any (is_kept_by was) (filter (λ (d : DeclarationValue). int_eq was.id d.id) ds)
+            ≡ list_any (is_kept_by was) ds
+            → list_any (is_kept_by was) (cond b (d ∷ filter (λ (d : DeclarationValue). int_eq was.id d.id) ds)
+            (filter (λ (d : DeclarationValue). int_eq was.id d.id) ds)) ≡ (is_kept_by was d || list_any (is_kept_by was) ds)
         step d true is e = ap (λ b. is_kept_by was d || b) e
         step d false is e = rw is e
 
-pub kept_none : (now : InterfaceValue) (was : DeclarationValue) (b : Bool) → b ≡ list_any (is_kept_by was) (declarations now) → b ≡ true → None ≡ lost_declaration now was
+pub kept_none : (now : InterfaceValue) (was : DeclarationValue) (b : Bool) → b ≡ list_any (is_kept_by was) (declarations now) → b ≡ true
+    → None ≡ lost_declaration now was
 kept_none now was b is e = sym (ap (λ b. if b then None else Some was.id) (sym is ∙ e))
 
-pub lost_some : (now : InterfaceValue) (was : DeclarationValue) (b : Bool) → b ≡ list_any (is_kept_by was) (declarations now) → b ≡ false → Some was.id ≡ lost_declaration now was
+pub lost_some : (now : InterfaceValue) (was : DeclarationValue) (b : Bool) → b ≡ list_any (is_kept_by was) (declarations now) → b ≡ false
+    → Some was.id ≡ lost_declaration now was
 lost_some now was b is e = sym (ap (λ b. if b then None else Some was.id) (sym is ∙ e))
 
 or_here : {Y : Type 0} (o p : Option Y) → is_some o ≡ true → option_or o p ≡ o
@@ -66,28 +72,37 @@ of_member now was places =
     ∙ ap (λ o. option_or o (first_answer (lost_declaration now) (filter (half true) (filter_map g places)))) (part false)
     ∙ ap (option_or (first_answer (lost_form now was false) places)) (part true)
   where
-    part : (puts : Bool) → first_answer (lost_declaration now) (filter (λ (d : DeclarationValue). is_put_or_not puts d.kind) (filter_map (slice_get (declarations was)) places)) ≡ first_answer (lost_form now was puts) places
+    part : (puts : Bool)
+        → first_answer (lost_declaration now) (filter (λ (d : DeclarationValue). is_put_or_not puts d.kind) (filter_map (slice_get (declarations was)) places))
+        ≡ first_answer (lost_form now was puts) places
     part puts =
         ap (first_answer (lost_declaration now)) (filter_of_map (λ (d : DeclarationValue). is_put_or_not puts d.kind) (slice_get (declarations was)) places)
-        ∙ answer_mapped (lost_declaration now) (λ n. option_and_then (λ (d : DeclarationValue). if is_put_or_not puts d.kind then Some d else None) (slice_get (declarations was) n)) places
+        ∙ answer_mapped (lost_declaration now) (λ n. option_and_then (λ (d : DeclarationValue). if is_put_or_not puts d.kind then Some d else None)
+        (slice_get (declarations was) n)) places
 
 -- of the members in their order
 abbrev pub of_places : InterfaceValue → InterfaceValue → Vec ℕ Global → Option ℤ
 of_places now was ps = first_answer (lost_declaration now) (put_last (filter_map (slice_get (declarations was)) ps.items))
 
-pub of_groups : (now was : InterfaceValue) (groups : List (Vec ℕ Global)) → map (λ (ps : Vec ℕ Global). ps.items) groups ≡ (grouped (declarations was)).by_name.places → first_answer (of_places now was) groups ≡ lost_member now was
+pub of_groups : (now was : InterfaceValue) (groups : List (Vec ℕ Global))
+    → map (λ (ps : Vec ℕ Global). ps.items) groups ≡ (grouped (declarations was)).by_name.places → first_answer (of_places now was) groups ≡ lost_member now was
 of_groups now was groups is =
-    sym (answer_flat (lost_declaration now) (λ (ps : Vec ℕ Global). put_last (filter_map (slice_get (declarations was)) ps.items)) groups) ∙ ap (first_answer (lost_declaration now)) (in_order was groups is)
+    sym (answer_flat (lost_declaration now) (λ (ps : Vec ℕ Global). put_last (filter_map (slice_get (declarations was)) ps.items)) groups)
+    ∙ ap (first_answer (lost_declaration now)) (in_order was groups is)
 
 -- a loop over places, from one place on
 module _ {X Y Z : Type 0} (f : Y → Option Z) (g : X → Option Y) (xs : List X) (n : ℕ) (all : Option Z) where
-  pub here_found : (r : Option Z) → n < length xs → first_answer f (filter_map g (drop n xs)) ≡ all → r ≡ option_and_then f (option_and_then g (slice_get xs n)) → is_some r ≡ true → r ≡ all
-  here_found r h left is e = answered_here all (option_and_then f (option_and_then g (slice_get xs n))) (first_answer f (filter_map g (drop (suc n) xs))) r (sym left ∙ answer_here f g xs n h) is e
+  pub here_found : (r : Option Z) → n < length xs → first_answer f (filter_map g (drop n xs)) ≡ all → r ≡ option_and_then f (option_and_then g (slice_get xs n))
+      → is_some r ≡ true → r ≡ all
+  here_found r h left is e = answered_here all (option_and_then f (option_and_then g (slice_get xs n))) (first_answer f (filter_map g (drop (suc n) xs))) r
+      (sym left ∙ answer_here f g xs n h) is e
 
-  pub here_on : (r : Option Z) → n < length xs → first_answer f (filter_map g (drop n xs)) ≡ all → r ≡ option_and_then f (option_and_then g (slice_get xs n)) → is_some r ≡ false → first_answer f (filter_map g (drop (n + 1) xs)) ≡ all
+  pub here_on : (r : Option Z) → n < length xs → first_answer f (filter_map g (drop n xs)) ≡ all → r ≡ option_and_then f (option_and_then g (slice_get xs n))
+      → is_some r ≡ false → first_answer f (filter_map g (drop (n + 1) xs)) ≡ all
   here_on r h left is e =
       ap (λ k. first_answer f (filter_map g (drop k xs))) (add-one n)
-      ∙ sym (or_later (option_and_then f (option_and_then g (slice_get xs n))) (first_answer f (filter_map g (drop (suc n) xs))) (ap is_some (sym is) ∙ e)) ∙ sym (answer_here f g xs n h) ∙ left
+      ∙ sym (or_later (option_and_then f (option_and_then g (slice_get xs n))) (first_answer f (filter_map g (drop (suc n) xs))) (ap is_some (sym is) ∙ e))
+      ∙ sym (answer_here f g xs n h) ∙ left
 
   pub here_done : length xs ≤ n → first_answer f (filter_map g (drop n xs)) ≡ all → None ≡ all
   unfolding first_answer
@@ -102,8 +117,10 @@ module _ {X Y : Type 0} (f : X → Option Y) (xs : List X) (n : ℕ) (all : Opti
   pub each_found : (x : X) (r : Option Y) → n < length xs → x ≡ get_or xs n x → first_answer f (drop n xs) ≡ all → r ≡ f x → is_some r ≡ true → r ≡ all
   each_found x r h at left is e = answered_here all (f x) (first_answer f (drop (suc n) xs)) r (sym left ∙ turn x h at) is e
 
-  pub each_on : (x : X) (r : Option Y) → n < length xs → x ≡ get_or xs n x → first_answer f (drop n xs) ≡ all → r ≡ f x → is_some r ≡ false → first_answer f (drop (n + 1) xs) ≡ all
-  each_on x r h at left is e = ap (λ k. first_answer f (drop k xs)) (add-one n) ∙ sym (or_later (f x) (first_answer f (drop (suc n) xs)) (ap is_some (sym is) ∙ e)) ∙ sym (turn x h at) ∙ left
+  pub each_on : (x : X) (r : Option Y) → n < length xs → x ≡ get_or xs n x → first_answer f (drop n xs) ≡ all → r ≡ f x → is_some r ≡ false
+      → first_answer f (drop (n + 1) xs) ≡ all
+  each_on x r h at left is e = ap (λ k. first_answer f (drop k xs)) (add-one n)
+      ∙ sym (or_later (f x) (first_answer f (drop (suc n) xs)) (ap is_some (sym is) ∙ e)) ∙ sym (turn x h at) ∙ left
 
   pub each_done : length xs ≤ n → first_answer f (drop n xs) ≡ all → None ≡ all
   unfolding first_answer
@@ -111,20 +128,26 @@ module _ {X Y : Type 0} (f : X → Option Y) (xs : List X) (n : ℕ) (all : Opti
 
 -- all of the interfaces from one place on
 module _ {X Y : Type 0} (p : Y → Bool) (g : X → Option Y) (xs : List X) (n : ℕ) (all : Bool) where
-  pub all_fail : (r : Bool) → n < length xs → list_all p (filter_map g (drop n xs)) ≡ all → r ≡ option_map_or p (option_and_then g (slice_get xs n)) true → r ≡ false → false ≡ all
+  pub all_fail : (r : Bool) → n < length xs → list_all p (filter_map g (drop n xs)) ≡ all → r ≡ option_map_or p (option_and_then g (slice_get xs n)) true
+      → r ≡ false → false ≡ all
   all_fail r h left is e = sym (ap (λ b. b && list_all p (filter_map g (drop (suc n) xs))) (sym is ∙ e)) ∙ sym (all_here p g xs n h) ∙ left
 
-  pub all_on : (r : Bool) → n < length xs → list_all p (filter_map g (drop n xs)) ≡ all → r ≡ option_map_or p (option_and_then g (slice_get xs n)) true → r ≡ true → list_all p (filter_map g (drop (n + 1) xs)) ≡ all
-  all_on r h left is e = ap (λ k. list_all p (filter_map g (drop k xs))) (add-one n) ∙ sym (ap (λ b. b && list_all p (filter_map g (drop (suc n) xs))) (sym is ∙ e)) ∙ sym (all_here p g xs n h) ∙ left
+  pub all_on : (r : Bool) → n < length xs → list_all p (filter_map g (drop n xs)) ≡ all → r ≡ option_map_or p (option_and_then g (slice_get xs n)) true
+      → r ≡ true → list_all p (filter_map g (drop (n + 1) xs)) ≡ all
+  all_on r h left is e = ap (λ k. list_all p (filter_map g (drop k xs))) (add-one n)
+      ∙ sym (ap (λ b. b && list_all p (filter_map g (drop (suc n) xs))) (sym is ∙ e)) ∙ sym (all_here p g xs n h) ∙ left
 
 -- the GUIDs of default interfaces
 pub default_before : (items : List Item) (o : Option Item) → option_and_then (default_guid items) (option_and_then as_class o)
-    ≡ option_map (λ (i : InterfaceValue). i.guid) (option_and_then as_interface (option_and_then (slice_get items) (option_and_then (default_in (folded_names items)) o)))
+    ≡ option_map (λ (i : InterfaceValue). i.guid)
+    (option_and_then as_interface (option_and_then (slice_get items) (option_and_then (default_in (folded_names items)) o)))
 default_before items o = by (option_and_then as_class o) ∙ ap (option_map (λ (i : InterfaceValue). i.guid)) (default_of_item items o)
   where
-    by : (k : Option CoclassValue) → option_and_then (default_guid items) k ≡ option_map (λ (i : InterfaceValue). i.guid) (option_and_then (default_interface items) k)
+    by : (k : Option CoclassValue) → option_and_then (default_guid items) k ≡ option_map (λ (i : InterfaceValue). i.guid)
+        (option_and_then (default_interface items) k)
     by None = refl
     by (Some c) = refl
 
-pub default_now : (items : List Item) (k : Option CoclassValue) (c : CoclassValue) → k ≡ Some c → option_map (λ (i : InterfaceValue). i.guid) (option_and_then (default_interface items) k) ≡ default_guid items c
+pub default_now : (items : List Item) (k : Option CoclassValue) (c : CoclassValue) → k ≡ Some c
+    → option_map (λ (i : InterfaceValue). i.guid) (option_and_then (default_interface items) k) ≡ default_guid items c
 default_now items k c is = rw is refl

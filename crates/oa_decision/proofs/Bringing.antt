@@ -51,13 +51,18 @@ module _ (state : State) (head : CallHead) (interface : InterfaceValue) (declare
       → invocation state (bringing head None) ≡ Ok (cell_decided state (record { name = cell; declared = declared; value = None }))
   decided_get is =
       let at = bound_get is.member.value_type in
-      rw (cell_found state (bringing head None) (Flags head.flags) interface is.member forms.Get (record { key = []; value = None }) found (sym is.found) (rw (is.keyless, at) refl), is.typed) refl
+      rw (
+        cell_found state (bringing head None) (Flags head.flags) interface is.member forms.Get (record { key = []; value = None }) found (sym is.found)
+            (rw (is.keyless, at) refl),
+        is.typed,
+      ) refl
 
   decided_put : (argument value : Variant) → coerced argument declared ≡ Ok value → IsKeyless interface head.dispid (Flags head.flags) declared forms.Put
       → invocation state (bringing head (Some argument)) ≡ Ok (cell_decided state (record { name = cell; declared = declared; value = Some value }))
   decided_put argument value becomes is =
       let at = bound_put is.member.value_type argument value (rw is.typed becomes) in
-      rw (cell_found state (bringing head (Some argument)) (Flags head.flags) interface is.member forms.Put (record { key = []; value = Some value }) found (sym is.found) (rw (is.keyless, at) refl)) refl
+      rw (cell_found state (bringing head (Some argument)) (Flags head.flags) interface is.member forms.Put (record { key = []; value = Some value }) found
+      (sym is.found) (rw (is.keyless, at) refl)) refl
 
   pub plans_get : (tag : ℕ) (plan : ValuePlan) → IsKeyless interface head.dispid (Flags head.flags) declared forms.Get
       → PlansGet state tag cell declared plan → PlansValue state tag (ByCall Invoke (bringing head None)) plan
@@ -66,11 +71,13 @@ module _ (state : State) (head : CallHead) (interface : InterfaceValue) (declare
   plans_get tag (Put put) is none = absurd none
 
   plans_put : (tag : ℕ) (argument : Variant) (plan : ValuePlan) → IsKeyless interface head.dispid (Flags head.flags) declared forms.Put
-      → PlansPut head.object interface.guid head.dispid (coerced argument declared) plan → PlansValue state tag (ByCall Invoke (bringing head (Some argument))) plan
+      → PlansPut head.object interface.guid head.dispid (coerced argument declared) plan
+      → PlansValue state tag (ByCall Invoke (bringing head (Some argument))) plan
   plans_put tag argument (Answered reply) is none = absurd none
   plans_put tag argument (Put put) is puts = (decided_put argument puts.0 puts.1 is ∙ rw puts.2 refl, puts.3)
 
   pub puts : (tag : ℕ) (argument : Variant) (plan : Option ValuePlan) → IsKeyless interface head.dispid (Flags head.flags) declared forms.Put
-      → IfSome plan (PlansPut head.object interface.guid head.dispid (coerced argument declared)) → IfSome plan (PlansValue state tag (ByCall Invoke (bringing head (Some argument))))
+      → IfSome plan (PlansPut head.object interface.guid head.dispid (coerced argument declared))
+      → IfSome plan (PlansValue state tag (ByCall Invoke (bringing head (Some argument))))
   puts tag argument None is none = tt
   puts tag argument (Some plan) is plans = plans_put tag argument plan is plans

@@ -11,7 +11,8 @@ use Rattle.oa_decision.specs.promise.Interfaces.{interface_found}
 use Rattle.oa_decision.specs.promise.Invoke.{invocation}
 use Rattle.oa_decision.specs.promise.States.{State}
 
-module _ (state : State) (call : Call) (refusal : Refusal) (none : object_at call.head.object state.table ≡ None) (is : refusal ≡ record { code = rpc_e_disconnected; index = None }) where
+module _ (state : State) (call : Call) (refusal : Refusal) (none : object_at call.head.object state.table ≡ None)
+    (is : refusal ≡ record { code = rpc_e_disconnected; index = None }) where
   pub no_cell : (access : Access) → cell_called state call access ≡ Err refusal
   unfolding cell_called interface_found
   no_cell access = rw (none, is) refl

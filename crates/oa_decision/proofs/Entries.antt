@@ -34,10 +34,12 @@ classes ws (Coclass c ∷ xs) all = (all.0, classes ws xs all.1)
 
 pub entries_there : (library : TreeValue) (index : ℕ) (class : CoclassValue) → IsChecked library
     → slice_get (classes_of library.items) index ≡ Some class
-    → map Some (filter_map (entry_description (interfaces_of library.items)) class.entries) ≡ map (entry_description (interfaces_of library.items)) class.entries
+    → map Some (filter_map (entry_description (interfaces_of library.items)) class.entries) ≡ map
+    (entry_description (interfaces_of library.items)) class.entries
 entries_there library index class checked at =
     let all = classes library.items library.items (tree_whole library checked).classes in
-    let found = subst (λ (o : Option CoclassValue). IfSome o (IsClass library.items)) at (get_all (IsClass library.items) (classes_of library.items) index all) in
+    let found = subst (λ (o : Option CoclassValue). IfSome o (IsClass library.items)) at
+    (get_all (IsClass library.items) (classes_of library.items) index all) in
     all_there (entry_description (interfaces_of library.items)) class.entries found.entries
 
 -- behind a first list stands the second one

@@ -12,7 +12,8 @@ use Rattle.oa_typelib.specs.promise.MemberValues.{MemberValue}
 use Rattle.oa_typelib.specs.declared.access.Kind.{Kind}
 
 -- what holds of the second answer, whatever the first one is
-pub if_both : {A B : Type 0} (P : B → Type 0) (first : Result A BindFault) (next : A → Result B BindFault) → ((x : A) → first ≡ Ok x → IfOk (next x) P) → IfOk (first >>= next) P
+pub if_both : {A B : Type 0} (P : B → Type 0) (first : Result A BindFault) (next : A → Result B BindFault) → ((x : A) → first ≡ Ok x → IfOk (next x) P)
+    → IfOk (first >>= next) P
 if_both P (Ok x) next h = h x refl
 if_both P (Err fault) next h = tt
 
@@ -21,7 +22,8 @@ one_each : {X Y : Type 0} (answer : ℕ → X → Result Y BindFault) (place : �
 unfolding each_at
 one_each answer place [] = refl
 one_each answer place (x ∷ xs) =
-    if_both _ (answer place x) _ (λ y here. if_both _ (each_at answer (place + 1) xs) _ (λ ys rest. ap (λ n. suc n) (rw rest at (one_each answer (place + 1) xs))))
+    if_both _ (answer place x) _ (λ y here. if_both _ (each_at answer (place + 1) xs) _
+    (λ ys rest. ap (λ n. suc n) (rw rest at (one_each answer (place + 1) xs))))
 
 abbrev HasFew : BoundCallValue → Type 0
 HasFew call = length call.key ≤ max_key_scalars

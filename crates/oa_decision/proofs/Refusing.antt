@@ -1,5 +1,6 @@
 -- A call that binding refuses is refused, or memory was wanted where binding takes some.
-use Rattle.std.proofs.Common.{◌≡◌, ◌⊎◌, inl, inr, ℕ, ◌==◌, ◌&&◌, Bool, true, false, true≢false, if◌then◌else◌, Option, Some, None, is_none, Result, Err, refl, sym, ap, subst, ◌∙◌}
+use Rattle.std.proofs.Common.{◌≡◌, ◌⊎◌, inl, inr, ℕ, ◌==◌, ◌&&◌, Bool, true, false, true≢false, if◌then◌else◌, Option, Some, None, is_none, Result, Err, refl}
+use Rattle.std.proofs.Common.{sym, ap, subst, ◌∙◌}
 use Rattle.std.proofs.lemmas.Bool.{and_parts, eqb-true}
 use Rattle.oa_bind.specs.promise.Calls.{BoundCallValue}
 use Rattle.oa_bind.specs.Refusals.{lacks_memory}
@@ -23,10 +24,12 @@ no_index (Some i) is = absurd (true≢false (sym is))
 is_lack : (fault : BindFault) → lacks fault ≡ true → fault ≡ lacks_memory
 is_lack fault is =
     let both = and_parts (fault.code.0 == e_outofmemory.0) (is_none fault.index) is in
-    let code : made fault.code.0 fault.index ≡ made e_outofmemory.0 fault.index = ap (λ (n : ℕ). made n fault.index) (eqb-true fault.code.0 e_outofmemory.0 both.0) in
+    let code : made fault.code.0 fault.index ≡ made e_outofmemory.0 fault.index =
+    ap (λ (n : ℕ). made n fault.index) (eqb-true fault.code.0 e_outofmemory.0 both.0) in
     code ∙ ap (λ (i : Option ℕ). made e_outofmemory.0 i) (no_index fault.index both.1)
 
-pub finds : (due : Result BoundCallValue BindFault) (takes : Type 0) (fault : BindFault) → (fault ≡ lacks_memory) ⊎ (due ≡ Err fault) → (fault ≡ lacks_memory → takes)
+pub finds : (due : Result BoundCallValue BindFault) (takes : Type 0) (fault : BindFault) → (fault ≡ lacks_memory) ⊎ (due ≡ Err fault)
+    → (fault ≡ lacks_memory → takes)
     → FindsDue {A = BoundCallValue} (call_found due) takes (Err (undecided fault))
 finds due takes fault why may = by (lacks fault) refl
   where

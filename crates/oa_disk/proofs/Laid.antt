@@ -41,7 +41,8 @@ none_whole size = record {
 
 pub zeros_whole : (size : ℕ) (calls : List DeviceCall) (written : List ℕ) → calls ≡ [] → written ≡ [] → IsHistory size (layered size calls written)
 zeros_whole size calls written none_called none_written =
-    subst (λ (c : List DeviceCall). IsHistory size (layered size c written)) (sym none_called) (subst (λ (w : List ℕ). IsHistory size (layered size [] w)) (sym none_written) (none_whole size))
+    subst (λ (c : List DeviceCall). IsHistory size (layered size c written)) (sym none_called)
+    (subst (λ (w : List ℕ). IsHistory size (layered size [] w)) (sym none_written) (none_whole size))
 
 -- zeros are held by zeros
 pub zeros_hold : (size at : ℕ) (window : List ℕ) (n : ℕ) → at + n ≤ size → window ≡ replicate n zero → HasBytesAt (zeros size) at window
@@ -53,7 +54,8 @@ zeros_hold size at window n inside is = record {
 
 module _ (first : SparseImage) (ledger : CallLog) (calls : ledger.calls.items ≡ []) (written : ledger.written.items ≡ []) where
   start_is : history first ledger ≡ record { first = laid first; calls = []; written = [] }
-  start_is = ap (λ (c : List DeviceCall). record { first = laid first; calls = c; written = ledger.written.items }) calls ∙ ap (λ (w : List ℕ). record { first = laid first; calls = []; written = w }) written
+  start_is = ap (λ (c : List DeviceCall). record { first = laid first; calls = c; written = ledger.written.items }) calls
+      ∙ ap (λ (w : List ℕ). record { first = laid first; calls = []; written = w }) written
 
   pub start_whole : IsHistory first.size (history first ledger)
   start_whole = subst (λ (h : DiskHistory). IsHistory first.size h) (sym start_is) (record {
@@ -91,7 +93,9 @@ module _ (disk : List ℕ) (calls : List DeviceCall) (written : List ℕ) (at : 
 
   pub made_end : (window : List ℕ) (behind : List DeviceCall) (rest : List ℕ) → behind ≡ [] → IsMade disk calls written behind rest at window
       → HasBytesAt (contents_after disk calls written) at window
-  made_end window behind rest none made = subst (λ (l : List ℕ). HasBytesAt l at window) (sym (ap (λ (b : List DeviceCall). (last_state (synced made.mid) b rest).contents) none) ∙ made.same) made.holds
+  made_end window behind rest none made =
+      subst (λ (l : List ℕ). HasBytesAt l at window) (sym (ap (λ (b : List DeviceCall). (last_state (synced made.mid) b rest).contents) none) ∙ made.same)
+      made.holds
 
   module _ (i from : ℕ) (lt : i < length calls) where
     pub made_write : (fits : from + count_all (drop i calls) ≤ length written) (to n : ℕ) (window new : List ℕ)
@@ -103,12 +107,14 @@ module _ (disk : List ℕ) (calls : List DeviceCall) (written : List ℕ) (at : 
     made_write fits to n window new is inside shown made =
         let bytes = take (from + n - from) (drop from written) in
         let long : length (take (from + n - from) (drop from written)) ≤ n = omega (arith, length-take (from + n - from) (drop from written)) in
-        let room : to + length (take (from + n - from) (drop from written)) ≤ length made.mid = omega (arith, long, made.size, inside i to n (get_at calls i (Write to n) lt is)) in
+        let room : to + length (take (from + n - from) (drop from written)) ≤ length made.mid =
+        omega (arith, long, made.size, inside i to n (get_at calls i (Write to n) lt is)) in
         record {
           mid = overwritten made.mid to (take (from + n - from) (drop from written));
           size = length-overwritten made.mid (take (from + n - from) (drop from written)) to room ∙ made.size;
           holds = shown made.mid room made.holds;
-          same = replay_write calls written i from lt fits to n made.mid (overwritten made.mid to (take (from + n - from) (drop from written))) is refl ∙ made.same;
+          same = replay_write calls written i from lt fits to n made.mid (overwritten made.mid to (take (from + n - from) (drop from written))) is refl
+              ∙ made.same;
         }
 
     pub made_other : (call : DeviceCall) (window : List ℕ) → get_or calls i Read ≡ call → ((to n : ℕ) → call ≡ Write to n → ⊥)

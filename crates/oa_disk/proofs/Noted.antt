@@ -98,4 +98,5 @@ module _ (held : ℕ → ℕ) (size : ℕ) where
   }
 
   pub beginning_settled : (r : Record) → r ≡ beginning held size → Only (contents_of (recorded_history r)) (image_of (recorded_history r))
-  beginning_settled r is = subst (λ (x : Record). Only (contents_of (recorded_history x)) (image_of (recorded_history x))) (sym is) (first_only (file_bytes held size))
+  beginning_settled r is = subst (λ (x : Record). Only (contents_of (recorded_history x)) (image_of (recorded_history x))) (sym is)
+      (first_only (file_bytes held size))

@@ -30,14 +30,19 @@ last_push (first ∷ calls) state bytes call more all one =
 
 states_push : (calls : List DeviceCall) (state : DiskState) (bytes : List ℕ) (call : DeviceCall) (more : List ℕ) → count_all calls ≡ length bytes
     → count_of call ≡ length more
-    → states state (calls ++ call ∷ []) (bytes ++ more) ≡ states state calls bytes ++ during_call (last_state state calls bytes) call ∷ after_call (last_state state calls bytes) call more ∷ []
-states_push [] state [] call more all one = ap (λ (l : List ℕ). during_call state call ∷ after_call state call l ∷ []) (take_all (count_of call) more (omega (arith, one)))
+    → states state (calls ++ call ∷ []) (bytes ++ more) ≡ states state calls bytes ++ during_call (last_state state calls bytes) call ∷ after_call
+    (last_state state calls bytes) call more ∷ []
+states_push [] state [] call more all one = ap (λ (l : List ℕ). during_call state call ∷ after_call state call l ∷ [])
+    (take_all (count_of call) more (omega (arith, one)))
 states_push [] state (b ∷ bytes) call more all one = absurd (omega (arith, all))
 states_push (first ∷ calls) state bytes call more all one =
     let n = count_of first in
-    ap (λ (l : List ℕ). during_call state first ∷ after_call state first l ∷ states (after_call state first l) (calls ++ call ∷ []) (drop n (bytes ++ more))) (take-append-le n bytes more (omega (arith, all)))
-    ∙ ap (λ (l : List ℕ). during_call state first ∷ after_call state first (take n bytes) ∷ states (after_call state first (take n bytes)) (calls ++ call ∷ []) l) (drop-append-le n bytes more (omega (arith, all)))
-    ∙ ap (λ (l : List DiskState). during_call state first ∷ after_call state first (take n bytes) ∷ l) (states_push calls (after_call state first (take n bytes)) (drop n bytes) call more (omega (arith, all, length-drop n bytes)) one)
+    ap (λ (l : List ℕ). during_call state first ∷ after_call state first l ∷ states (after_call state first l) (calls ++ call ∷ []) (drop n (bytes ++ more)))
+    (take-append-le n bytes more (omega (arith, all)))
+    ∙ ap (λ (l : List ℕ). during_call state first ∷ after_call state first (take n bytes) ∷ states (after_call state first (take n bytes))
+    (calls ++ call ∷ []) l) (drop-append-le n bytes more (omega (arith, all)))
+    ∙ ap (λ (l : List DiskState). during_call state first ∷ after_call state first (take n bytes) ∷ l)
+    (states_push calls (after_call state first (take n bytes)) (drop n bytes) call more (omega (arith, all, length-drop n bytes)) one)
 
 some_split : (xs ys : List DiskState) (c : List ℕ) → IsImageOfSome (xs ++ ys) c → IsImageOfSome xs c ⊎ IsImageOfSome ys c
 some_split [] ys c some = inr some
@@ -73,7 +78,8 @@ written_image : (state : DiskState) (at count : ℕ) (more c : List ℕ) → cou
     → IsImage (during_call state (Write at count)) c → IsImage (after_call state (Write at count) more) c
 written_image state at count more c same inside is = record {
   size = is.size ∙ sym (length-overwritten state.contents more at inside);
-  outside = λ i out. is.outside i out ∙ sym (⊎_elim (overwritten_below state.contents more at inside i) (λ le. overwritten_above state.contents more at inside i (omega arith)) out.0);
+  outside = λ i out. is.outside i out
+      ∙ sym (⊎_elim (overwritten_below state.contents more at inside i) (λ le. overwritten_above state.contents more at inside i (omega arith)) out.0);
   bytes = is.bytes;
 }
 
@@ -99,25 +105,30 @@ module _ (size : ℕ) (h : DiskHistory) (whole : IsHistory size h) (call : Devic
       ≡ drop t (synced h.first ∷ states (synced h.first) h.calls h.written) ++ (during_call (disk_state h) call ∷ after_call (disk_state h) call more ∷ [])
   all_states t le =
       ap (λ (l : List DiskState). drop t (synced h.first ∷ l)) (states_push h.calls (synced h.first) h.written call more whole.count_of_all one)
-      ∙ drop-append-le t (synced h.first ∷ states (synced h.first) h.calls h.written) (during_call (disk_state h) call ∷ after_call (disk_state h) call more ∷ []) (omega (arith, length-states h.calls (synced h.first) h.written))
+      ∙ drop-append-le t (synced h.first ∷ states (synced h.first) h.calls h.written)
+      (during_call (disk_state h) call ∷ after_call (disk_state h) call more ∷ []) (omega (arith, length-states h.calls (synced h.first) h.written))
 
   new_or_past : (t : ℕ) (c : List ℕ) → t ≤ 2 * length h.calls
       → IsImageOfSome (during_call (disk_state h) call ∷ after_call (disk_state h) call more ∷ []) c
       → image_since_of h t c ⊎ IsImage (after_call (disk_state h) call more) c
-  new_or_past t c le (inl is) = ⊎_elim (λ past. inl (counts_last h.calls (synced h.first) h.written c t le past)) (λ now. inr now) (in_call size (disk_state h) call more c (contents_size size h whole) fits is)
+  new_or_past t c le (inl is) = ⊎_elim (λ past. inl (counts_last h.calls (synced h.first) h.written c t le past)) (λ now. inr now)
+      (in_call size (disk_state h) call more c (contents_size size h whole) fits is)
   new_or_past t c le (inr (inl is)) = inr is
   new_or_past t c le (inr (inr none)) = absurd none
 
-  elapses : Elapses (moment_of h) (moment_of (with_call h call more)) (image_since_of h) (image_since_of (with_call h call more)) (image_of (with_call h call more))
+  elapses : Elapses (moment_of h) (moment_of (with_call h call more)) (image_since_of h) (image_since_of (with_call h call more))
+      (image_of (with_call h call more))
   elapses = record {
     later = omega (arith, length-append h.calls (call ∷ []));
     soon = omega (arith, length-append h.calls (call ∷ []));
     nothing_else = λ t c le since. ⊎_elim (λ past. inl past)
         (λ new. ⊎_elim (λ past. inl past) (λ now. inr (subst (λ (s : DiskState). IsImage s c) (sym joined) now)) (new_or_past t c le new))
-        (some_split (drop t (synced h.first ∷ states (synced h.first) h.calls h.written)) (during_call (disk_state h) call ∷ after_call (disk_state h) call more ∷ []) c
+        (some_split (drop t (synced h.first ∷ states (synced h.first) h.calls h.written))
+        (during_call (disk_state h) call ∷ after_call (disk_state h) call more ∷ []) c
         (subst (λ (l : List DiskState). IsImageOfSome l c) (all_states t le) since));
     keeps = λ t c le past. subst (λ (l : List DiskState). IsImageOfSome l c) (sym (all_states t le))
-        (some_left (drop t (synced h.first ∷ states (synced h.first) h.calls h.written)) (during_call (disk_state h) call ∷ after_call (disk_state h) call more ∷ []) c past);
+        (some_left (drop t (synced h.first ∷ states (synced h.first) h.calls h.written))
+        (during_call (disk_state h) call ∷ after_call (disk_state h) call more ∷ []) c past);
   }
 
   still_whole : IsHistory size (with_call h call more)
@@ -171,7 +182,8 @@ module _ (size : ℕ) (h new : DiskHistory) (is : new ≡ h) where
 write_follows : (state : DiskState) (at count : ℕ) (more : List ℕ) → AllBytes state.contents → count ≡ length more
     → at + length more ≤ length state.contents
     → Follows (Torn at (length more)) (IsImage state) (IsImage (after_call state (Write at count) more))
-write_follows state at count more all same inside c is = (older, older_is, subst (λ (n : ℕ). Torn at n older c) length_old (torn_from c old_bytes at fits_c is.bytes))
+write_follows state at count more all same inside c is =
+    (older, older_is, subst (λ (n : ℕ). Torn at n older c) length_old (torn_from c old_bytes at fits_c is.bytes))
   where
     size_is : length c ≡ length state.contents
     size_is = is.size ∙ length-overwritten state.contents more at inside
@@ -191,9 +203,11 @@ write_follows state at count more all same inside c is = (older, older_is, subst
     at_each : (i : ℕ) → IsOutside state.pending i → (i < at) ⊎ (at ≤ i) → (i < at + count) ⊎ (at + count ≤ i)
         → get_or (overwritten c at (take (length more) (drop at state.contents))) i 0 ≡ get_or state.contents i 0
     at_each i out (inl lt) other =
-        overwritten_below c (take (length more) (drop at state.contents)) at fits_c i lt ∙ is.outside i (inl lt, out) ∙ overwritten_below state.contents more at inside i lt
+        overwritten_below c (take (length more) (drop at state.contents)) at fits_c i lt ∙ is.outside i (inl lt, out)
+        ∙ overwritten_below state.contents more at inside i lt
     at_each i out (inr le) (inr past) =
-        overwritten_above c (take (length more) (drop at state.contents)) at fits_c i (omega (arith, length_old)) ∙ is.outside i (inr past, out) ∙ overwritten_above state.contents more at inside i (omega arith)
+        overwritten_above c (take (length more) (drop at state.contents)) at fits_c i (omega (arith, length_old)) ∙ is.outside i (inr past, out)
+        ∙ overwritten_above state.contents more at inside i (omega arith)
     at_each i out (inr le) (inl here) =
         let k = i - at in
         let place : at + (i - at) ≡ i = omega arith in
@@ -208,7 +222,8 @@ write_follows state at count more all same inside c is = (older, older_is, subst
     older_is = record {
       size = length-overwritten c (take (length more) (drop at state.contents)) at fits_c ∙ size_is;
       outside = λ i out. at_each i out (cases_lt i at) (cases_lt i (at + count));
-      bytes = overwritten_bytes c at (take (length more) (drop at state.contents)) is.bytes (take_bytes (length more) (drop at state.contents) (drop_bytes at state.contents all));
+      bytes = overwritten_bytes c at (take (length more) (drop at state.contents)) is.bytes
+          (take_bytes (length more) (drop at state.contents) (drop_bytes at state.contents all));
     }
 
 -- any bytes in the range of a write are left by an image after it
@@ -266,7 +281,8 @@ module _ (size : ℕ) (h : DiskHistory) (whole : IsHistory size h) (new : DiskHi
     pub write_writes : WritesUnsynced at (length bytes) (contents_of h) (contents_of new) (image_of h) (image_of new)
     write_writes = record {
       others = subst (λ (l : List ℕ). Torn at (length bytes) (contents_of h) l) (sym contents_are) (overwritten_torn (contents_of h) bytes at inside all);
-      images = λ c left. write_follows (disk_state h) at (length bytes) bytes (contents_bytes size h whole) refl inside c (subst (λ (s : DiskState). IsImage s c) now left);
+      images = λ c left. write_follows (disk_state h) at (length bytes) bytes (contents_bytes size h whole) refl inside c
+          (subst (λ (s : DiskState). IsImage s c) now left);
       stay = λ c was. subst (λ (s : DiskState). IsImage s c) (sym now) (write_stays (disk_state h) at (length bytes) bytes c refl inside was);
     }
 

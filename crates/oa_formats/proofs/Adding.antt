@@ -52,7 +52,8 @@ filled old new before after bytes adds none long =
     let front : take new.at after ≡ take old.at before ++ take (length (drop old.at before)) (drop old.skip bytes) = ap (λ (s : Showing). s.front) adds in
     let room : drop new.at after ≡ drop (length (drop old.skip bytes)) (drop old.at before) = ap (λ (s : Showing). s.room) adds in
     let given : take (length (drop old.at before)) (drop old.skip bytes) ≡ bytes = rw (none, long) (take-length bytes) in
-    let full : drop (length (drop old.skip bytes)) (drop old.at before) ≡ [] = rw none (drop_of_length-le (drop old.at before) {i = length bytes} (omega (arith, long))) in
+    let full : drop (length (drop old.skip bytes)) (drop old.at before) ≡ [] =
+    rw none (drop_of_length-le (drop old.at before) {i = length bytes} (omega (arith, long))) in
     sym (take-append-drop new.at after) ∙ rw (front, room, given, full) (append-nil (take old.at before ++ bytes))
 
 -- what a slice holds once a value's bytes have come: those that are not left out, as many as there was room for

@@ -54,8 +54,11 @@ cell_is t s fits h = own_content t s (λ e. absurd cc) fits h
 
 each_cell : (t : VarType) (cells : List Scalar) → All (λ s. FitsType s t) cells → All IsScalar cells → AllByRecursion (cell_of t).Is cells
 each_cell t [] fits h = tt
-each_cell t (s ∷ cells) fits h =
-    (cell_is t s (All-head (λ s. FitsType s t) s cells fits) (All-head IsScalar s cells h), each_cell t cells (All-tail (λ s. FitsType s t) s cells fits) (All-tail IsScalar s cells h))
+each_cell t (s ∷ cells) fits h = (
+  cell_is t s (All-head (λ s. FitsType s t) s cells fits) (All-head IsScalar s cells h),
+  each_cell t cells (All-tail (λ s. FitsType s t) s cells fits)
+      (All-tail IsScalar s cells h),
+)
 
 each_bound : (bounds : List Bound) → All IsBound bounds → AllByRecursion bound_format.Is bounds
 each_bound [] h = tt
@@ -64,8 +67,12 @@ each_bound (b ∷ bounds) h = (bound_is b (All-head IsBound b bounds h), each_bo
 array_is : (a : ArrayValue Scalar) → IsArray FitsType a → All IsScalar a.cells → All IsBound a.bounds
     → (array_format a.elem).Is (with_locks a 0)
 unfolding array_format bounds_of only counted times coded made_where u16
-array_is a is cells bounds =
-    (refl, refl, ((omega (arith, is.shape.few), each_bound a.bounds bounds), shape_here a.elem a.bounds is.shape), (is.whole, each_cell a.elem a.cells is.typed cells))
+array_is a is cells bounds = (
+  refl,
+  refl,
+  ((omega (arith, is.shape.few), each_bound a.bounds bounds), shape_here a.elem a.bounds is.shape),
+  (is.whole, each_cell a.elem a.cells is.typed cells),
+)
 
 pub value_is : (v : Variant) → IsVariant v → value.Is (unlocked v)
 unfolding value kind content tagged coded case scalar_format vt

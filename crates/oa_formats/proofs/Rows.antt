@@ -27,7 +27,8 @@ one_more F bytes xs s t x e d =
     let one = F.takes s x t d.ok e in record {
       are = all_and F.Is xs x d.are one.0;
       parts = d.parts ∙ ap (λ (ys : List ℕ). flat_map F.image xs ++ ys) one.1 ∙ sym (append_assoc (flat_map F.image xs) (F.image x) t.rest)
-          ∙ ap (λ (ys : List ℕ). (flat_map F.image xs ++ ys) ++ t.rest) (sym (append-nil (F.image x))) ∙ ap (λ (ys : List ℕ). ys ++ t.rest) (sym (flat_map-append F.image xs (x ∷ [])));
+          ∙ ap (λ (ys : List ℕ). (flat_map F.image xs ++ ys) ++ t.rest) (sym (append-nil (F.image x)))
+          ∙ ap (λ (ys : List ℕ). ys ++ t.rest) (sym (flat_map-append F.image xs (x ∷ [])));
       ok = one.2;
     }
 
@@ -41,7 +42,8 @@ is_shorter F more bytes xs s t x e d =
 row_left : {C : Type 0} (F : Format C) (place : ℕ) (rest : List ℕ) (xs ys : List C) → (rest ≡ [] → ⊥) → F.read (at place rest) ≡ None
     → AllByRecursion F.Is xs → AllByRecursion F.Is ys → flat_map F.image xs ++ rest ≡ flat_map F.image ys → ⊥
 row_left F place rest [] [] more e hx hy same = more same
-row_left F place rest [] (y ∷ ys) more e hx hy same = let one = sym e ∙ ap (λ (zs : List ℕ). F.read (at place zs)) same ∙ (F.again y place (flat_map F.image ys) hy.0).1 in absurd cc
+row_left F place rest [] (y ∷ ys) more e hx hy same = let one = sym e ∙ ap (λ (zs : List ℕ). F.read (at place zs)) same
+    ∙ (F.again y place (flat_map F.image ys) hy.0).1 in absurd cc
 row_left F place [] (x ∷ xs) [] more e hx hy same = more refl
 row_left F place (b ∷ rest) (x ∷ xs) [] more e hx hy same =
     absurd (omega (arith, ap length same, length-append (F.image x ++ flat_map F.image xs) (b ∷ rest)))

@@ -97,5 +97,6 @@ pub lines_decided : IsDecided hex_lines
 lines_decided = record {
   one = one_body;
   apart = apart;
-  end = λ why other number bytes rest rest' s can fair s' can' fair'. one_said why other number bytes (says why number bytes rest s can fair) (says other number bytes rest' s' can' fair');
+  end = λ why other number bytes rest rest' s can fair s' can' fair'. one_said why other number bytes (says why number bytes rest s can fair)
+      (says other number bytes rest' s' can' fair');
 }

@@ -10,7 +10,8 @@ use Rattle.oa_frame.specs.promise.Framings.{Length, NextRecord, RecordStop, Says
 use Rattle.oa_frame.proofs.OneReading.{IsDecided}
 
 -- the number that four bytes say, and what follows them
-one_head : (bytes head head' more more' : List ℕ) (n n' : ℕ) → SaysLength head n → SaysLength head' n' → bytes ≡ head ++ more → bytes ≡ head' ++ more' → (n ≡ n') × (more ≡ more')
+one_head : (bytes head head' more more' : List ℕ) (n n' : ℕ) → SaysLength head n → SaysLength head' n' → bytes ≡ head ++ more → bytes ≡ head' ++ more'
+    → (n ≡ n') × (more ≡ more')
 one_head bytes head head' more more' n n' s s' e e' =
     let both = sym e ∙ e' in
     let same : head ≡ head' = sym (take_at head more 4 s.four) ∙ ap (take 4) both ∙ take_at head' more' 4 s'.four in

@@ -64,7 +64,8 @@ last_part before one two n size =
     let both = length-append one two in
     let front = length-append before one in
     let same : length (before ++ (one ++ two)) - n ≡ length (before ++ one) = omega (arith, all, both, front, size) in
-    ap (λ l. drop (length (before ++ (one ++ two)) - n) l) (sym (append_assoc before one two)) ∙ drop_at (before ++ one) two (length (before ++ (one ++ two)) - n) (sym same)
+    ap (λ l. drop (length (before ++ (one ++ two)) - n) l) (sym (append_assoc before one two))
+    ∙ drop_at (before ++ one) two (length (before ++ (one ++ two)) - n) (sym same)
 
 -- a record that was read ahead whole
 pub record_ahead : (a c : Option (List ℕ)) (front before passed : List ℕ) (n : ℕ) → SaysLength (take 4 front) n → 0 < n → n ≤ max_request_bytes

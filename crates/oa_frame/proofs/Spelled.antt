@@ -21,7 +21,8 @@ pub puts_none : (s : List ℕ → List ℕ) (o : Output) (replies : List (List �
 unfolding spelled_all
 puts_none s o replies e h = rw e (writes_nothing o h)
 
-pub puts_one : (s : List ℕ → List ℕ) (result : Result (Unit {0}) Unwritten) (o p : Output) (replies : List (List ℕ)) (reply : List ℕ) → replies ≡ reply ∷ [] → Puts result o p (s reply) → Puts result o p (spelled_all s replies)
+pub puts_one : (s : List ℕ → List ℕ) (result : Result (Unit {0}) Unwritten) (o p : Output) (replies : List (List ℕ)) (reply : List ℕ) → replies ≡ reply ∷ []
+    → Puts result o p (s reply) → Puts result o p (spelled_all s replies)
 puts_one s result o p replies reply e h = rw (e, spelled_one s reply) h
 
 pub joined_more : (handed : List (List (List ℕ))) (replies : List (List ℕ)) → concat_replies (handed ++ replies ∷ []) ≡ concat_replies handed ++ replies

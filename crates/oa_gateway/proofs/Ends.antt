@@ -30,7 +30,8 @@ nothing = refl
 abbrev at : Standing → ℕ → Number
 at s owed = record { standing = s; owed = owed }
 
-counted_end : (b : Bool) (owed : ℕ) → (b ≡ true → owed ≡ 0) → (b ≡ false → 0 < owed) → ends_sent [] + (1 + owed) ≡ 1 + (own_end (if b then Over else Ending) + (owed - 1))
+counted_end : (b : Bool) (owed : ℕ) → (b ≡ true → owed ≡ 0) → (b ≡ false → 0 < owed)
+    → ends_sent [] + (1 + owed) ≡ 1 + (own_end (if b then Over else Ending) + (owed - 1))
 counted_end true owed none some = let h = none refl in omega (arith, nothing, h)
 counted_end false owed none some = let h = some refl in omega (arith, nothing, h)
 
@@ -61,7 +62,8 @@ counted Present (suc k) HearsEnd sound = omega (arith, nothing)
 counted Ending (suc k) HearsEnd sound = counted_end (suc k == 0) (suc k) (λ e. eqb-true (suc k) 0 e) (λ e. omega arith)
 counted Over (suc k) HearsEnd sound = omega (arith, nothing)
 
-pub all_counted : (n : Number) (deeds : List Deed) → IsSound n deeds → ends_sent (stream n deeds) + all_owed n ≡ ends_heard deeds + all_owed (after_deeds n deeds)
+pub all_counted : (n : Number) (deeds : List Deed) → IsSound n deeds → ends_sent (stream n deeds) + all_owed n ≡ ends_heard deeds + all_owed
+    (after_deeds n deeds)
 unfolding IsSound stream after_deeds ends_heard
 all_counted n [] sound = omega (arith, nothing)
 all_counted n (deed ∷ deeds) sound =

@@ -35,7 +35,8 @@ given_at Present zero (Hears b ∷ deeds) sound = ap (λ l. b ++ l) (given_at Pr
 given_at Ending zero (Hears b ∷ deeds) sound = ap (λ l. b ++ l) (given_at Ending 0 deeds sound.1)
 given_at Over zero (Hears b ∷ deeds) sound = absurd (sound.0 refl)
 given_at s (suc k) (Hears b ∷ deeds) sound =
-    ap (λ t. given_of t ++ given_bytes (after_deed (at s (suc k)) (Hears b)) deeds) (dropped s k b) ∙ given_at (stands (suc k) s (Hears b)) (suc k) deeds sound.1
+    ap (λ t. given_of t ++ given_bytes (after_deed (at s (suc k)) (Hears b)) deeds) (dropped s k b)
+    ∙ given_at (stands (suc k) s (Hears b)) (suc k) deeds sound.1
 given_at Absent zero (HearsEnd ∷ deeds) sound = absurd (sound.0 refl)
 given_at Present zero (HearsEnd ∷ deeds) sound = absurd (sound.0 refl)
 given_at Ending zero (HearsEnd ∷ deeds) sound = nothing_more deeds sound.1

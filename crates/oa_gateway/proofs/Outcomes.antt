@@ -1,5 +1,6 @@
 -- What becomes of a frame.
-use Rattle.std.proofs.Common.{◌≡◌, ◌⊎◌, inl, inr, ◌<◌, ◌≤◌, ℕ, ◌+◌, ◌*◌, Bool, true, false, if◌then◌else◌, List, [], ◌∷◌, ◌++◌, length, take, drop, get_or, set, refl, sym, ap, ◌∙◌, subst, arith}
+use Rattle.std.proofs.Common.{◌≡◌, ◌⊎◌, inl, inr, ◌<◌, ◌≤◌, ℕ, ◌+◌, ◌*◌, Bool, true, false, if◌then◌else◌, List, [], ◌∷◌, ◌++◌, length, take, drop, get_or}
+use Rattle.std.proofs.Common.{set, refl, sym, ap, ◌∙◌, subst, arith}
 use Rattle.std.specs.Prelude.{slice_range, ◌==◌}
 use Rattle.std.specs.Int.{w32, from_le_bytes, to_le_bytes}
 use Rattle.std.proofs.lemmas.Bool.{cases_lt}
@@ -9,7 +10,8 @@ use Rattle.std.proofs.lemmas.Option.{slice_get-get_or}
 use Rattle.oa_mux.specs.promise.Frames.{frame_of}
 use Rattle.oa_gateway.specs.Frames.{gateway_number}
 use Rattle.oa_gateway.specs.Hearing.{what_of, FirstFrame, HeardEnd, HeardReplies, Hearing, HearsAt, HearsFrame, IsNobodys, deed_of}
-use Rattle.oa_gateway.specs.Places.{Deed, Dropped, Ended, Given, Hears, HearsEnd, Number, Told, Wrong, after_deed, deed_outcome, hears_own, hears_own_end, place_number}
+use Rattle.oa_gateway.specs.Places.{Deed, Dropped, Ended, Given, Hears, HearsEnd, Number, Told, Wrong, after_deed, deed_outcome, hears_own, hears_own_end}
+use Rattle.oa_gateway.specs.Places.{place_number}
 use Rattle.oa_gateway.specs.declared.place.Fate.{Fate}
 use Rattle.oa_gateway.specs.declared.place.Fate.TheVariants as fate
 use Rattle.oa_gateway.specs.declared.place.NumberState.{NumberState}
@@ -76,8 +78,10 @@ says_less : (bytes : List ℕ) (n : ℕ) → ((i : ℕ) → get_or bytes i 0 < 2
 says_less bytes n small is = four_say _ _ _ _ n (small 0) (small 1) (small 2) (small 3) is
 
 -- a frame that has come whole
-pub frame_there : (bytes first rest second inside : List ℕ) (number count : ℕ) → ((i : ℕ) → get_or bytes i 0 < 256) → first ≡ take 4 bytes → rest ≡ drop 4 bytes → length rest + 4 ≡ length bytes
-    → second ≡ take 4 rest → inside ≡ drop 4 rest → length inside + 4 ≡ length rest → number ≡ from_le_bytes w32 first → count ≡ from_le_bytes w32 second → count ≤ length inside
+pub frame_there : (bytes first rest second inside : List ℕ) (number count : ℕ) → ((i : ℕ) → get_or bytes i 0 < 256) → first ≡ take 4 bytes → rest ≡ drop 4 bytes
+    → length rest + 4 ≡ length bytes
+    → second ≡ take 4 rest → inside ≡ drop 4 rest → length inside + 4 ≡ length rest → number ≡ from_le_bytes w32 first → count ≡ from_le_bytes w32 second
+    → count ≤ length inside
     → (8 + count ≤ length bytes) × FirstFrame bytes number (slice_range bytes 8 (8 + count))
 frame_there bytes first rest second inside number count small a b c d e f g h room =
     let none = length-drop 0 bytes in
@@ -87,13 +91,17 @@ frame_there bytes first rest second inside number count small a b c d e f g h ro
     let part : slice_range bytes 8 (8 + count) ≡ take count inside = ap (λ k. take k (drop 8 bytes)) (omega arith) ∙ ap (take count) body in
     let long : length (take count inside) ≡ count = length-take-le count inside room in
     let client : number < 4294967296 = says_less (take 4 bytes) number (small_part bytes 0 small (omega (arith, none, c))) (g ∙ ap (from_le_bytes w32) a) in
-    let said : count < 4294967296 = says_less (take 4 (drop 4 bytes)) count (small_part bytes 4 small (omega (arith, ap length b, c, f))) (h ∙ ap (from_le_bytes w32) (d ∙ ap (take 4) b)) in
-    let one : to_le_bytes w32 number ≡ take 4 bytes = le_bytes_4 (take 4 bytes) number four (small_part bytes 0 small (omega (arith, none, c))) (g ∙ ap (from_le_bytes w32) a) in
+    let said : count < 4294967296 = says_less (take 4 (drop 4 bytes)) count (small_part bytes 4 small (omega (arith, ap length b, c, f)))
+    (h ∙ ap (from_le_bytes w32) (d ∙ ap (take 4) b)) in
+    let one : to_le_bytes w32 number ≡ take 4 bytes = le_bytes_4 (take 4 bytes) number four (small_part bytes 0 small (omega (arith, none, c)))
+    (g ∙ ap (from_le_bytes w32) a) in
     let two : to_le_bytes w32 (length (take count inside)) ≡ take 4 (drop 4 bytes) =
-    le_bytes_4 (take 4 (drop 4 bytes)) (length (take count inside)) four' (small_part bytes 4 small (omega (arith, ap length b, c, f))) (long ∙ h ∙ ap (from_le_bytes w32) (d ∙ ap (take 4) b)) in
+    le_bytes_4 (take 4 (drop 4 bytes)) (length (take count inside)) four' (small_part bytes 4 small (omega (arith, ap length b, c, f)))
+    (long ∙ h ∙ ap (from_le_bytes w32) (d ∙ ap (take 4) b)) in
     let all : bytes ≡ frame_of number (take count inside) ++ drop count inside =
     sym (take-append-drop 4 bytes)
-    ∙ ap (λ l. take 4 bytes ++ l) (sym (take-append-drop 4 (drop 4 bytes)) ∙ ap (λ l. take 4 (drop 4 bytes) ++ l) (drop-drop 4 4 bytes ∙ body ∙ sym (take-append-drop count inside)))
+    ∙ ap (λ l. take 4 bytes ++ l) (sym (take-append-drop 4 (drop 4 bytes))
+    ∙ ap (λ l. take 4 (drop 4 bytes) ++ l) (drop-drop 4 4 bytes ∙ body ∙ sym (take-append-drop count inside)))
     ∙ sym (append_assoc (take 4 bytes) (take 4 (drop 4 bytes)) (take count inside ++ drop count inside))
     ∙ sym (append_assoc (take 4 bytes ++ take 4 (drop 4 bytes)) (take count inside) (drop count inside))
     ∙ ap (λ l. ((l ++ take 4 (drop 4 bytes)) ++ take count inside) ++ drop count inside) (sym one)
@@ -103,7 +111,8 @@ frame_there bytes first rest second inside number count small a b c d e f g h ro
     )
 
 -- the gateway's own end says these numbers
-pub own_end_says : (bytes first rest second : List ℕ) (number count : ℕ) → first ≡ take 4 bytes → rest ≡ drop 4 bytes → second ≡ take 4 rest → number ≡ from_le_bytes w32 first
+pub own_end_says : (bytes first rest second : List ℕ) (number count : ℕ) → first ≡ take 4 bytes → rest ≡ drop 4 bytes → second ≡ take 4 rest
+    → number ≡ from_le_bytes w32 first
     → count ≡ from_le_bytes w32 second → FirstFrame bytes gateway_number [] → (number ≡ gateway_number) × (count ≡ 0)
 own_end_says bytes first rest second number count a b d g h f = (
   g ∙ ap (from_le_bytes w32) (a ∙ ap (take 4) f.whole),
@@ -150,7 +159,8 @@ end_gives_nothing n inside e = none_given (n.owed == 0) n.standing inside e
 
 -- ---- at a place
 
-pub heard_at : (places : List NumberState) (client : ℕ) (d : NumberState) (inside : List ℕ) (what : Told) → client < length places → deed_outcome (place_number (get_or places client d)) (Hears inside) ≡ what
+pub heard_at : (places : List NumberState) (client : ℕ) (d : NumberState) (inside : List ℕ) (what : Told) → client < length places
+    → deed_outcome (place_number (get_or places client d)) (Hears inside) ≡ what
     → HearsAt client (Hears inside) what places places
 heard_at places client d inside what there says = record {
   place = get_or places client d;
@@ -161,10 +171,12 @@ heard_at places client d inside what there says = record {
   others = sym (set-get_or places client d);
 }
 
-pub nobodys : (places : List NumberState) (client : ℕ) (d : NumberState) (deed : Deed) → client < length places → deed_outcome (place_number (get_or places client d)) deed ≡ Wrong → IsNobodys client deed places
+pub nobodys : (places : List NumberState) (client : ℕ) (d : NumberState) (deed : Deed) → client < length places
+    → deed_outcome (place_number (get_or places client d)) deed ≡ Wrong → IsNobodys client deed places
 nobodys places client d deed there says = record { place = get_or places client d; is = slice_get-get_or places client d there; says = says }
 
-pub replies_wrong : (f : Fate) (n : Number) (inside : List ℕ) → (f ≡ fate.Ended) ⊎ (f ≡ fate.Wrong) → deed_outcome n (Hears inside) ≡ what_of f inside → deed_outcome n (Hears inside) ≡ Wrong
+pub replies_wrong : (f : Fate) (n : Number) (inside : List ℕ) → (f ≡ fate.Ended) ⊎ (f ≡ fate.Wrong) → deed_outcome n (Hears inside) ≡ what_of f inside
+    → deed_outcome n (Hears inside) ≡ Wrong
 replies_wrong f n inside (inl e) h = absurd (replies_end_nothing n inside (h ∙ ap (λ (g : Fate). what_of g inside) e))
 replies_wrong f n inside (inr e) h = h ∙ ap (λ (g : Fate). what_of g inside) e
 
@@ -173,7 +185,8 @@ end_wrong f n (inl e) h = absurd (end_gives_nothing n [] (h ∙ ap (λ (g : Fate
 end_wrong f n (inr e) h = e
 
 pub end_nobodys : (f : Fate) (places : List NumberState) (client : ℕ) (d new : NumberState) → client < length places → (f ≡ fate.Given) ⊎ (f ≡ fate.Wrong)
-    → deed_outcome (place_number (get_or places client d)) HearsEnd ≡ what_of f [] → (f ≡ fate.Wrong → new ≡ get_or places client d) → IsNobodys client HearsEnd places × (set places client new ≡ places)
+    → deed_outcome (place_number (get_or places client d)) HearsEnd ≡ what_of f [] → (f ≡ fate.Wrong → new ≡ get_or places client d)
+    → IsNobodys client HearsEnd places × (set places client new ≡ places)
 end_nobodys f places client d new there either says same =
     let w : f ≡ fate.Wrong = end_wrong f (place_number (get_or places client d)) either says in (
       nobodys places client d HearsEnd there (says ∙ ap (λ (g : Fate). what_of g []) w),

@@ -38,7 +38,8 @@ unfolding stream
 one_step at other deed d c rest true e s = rw (own_named_same c d (puts at.standing deed) e, s refl) refl
 one_step at other deed d c rest false e s = rw (own_named_other c d (puts at.standing deed) e) refl
 
-pub each_number : (numbers : States Number) (deeds : List (Tagged Deed)) (c : ℕ) → c ≢ gateway_number → own c (streams numbers deeds) ≡ stream (numbers c) (own c deeds)
+pub each_number : (numbers : States Number) (deeds : List (Tagged Deed)) (c : ℕ) → c ≢ gateway_number → own c (streams numbers deeds) ≡ stream (numbers c)
+    (own c deeds)
 unfolding streams own stream
 each_number numbers [] c ne = refl
 each_number numbers (Of d deed ∷ rest) c ne =

@@ -1,6 +1,8 @@
 -- In which order clients have their turns.
-use Rattle.std.proofs.Common.{◌≡◌, ◌≢◌, ◌≤◌, ℕ, Bool, true, false, if◌then◌else◌, suc, ◌+◌, List, [], ◌∷◌, ◌++◌, length, refl, sym, ap, ◌∙◌, subst, append_assoc, append-nil, length-append, arith}
-use Rattle.oa_gateway.specs.Queues.{ClientQueue, IsNotOvertaken, IsQueuedBehind, IsWithout, WaitsInQueue, after_turns, begun_queue, count_kept, enqueued, next_batch, next_turn, turn_of}
+use Rattle.std.proofs.Common.{◌≡◌, ◌≢◌, ◌≤◌, ℕ, Bool, true, false, if◌then◌else◌, suc, ◌+◌, List, [], ◌∷◌, ◌++◌, length, refl, sym, ap, ◌∙◌, subst}
+use Rattle.std.proofs.Common.{append_assoc, append-nil, length-append, arith}
+use Rattle.oa_gateway.specs.Queues.{ClientQueue, IsNotOvertaken, IsQueuedBehind, IsWithout, WaitsInQueue, after_turns, begun_queue, count_kept, enqueued}
+use Rattle.oa_gateway.specs.Queues.{next_batch, next_turn, turn_of}
 use Rattle.oa_gateway.specs.declared.queue.NextTurn.{NextTurn}
 use Rattle.oa_gateway.specs.declared.queue.NextTurn.TheVariants.{Never, Last, Kept}
 
@@ -16,7 +18,8 @@ pub record Nearer (client before : ℕ) (turns : List NextTurn) (kept : List ℕ
   ahead : length q.kept ≡ length kept + count_kept turns
 
 one_less : (client before : ℕ) (next : NextTurn) (turns : List NextTurn) (less more : List ℕ) (q : ClientQueue)
-    → length more + count_kept turns ≡ length less + count_kept (next ∷ turns) → Nearer client before turns more q → Nearer client (suc before) (next ∷ turns) less q
+    → length more + count_kept turns ≡ length less + count_kept (next ∷ turns) → Nearer client before turns more q
+    → Nearer client (suc before) (next ∷ turns) less q
 one_less client before next turns less more q few n =
     let count = n.count in
     record { front = n.front; back = n.back; there = n.there; count = omega (arith, count); ahead = n.ahead ∙ few }
@@ -32,7 +35,8 @@ nearer client [] back kept (next ∷ turns) few = absurd (omega (arith, few))
 nearer client (b ∷ before) back kept (Never ∷ turns) few =
     one_less client (length before) Never turns kept kept _ refl (nearer client before back kept turns (omega (arith, few)))
 nearer client (b ∷ before) back kept (Kept ∷ turns) few =
-    one_less client (length before) Kept turns kept (kept ++ b ∷ []) _ (longer kept b (count_kept turns)) (nearer client before back (kept ++ b ∷ []) turns (omega (arith, few)))
+    one_less client (length before) Kept turns kept (kept ++ b ∷ []) _ (longer kept b (count_kept turns))
+    (nearer client before back (kept ++ b ∷ []) turns (omega (arith, few)))
 nearer client (b ∷ before) back kept (Last ∷ turns) few =
     one_less client (length before) Last turns kept kept _ refl
     (subst (λ w. Nearer client (length before) turns kept (after_turns (clients kept w) turns)) (sym (append_assoc before (client ∷ back) (b ∷ [])))
@@ -120,14 +124,16 @@ keeps_its_turn client before all turns more is same =
     let q = after_turns (clients [] all) turns in
     let none : m.front ≡ [] = none_before m.front (length turns) (length is.front) m.count (same ∙ sym total) in
     let own : q.waiting ≡ client ∷ m.back = m.there ∙ ap (λ (l : List ℕ). l ++ client ∷ m.back) none in
-    let on = subst (λ (w : List ℕ). KeptOn (q.kept ++ client ∷ []) (after_turns (clients q.kept w) (Kept ∷ more))) (sym own) (kept_first client m.back q.kept more) in
+    let on = subst (λ (w : List ℕ). KeptOn (q.kept ++ client ∷ []) (after_turns (clients q.kept w) (Kept ∷ more))) (sym own)
+    (kept_first client m.back q.kept more) in
     let last = subst (λ (r : ClientQueue). KeptOn (q.kept ++ client ∷ []) r) (sym (turns_two (clients [] all) turns (Kept ∷ more))) on in
     let end = after_turns (clients [] all) (turns ++ Kept ∷ more) in
     let ahead = m.ahead in
     record {
       front = q.kept;
       back = last.later ++ end.waiting;
-      there = ap (λ (l : List ℕ). l ++ end.waiting) last.are ∙ append_assoc (q.kept ++ client ∷ []) last.later end.waiting ∙ append_assoc q.kept (client ∷ []) (last.later ++ end.waiting);
+      there = ap (λ (l : List ℕ). l ++ end.waiting) last.are ∙ append_assoc (q.kept ++ client ∷ []) last.later end.waiting
+          ∙ append_assoc q.kept (client ∷ []) (last.later ++ end.waiting);
       count = omega (arith, ahead);
     }
 
@@ -137,7 +143,8 @@ still_waits false e = cc
 
 -- ---- others join and leave
 
-pub still_behind : (client other before : ℕ) (q : ClientQueue) → IsQueuedBehind client before q.waiting → IsQueuedBehind client before (enqueued other q).waiting
+pub still_behind : (client other before : ℕ) (q : ClientQueue) → IsQueuedBehind client before q.waiting
+    → IsQueuedBehind client before (enqueued other q).waiting
 still_behind client other before q is = record {
   front = is.front;
   back = is.back ++ other ∷ [];
@@ -152,7 +159,8 @@ record Left (client most : ℕ) (rest : List ℕ) : Type 0 where
   there : rest ≡ front ++ client ∷ back
   few : length front ≤ most
 
-one_gone : (client other : ℕ) (front back before behind : List ℕ) → client ≢ other → front ++ client ∷ back ≡ before ++ other ∷ behind → Left client (length front) (before ++ behind)
+one_gone : (client other : ℕ) (front back before behind : List ℕ) → client ≢ other → front ++ client ∷ back ≡ before ++ other ∷ behind
+    → Left client (length front) (before ++ behind)
 one_gone client other [] back [] behind apart is = absurd (apart cc)
 one_gone client other [] back (y ∷ before) behind apart is =
     let same : client ≡ y = cc in

@@ -1,5 +1,6 @@
 -- What frames spell.
-use Rattle.std.proofs.Common.{◌≡◌, ◌≤◌, ◌<◌, ℕ, ◌+◌, ◌-◌, ◌*◌, ◌/◌, min, List, [], ◌∷◌, ◌++◌, length, take, drop, refl, sym, ap, ◌∙◌, subst, arith, append_assoc}
+use Rattle.std.proofs.Common.{◌≡◌, ◌≤◌, ◌<◌, ℕ, ◌+◌, ◌-◌, ◌*◌, ◌/◌, min, List, [], ◌∷◌, ◌++◌, length, take, drop, refl, sym, ap, ◌∙◌, subst, arith}
+use Rattle.std.proofs.Common.{append_assoc}
 use Rattle.std.proofs.lemmas.List.{take_at, length-append, length-drop, length-take-le}
 use Rattle.std.proofs.lemmas.Slice.{take-put_mid}
 use Rattle.std.proofs.Math.Seq.{take-add}
@@ -19,7 +20,8 @@ abbrev pub NowIsRead : Type 0
 NowIsRead = (rest : List ℕ) → pieces_in (InHead []) (frame_of all_clients [] ++ rest) ≡ Flush ∷ pieces_in (InHead []) rest
 
 abbrev pub LastIsRead : Type 0
-LastIsRead = (client : ℕ) (rest : List ℕ) → client < all_clients → pieces_in (InHead []) (frame_of client [] ++ rest) ≡ Of client Last ∷ pieces_in (InHead []) rest
+LastIsRead = (client : ℕ) (rest : List ℕ) → client < all_clients → pieces_in (InHead []) (frame_of client [] ++ rest) ≡ Of client Last ∷ pieces_in
+    (InHead []) rest
 
 pieces_more : (xs ys : List ℕ) → pieces (xs ++ ys) ≡ pieces xs ++ pieces ys
 unfolding pieces
@@ -41,7 +43,8 @@ unfolding tag_all
 nothing number out = record { read = λ rest. refl }
 
 -- one behind the other
-both : (number : ℕ) (front back : List ℕ) (before behind : List StreamPiece) → SpellsFrames number front before → SpellsFrames number back behind → SpellsFrames number (front ++ back) (before ++ behind)
+both : (number : ℕ) (front back : List ℕ) (before behind : List StreamPiece) → SpellsFrames number front before → SpellsFrames number back behind
+    → SpellsFrames number (front ++ back) (before ++ behind)
 both number front back before behind f b = record {
   read = λ rest. ap (pieces_in (InHead [])) (append_assoc front back rest)
       ∙ f.read (back ++ rest)
@@ -51,7 +54,8 @@ both number front back before behind f b = record {
 }
 
 -- one frame
-one_frame : BytesAreRead → (number : ℕ) (bytes : List ℕ) → number < all_clients → 0 < length bytes → length bytes ≤ max_frame_bytes → SpellsFrames number (frame_of number bytes) (pieces bytes)
+one_frame : BytesAreRead → (number : ℕ) (bytes : List ℕ) → number < all_clients → 0 < length bytes → length bytes ≤ max_frame_bytes
+    → SpellsFrames number (frame_of number bytes) (pieces bytes)
 one_frame law number bytes a b c = record { read = λ rest. law number bytes rest a b c }
 
 pub frame_length : (number : ℕ) (bytes : List ℕ) → length (frame_of number bytes) ≡ 8 + length bytes
@@ -59,7 +63,8 @@ frame_length number bytes =
     length-append (frame_head number (length bytes)) bytes
     ∙ ap (λ n. n + length bytes) (length-append (to_le_bytes w32 number) (to_le_bytes w32 (length bytes)))
 
-pub more_bytes : BytesAreRead → (number at count done k : ℕ) (out bytes frame : List ℕ) → number < all_clients → 0 < count → count ≤ max_frame_bytes → count ≤ length bytes - done
+pub more_bytes : BytesAreRead → (number at count done k : ℕ) (out bytes frame : List ℕ) → number < all_clients → 0 < count → count ≤ max_frame_bytes
+    → count ≤ length bytes - done
     → frame ≡ frame_of number (take count (drop done bytes)) → at ≤ length out → SpellsFrames number (take at out) (pieces (take done bytes))
     → SpellsFrames number (take (at + (8 + count)) (put_mid at k out frame)) (pieces (take (done + count) bytes))
 more_bytes law number at count done k out bytes frame small some short room is within front =
@@ -68,7 +73,8 @@ more_bytes law number at count done k out bytes frame small some short room is w
     let long : length chunk ≡ count = length-take-le count (drop done bytes) (omega (arith, rest, room)) in
     let all : length frame ≡ 8 + count = ap length is ∙ frame_length number chunk ∙ ap (λ n. 8 + n) long in
     let one = one_frame law number chunk small (omega (arith, long, some)) (omega (arith, long, short)) in
-    let said : pieces (take (done + count) bytes) ≡ pieces (take done bytes) ++ pieces chunk = ap pieces (take-add done count bytes) ∙ pieces_more (take done bytes) chunk in
+    let said : pieces (take (done + count) bytes) ≡ pieces (take done bytes) ++ pieces chunk = ap pieces (take-add done count bytes)
+    ∙ pieces_more (take done bytes) chunk in
     let put : take (at + (8 + count)) (put_mid at k out frame) ≡ take at out ++ frame_of number chunk =
     take-put_mid at k out frame (at + (8 + count)) (omega (arith, all)) within ∙ ap (λ l. take at out ++ l) is in
     subst (λ l. SpellsFrames number (take (at + (8 + count)) (put_mid at k out frame)) l) (sym said)
@@ -100,7 +106,8 @@ mid_length a k xs ys room long =
 
 -- ---- an end, and what ends a batch
 
-pub put_last : LastIsRead → (number : ℕ) (frame rest : List ℕ) → number < all_clients → frame ≡ frame_of number [] → (8 ≤ length (frame ++ rest)) × SpellsFrames number (take 8 (frame ++ rest)) (Last ∷ [])
+pub put_last : LastIsRead → (number : ℕ) (frame rest : List ℕ) → number < all_clients → frame ≡ frame_of number [] → (8 ≤ length (frame ++ rest))
+    × SpellsFrames number (take 8 (frame ++ rest)) (Last ∷ [])
 put_last law number frame rest small e =
     let len : length frame ≡ 8 = ap length e ∙ frame_length number [] in
     let all = length-append frame rest in
@@ -108,7 +115,8 @@ put_last law number frame rest small e =
 
 pub put_now : LastIsRead → NowIsRead → (one two out : List ℕ) → one ≡ frame_of gateway_number [] → two ≡ frame_of all_clients [] → 16 ≤ length out
     → (16 ≤ length (put_mid 8 8 (one ++ drop 8 out) two))
-    × ((rest : List ℕ) → pieces_in (InHead []) (take 16 (put_mid 8 8 (one ++ drop 8 out) two) ++ rest) ≡ Of gateway_number Last ∷ Flush ∷ pieces_in (InHead []) rest)
+    × ((rest : List ℕ) → pieces_in (InHead []) (take 16 (put_mid 8 8 (one ++ drop 8 out) two) ++ rest) ≡ Of gateway_number Last ∷ Flush ∷ pieces_in
+    (InHead []) rest)
 put_now last now one two out e f room =
     let len : length one ≡ 8 = ap length e ∙ frame_length gateway_number [] in
     let len' : length two ≡ 8 = ap length f ∙ frame_length all_clients [] in

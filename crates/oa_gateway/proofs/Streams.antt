@@ -30,7 +30,8 @@ answered : (b : Bool) (bytes : List ℕ) (all : List StreamPiece) → all ≡ pi
 answered true bytes all h = inr h
 answered false bytes all h = h
 
-goes : (s : Standing) (owed : ℕ) (deed : Deed) (bytes : List ℕ) (all : List StreamPiece) → StaysPresent deed → MayDo (record { standing = s; owed = owed }) deed → IsItsStream s bytes all
+goes : (s : Standing) (owed : ℕ) (deed : Deed) (bytes : List ℕ) (all : List StreamPiece) → StaysPresent deed → MayDo (record { standing = s; owed = owed }) deed
+    → IsItsStream s bytes all
     → IsItsStream (stands owed s deed) (bytes ++ sent_by deed) (all ++ puts s deed)
 goes Absent owed (Sends b) bytes all there may h = none_all all (pieces b) h.1 ∙ ap pieces (sym (none bytes b h.0))
 goes Absent owed Closes bytes all there may h = inl (still Absent bytes all h)
@@ -62,13 +63,16 @@ all_go n [] bytes all h there may = still n.standing bytes all h
 all_go n (deed ∷ deeds) bytes all h there may =
     let one = goes n.standing n.owed deed bytes all there.0 may.0 h in
     let more = all_go (after_deed n deed) deeds (bytes ++ sent_by deed) (all ++ puts n.standing deed) one there.1 may.1 in
-    subst (λ l. IsItsStream (after_deeds (after_deed n deed) deeds).standing l (all ++ (puts n.standing deed ++ stream (after_deed n deed) deeds))) (append_assoc bytes (sent_by deed) (sent deeds))
-    (subst (λ l. IsItsStream (after_deeds (after_deed n deed) deeds).standing ((bytes ++ sent_by deed) ++ sent deeds) l) (append_assoc all (puts n.standing deed) (stream (after_deed n deed) deeds)) more)
+    subst (λ l. IsItsStream (after_deeds (after_deed n deed) deeds).standing l (all ++ (puts n.standing deed ++ stream (after_deed n deed) deeds)))
+    (append_assoc bytes (sent_by deed) (sent deeds))
+    (subst (λ l. IsItsStream (after_deeds (after_deed n deed) deeds).standing ((bytes ++ sent_by deed) ++ sent deeds) l)
+    (append_assoc all (puts n.standing deed) (stream (after_deed n deed) deeds)) more)
 
 starts : (s : Standing) → s ≡ Absent → IsItsStream s [] []
 starts s e = subst (λ (t : Standing). IsItsStream t [] []) (sym e) (refl, refl)
 
-pub there : (n : Number) (deeds : List Deed) → n.standing ≡ Absent → StaysThere deeds → AllMayBeDone n deeds → IsItsStream (after_deeds n deeds).standing (sent deeds) (stream n deeds)
+pub there : (n : Number) (deeds : List Deed) → n.standing ≡ Absent → StaysThere deeds → AllMayBeDone n deeds
+    → IsItsStream (after_deeds n deeds).standing (sent deeds) (stream n deeds)
 there n deeds e stays may = all_go n deeds [] [] (starts n.standing e) stays may
 
 stream_last : (n : Number) (deeds : List Deed) (deed : Deed) → stream n (deeds ++ deed ∷ []) ≡ stream n deeds ++ puts (after_deeds n deeds).standing deed
@@ -85,6 +89,8 @@ leaves Ending bytes all h = inr (append-nil all ∙ h)
 leaves Over bytes all (inl h) = inl (h.0, append-nil all ∙ h.1)
 leaves Over bytes all (inr h) = inr (append-nil all ∙ h)
 
-pub gone : (n : Number) (deeds : List Deed) → n.standing ≡ Absent → StaysThere deeds → AllMayBeDone n deeds → IsWholeStream (sent deeds) (stream n (deeds ++ Leaves ∷ []))
+pub gone : (n : Number) (deeds : List Deed) → n.standing ≡ Absent → StaysThere deeds → AllMayBeDone n deeds
+    → IsWholeStream (sent deeds) (stream n (deeds ++ Leaves ∷ []))
 gone n deeds e stays may =
-    subst (IsWholeStream (sent deeds)) (sym (stream_last n deeds Leaves)) (leaves (after_deeds n deeds).standing (sent deeds) (stream n deeds) (there n deeds e stays may))
+    subst (IsWholeStream (sent deeds)) (sym (stream_last n deeds Leaves))
+    (leaves (after_deeds n deeds).standing (sent deeds) (stream n deeds) (there n deeds e stays may))

@@ -1,8 +1,11 @@
 -- A client's turn.
-use Rattle.std.proofs.Common.{◌≡◌, ◌⊎◌, inl, inr, ◌<◌, ◌≤◌, ℕ, zero, suc, ◌+◌, ◌-◌, ◌*◌, Bool, true, false, if◌then◌else◌, List, [], ◌∷◌, length, refl, ◌∙◌, arith}
+use Rattle.std.proofs.Common.{◌≡◌, ◌⊎◌, inl, inr, ◌<◌, ◌≤◌, ℕ, zero, suc, ◌+◌, ◌-◌, ◌*◌, Bool, true, false, if◌then◌else◌, List, [], ◌∷◌, length, refl, ◌∙◌}
+use Rattle.std.proofs.Common.{arith}
 use Rattle.std.specs.Prelude.{◌==◌, nat_lt}
 use Rattle.std.proofs.lemmas.Bool.{eqb-true, ltb-false}
-use Rattle.oa_gateway.specs.Turns.{AllTaken, AreShort, AreTurns, AreWithin, Batch, IsBatchBounded, IsBounded, RepliesAreBounded, ReplyRoomIsBounded, OneTurn, asked, asks, after_requests, behind_ask, behind_other, behind_request, behind_turn, behind_turns, batch_bytes, bytes_of_turns, count_asks, taken_if_room, requests_of, taking}
+use Rattle.oa_gateway.specs.Turns.{AllTaken, AreShort, AreTurns, AreWithin, Batch, IsBatchBounded, IsBounded, RepliesAreBounded, ReplyRoomIsBounded, OneTurn}
+use Rattle.oa_gateway.specs.Turns.{asked, asks, after_requests, behind_ask, behind_other, behind_request, behind_turn, behind_turns, batch_bytes}
+use Rattle.oa_gateway.specs.Turns.{bytes_of_turns, count_asks, taken_if_room, requests_of, taking}
 use Rattle.oa_gateway.specs.declared.turns.BatchLimits.{BatchLimits}
 use Rattle.oa_gateway.specs.declared.turns.Taking.{Taking}
 use Rattle.oa_gateway.specs.declared.turns.Taking.TheVariants.{Taken, Full, Often, Much, Lacks}
@@ -48,12 +51,14 @@ fit_much t e =
     let m = much_or (nat_lt t.most (t.expected + t.weight)) (taken_if_room t) e in
     record { replies = inr (inr (ltb-false t.most (t.expected + t.weight) m.0)); room = inr (has_room t m.1) }
 
-fit_first : (t : BatchLimits) (b : Bool) → (b ≡ true → t.expected ≡ 0) → (if b then taken_if_room t else if nat_lt t.most (t.expected + t.weight) then Much else taken_if_room t) ≡ Taken → Fit t
+fit_first : (t : BatchLimits) (b : Bool) → (b ≡ true → t.expected ≡ 0)
+    → (if b then taken_if_room t else if nat_lt t.most (t.expected + t.weight) then Much else taken_if_room t) ≡ Taken → Fit t
 fit_first t true none e = record { replies = inr (inl (none refl)); room = inr (has_room t e) }
 fit_first t false none e = fit_much t e
 
 fit_light : (t : BatchLimits) (b : Bool) → (b ≡ true → t.weight ≡ 0)
-    → (if b then Taken else if t.expected == 0 then taken_if_room t else if nat_lt t.most (t.expected + t.weight) then Much else taken_if_room t) ≡ Taken → Fit t
+    → (if b then Taken else if t.expected == 0 then taken_if_room t else if nat_lt t.most (t.expected + t.weight) then Much else taken_if_room t) ≡ Taken
+    → Fit t
 fit_light t true none e = record { replies = inl (none refl); room = inl (none refl) }
 fit_light t false none e = fit_first t (t.expected == 0) (λ h. eqb-true t.expected 0 h) e
 
@@ -116,7 +121,8 @@ is_bounded t (body ∷ bodies) all =
     let rest = is_bounded (behind_request t body) bodies all.1 in
     let full = full_or (t.requests == 0) (if t.bytes == 0 then Full else if asks body then asked t else Taken) all.0 in
     let short = full_or (t.bytes == 0) (if asks body then asked t else Taken) full.1 in
-    let more = one_more t body (asks body) (length bodies) (count_asks bodies) (after_requests (behind_request t body) bodies).expected (above_none t.requests full.0) short.1
+    let more = one_more t body (asks body) (length bodies) (count_asks bodies) (after_requests (behind_request t body) bodies).expected
+    (above_none t.requests full.0) short.1
     rest.requests rest.asks rest.expected rest.replies rest.room in
     record { requests = more.0; asks = more.1; expected = more.2; replies = more.3; room = more.4 }
 
@@ -135,7 +141,8 @@ at_most_or (suc a) (suc b) = by (at_most_or a b)
     by (inl h) = inl (omega (arith, h))
     by (inr h) = inr (omega (arith, h))
 
-fills : (longest before size total left between : ℕ) → 0 < before → size ≤ longest → between ≡ before - size - 4 → HasFilled longest between total left → HasFilled longest before (size + 4 + total) left
+fills : (longest before size total left between : ℕ) → 0 < before → size ≤ longest → between ≡ before - size - 4 → HasFilled longest between total left
+    → HasFilled longest before (size + 4 + total) left
 fills longest before size total left between some short e (inl h) = by (at_most_or (size + 4) before)
   where
     by : (size + 4 ≤ before) ⊎ (before < size + 4) → HasFilled longest before (size + 4 + total) left
@@ -150,13 +157,15 @@ bytes_after : (t : BatchLimits) (body : List ℕ) (b : Bool) → (if b then behi
 bytes_after t body true = refl
 bytes_after t body false = refl
 
-filled : (longest : ℕ) (t : BatchLimits) (bodies : List (List ℕ)) → AllTaken t bodies → AreShort longest bodies → HasFilled longest t.bytes (batch_bytes bodies) (after_requests t bodies).bytes
+filled : (longest : ℕ) (t : BatchLimits) (bodies : List (List ℕ)) → AllTaken t bodies → AreShort longest bodies
+    → HasFilled longest t.bytes (batch_bytes bodies) (after_requests t bodies).bytes
 unfolding AllTaken AreShort after_requests batch_bytes
 filled longest t [] all are = inl (omega arith)
 filled longest t (body ∷ bodies) all are =
     let full = full_or (t.requests == 0) (if t.bytes == 0 then Full else if asks body then asked t else Taken) all.0 in
     let some = full_or (t.bytes == 0) (if asks body then asked t else Taken) full.1 in
-    fills longest t.bytes (length body) (batch_bytes bodies) (after_requests (behind_request t body) bodies).bytes (behind_request t body).bytes (above_none t.bytes some.0) are.0
+    fills longest t.bytes (length body) (batch_bytes bodies) (after_requests (behind_request t body) bodies).bytes (behind_request t body).bytes
+    (above_none t.bytes some.0) are.0
     (bytes_after t body (asks body)) (filled longest (behind_request t body) bodies all.1 are.1)
 
 more_before : (longest less before total left : ℕ) → less ≤ before → HasFilled longest less total left → HasFilled longest before total left
@@ -167,7 +176,8 @@ more_before longest less before total left few (inr h) =
     inr (h.0, omega (arith, few, a), omega (arith, few, b))
 
 -- one turn, and those after it
-in_turn : (longest before one between others left : ℕ) → HasFilled longest before one between → HasFilled longest between others left → HasFilled longest before (one + others) left
+in_turn : (longest before one between others left : ℕ) → HasFilled longest before one between → HasFilled longest between others left
+    → HasFilled longest before (one + others) left
 in_turn longest before one between others left (inl h) (inl k) = inl (omega (arith, h, k))
 in_turn longest before one between others left (inl h) (inr k) =
     let a = k.1 in
@@ -185,7 +195,8 @@ in_turn longest before one between others left (inr h) (inr k) =
 abbrev AreFew : ℕ → ℕ → ℕ → Type 0
 AreFew most heaviest expected = (expected ≤ most) ⊎ (expected ≤ heaviest)
 
-still_few : (most heaviest before last : ℕ) (t : BatchLimits) → t.expected ≡ before → t.most ≡ most → t.weight ≤ heaviest → AreFew most heaviest before → RepliesAreBounded t last → AreFew most heaviest last
+still_few : (most heaviest before last : ℕ) (t : BatchLimits) → t.expected ≡ before → t.most ≡ most → t.weight ≤ heaviest → AreFew most heaviest before
+    → RepliesAreBounded t last → AreFew most heaviest last
 still_few most heaviest before last t e limit light (inl few) (inl h) = inl (omega (arith, e, few, h))
 still_few most heaviest before last t e limit light (inr few) (inl h) = inr (omega (arith, e, few, h))
 still_few most heaviest before last t e limit light few (inr (inl h)) = inl (omega (arith, h, limit))
@@ -193,26 +204,34 @@ still_few most heaviest before last t e limit light few (inr (inr h)) =
     let a = h.1 in
     inr (omega (arith, a, light))
 
-turns_go : (most heaviest longest : ℕ) (b : Batch) (turns : List OneTurn) → AreFew most heaviest b.expected → AreTurns most b turns → AreWithin heaviest longest turns
-    → (requests_of turns ≤ b.requests) × HasFilled longest b.bytes (bytes_of_turns turns) (behind_turns b turns).bytes × AreFew most heaviest (behind_turns b turns).expected
+turns_go : (most heaviest longest : ℕ) (b : Batch) (turns : List OneTurn) → AreFew most heaviest b.expected → AreTurns most b turns
+    → AreWithin heaviest longest turns
+    → (requests_of turns ≤ b.requests) × HasFilled longest b.bytes (bytes_of_turns turns) (behind_turns b turns).bytes
+    × AreFew most heaviest (behind_turns b turns).expected
 unfolding AreTurns AreWithin behind_turns requests_of bytes_of_turns
 turns_go most heaviest longest b [] few are within = (omega arith, inl (omega arith), few)
 turns_go most heaviest longest b (t ∷ turns) few are within =
     let begins = are.0 in
     let turn = is_bounded t.turn t.bodies begins.taken in
-    let bytes = more_before longest t.turn.bytes b.bytes (batch_bytes t.bodies) (after_requests t.turn t.bodies).bytes begins.bytes (filled longest t.turn t.bodies begins.taken within.1) in
+    let bytes = more_before longest t.turn.bytes b.bytes (batch_bytes t.bodies) (after_requests t.turn t.bodies).bytes begins.bytes
+    (filled longest t.turn t.bodies begins.taken within.1) in
     let few' = still_few most heaviest b.expected (after_requests t.turn t.bodies).expected t.turn begins.expected begins.limit within.0 few turn.replies in
     let rest = turns_go most heaviest longest (behind_turn b t) turns few' are.1 within.2 in
     let m = begins.requests in
     let n = turn.requests in
-    let k = rest.0 in
-    (omega (arith, k, m, n), in_turn longest b.bytes (batch_bytes t.bodies) (after_requests t.turn t.bodies).bytes (bytes_of_turns turns) (behind_turns (behind_turn b t) turns).bytes bytes rest.1, rest.2)
+    let k = rest.0 in (
+      omega (arith, k, m, n),
+      in_turn longest b.bytes (batch_bytes t.bodies) (after_requests t.turn t.bodies).bytes (bytes_of_turns turns)
+          (behind_turns (behind_turn b t) turns).bytes bytes rest.1,
+      rest.2,
+    )
 
 fewer : (longest before total left : ℕ) → HasFilled longest before total left → total < before + 4 + longest
 fewer longest before total left (inl h) = omega (arith, h)
 fewer longest before total left (inr h) = h.2
 
-pub is_batch_bounded : (most heaviest longest : ℕ) (b : Batch) (turns : List OneTurn) → b.expected ≡ 0 → AreTurns most b turns → AreWithin heaviest longest turns → IsBatchBounded most heaviest longest b turns
+pub is_batch_bounded : (most heaviest longest : ℕ) (b : Batch) (turns : List OneTurn) → b.expected ≡ 0 → AreTurns most b turns
+    → AreWithin heaviest longest turns → IsBatchBounded most heaviest longest b turns
 is_batch_bounded most heaviest longest b turns none are within =
     let all = turns_go most heaviest longest b turns (inl (omega (arith, none))) are within in
     record { requests = all.0; bytes = fewer longest b.bytes (bytes_of_turns turns) (behind_turns b turns).bytes all.1; replies = all.2 }
@@ -230,7 +249,8 @@ first_fits t false first = refl
 pub first_is_taken : (t : BatchLimits) (body : List ℕ) → 0 < t.requests → 0 < t.bytes → 0 < t.asks → t.expected ≡ 0 → t.first ≡ true → taking t body ≡ Taken
 first_is_taken t body some bytes_some asks_some none first = rw (not_full t.requests some, not_full t.bytes bytes_some) (by (asks body))
   where
-    light : (b : Bool) → (if b then Taken else if t.expected == 0 then taken_if_room t else if nat_lt t.most (t.expected + t.weight) then Much else taken_if_room t) ≡ Taken
+    light : (b : Bool)
+        → (if b then Taken else if t.expected == 0 then taken_if_room t else if nat_lt t.most (t.expected + t.weight) then Much else taken_if_room t) ≡ Taken
     light true = refl
     light false = rw none (first_fits t (nat_lt t.room (0 + t.weight)) first)
 

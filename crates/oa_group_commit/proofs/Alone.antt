@@ -18,7 +18,8 @@ module _ {S R : Type 0} (t : StateMachine S R) where
   abbrev pub Idle : ℕ → List (List (Exchange R)) → List (Exchange R) → Type 0
   Idle size groups held = IsCutBefore t.barrier size groups held × (held ≡ [])
 
-  module _ {D : Type 0} {g : Ghosts D} (only : (d : D) (c : List ℕ) → IsTrue (g.is_honest d) → g.image_since d (g.moment d) c → g.image d c) (start : GroupState S R D g) where
+  module _ {D : Type 0} {g : Ghosts D} (only : (d : D) (c : List ℕ) → IsTrue (g.is_honest d) → g.image_since d (g.moment d) c → g.image d c)
+      (start : GroupState S R D g) where
     abbrev first : S
     first = start.state
 
@@ -32,11 +33,13 @@ module _ {S R : Type 0} (t : StateMachine S R) where
       -- so many groups were answered, and no group is open
       idle_run : Trace t first (concat_groups was.groups) old.state
       idle_run = let none = was.cuts.1 in
-          subst (λ (s : S). Trace t first (concat_groups was.groups) s) (subst (λ (l : List (Exchange R)). Trace t was.committed l old.state) none was.runs) was.stands
+          subst (λ (s : S). Trace t first (concat_groups was.groups) s) (subst (λ (l : List (Exchange R)). Trace t was.committed l old.state) none was.runs)
+          was.stands
 
       idle_turn : Sequentially t start.store.disk first was.groups old.store.disk old.state
       idle_turn = subst (λ (d : D). Sequentially t start.store.disk first was.groups d old.state) (sym (marked was.calls))
-          (subst (λ (s : S). Sequentially t start.store.disk first was.groups was.mark s) (subst (λ (l : List (Exchange R)). Trace t was.committed l old.state) was.cuts.1 was.runs) was.in_turn)
+          (subst (λ (s : S). Sequentially t start.store.disk first was.groups was.mark s)
+          (subst (λ (l : List (Exchange R)). Trace t was.committed l old.state) was.cuts.1 was.runs) was.in_turn)
         where
           marked : (old.store.disk ≡ was.mark) ⊎ CallsFor t was.committed was.held → old.store.disk ≡ was.mark
           marked (inl same) = same
@@ -47,28 +50,36 @@ module _ {S R : Type 0} (t : StateMachine S R) where
         more = was.groups ++ (asked ∷ []) ∷ []
 
         idle_all : Begins → AllHoldState t old.store old.state
-        idle_all begins = subst (λ (s : S). AllHoldState t old.store s) (subst (λ (l : List (Exchange R)). Trace t was.committed l old.state) was.cuts.1 was.runs) (was.all begins)
+        idle_all begins =
+            subst (λ (s : S). AllHoldState t old.store s) (subst (λ (l : List (Exchange R)). Trace t was.committed l old.state) was.cuts.1 was.runs)
+            (was.all begins)
 
         apart_run : Trace t first (concat_groups more) new.state
         apart_run = subst (λ (l : List (Exchange R)). Trace t first l new.state) (sym (joined_push was.groups (asked ∷ [])))
             (run_append t first (concat_groups was.groups) old.state (asked ∷ []) new.state idle_run (run_one t old.state asked new.state one.turn))
 
         apart_has : (c : List ℕ) → HoldsState t old.state c ⊎ HoldsState t new.state c → HoldsPrefix t (length was.groups) first more c
-        apart_has c (inl without) = after_more t (length was.groups) first was.groups ((asked ∷ []) ∷ []) c (after_all t first was.groups old.state c idle_run without)
-        apart_has c (inr with_it) = after_fewer t (length more) (length was.groups) first more c (omega (arith, length-append was.groups ((asked ∷ []) ∷ []))) (after_all t first more new.state c apart_run with_it)
+        apart_has c (inl without) = after_more t (length was.groups) first was.groups ((asked ∷ []) ∷ []) c
+            (after_all t first was.groups old.state c idle_run without)
+        apart_has c (inr with_it) = after_fewer t (length more) (length was.groups) first more c (omega (arith, length-append was.groups ((asked ∷ []) ∷ [])))
+            (after_all t first more new.state c apart_run with_it)
 
         apart_during : Begins → Moments new more (length was.groups)
         apart_during begins =
             let before = was.moments begins in (
               before.0,
-              run_on t g.moment g.image_since first start.store.disk old.store.disk new.store.disk was.groups ((asked ∷ []) ∷ []) (length was.groups) before.0 (λ c. HoldsState t old.state c ⊎ HoldsState t new.state c) before.1
+              run_on t g.moment g.image_since first start.store.disk old.store.disk new.store.disk was.groups ((asked ∷ []) ∷ []) (length was.groups) before.0
+                  (λ c. HoldsState t old.state c ⊎ HoldsState t new.state c) before.1
                   (one.any_moment (idle_all begins)) apart_has,
             )
 
         apart_bodies : bodies ++ asked.body ∷ [] ≡ map body_of (concat_groups more ++ [])
         apart_bodies =
-            ap (λ (l : List (List ℕ)). l ++ asked.body ∷ []) (was.bodies_are ∙ ap (λ (l : List (Exchange R)). map body_of (concat_groups was.groups ++ l)) was.cuts.1 ∙ ap (λ (l : List (Exchange R)). map body_of l) (append-nil (concat_groups was.groups)))
-            ∙ sym (map-append body_of (concat_groups was.groups) (asked ∷ [])) ∙ ap (λ (l : List (Exchange R)). map body_of l) (sym (joined_push was.groups (asked ∷ [])) ∙ sym (append-nil (concat_groups more)))
+            ap (λ (l : List (List ℕ)). l ++ asked.body ∷ [])
+            (was.bodies_are ∙ ap (λ (l : List (Exchange R)). map body_of (concat_groups was.groups ++ l)) was.cuts.1
+            ∙ ap (λ (l : List (Exchange R)). map body_of l) (append-nil (concat_groups was.groups)))
+            ∙ sym (map-append body_of (concat_groups was.groups) (asked ∷ []))
+            ∙ ap (λ (l : List (Exchange R)). map body_of l) (sym (joined_push was.groups (asked ∷ [])) ∙ sym (append-nil (concat_groups more)))
 
         -- the device is called for a replacement that is done
         apart_done : t.is_done asked.reply ≡ true → CallsFor t old.state (asked ∷ [])
@@ -79,7 +90,8 @@ module _ {S R : Type 0} (t : StateMachine S R) where
         apart_calls (inl refused) = inl (one.quiet refused)
 
         apart_turn : (new.store.disk ≡ old.store.disk) ⊎ CallsFor t old.state (asked ∷ []) → Sequentially t start.store.disk first more new.store.disk new.state
-        apart_turn calls = turn_push t start.store.disk first was.groups old.store.disk old.state (asked ∷ []) new.store.disk new.state idle_turn (run_one t old.state asked new.state one.turn) calls
+        apart_turn calls = turn_push t start.store.disk first was.groups old.store.disk old.state (asked ∷ []) new.store.disk new.state idle_turn
+            (run_one t old.state asked new.state one.turn) calls
 
         -- the library was replaced, or that was refused
         pub going_apart : new.store.stopped ≡ false → HealthyGroups t (IsCut t.barrier size) start new (bodies ++ asked.body ∷ []) (out ++ told)
@@ -87,9 +99,11 @@ module _ {S R : Type 0} (t : StateMachine S R) where
           groups = more;
           held = [];
           committed = new.state;
-          cuts = cut_apart t.barrier size was.groups asked one.barrier (subst (λ (l : List (Exchange R)). IsCutBefore t.barrier size was.groups l) was.cuts.1 was.cuts.0);
+          cuts = cut_apart t.barrier size was.groups asked one.barrier
+              (subst (λ (l : List (Exchange R)). IsCutBefore t.barrier size was.groups l) was.cuts.1 was.cuts.0);
           bodies_are = apart_bodies;
-          out_are = ap (λ (l : List R). l ++ told) was.out_are ∙ ap (λ (l : List R). map reply_of (concat_groups was.groups) ++ l) (one.well going) ∙ sym (map-append reply_of (concat_groups was.groups) (asked ∷ []))
+          out_are = ap (λ (l : List R). l ++ told) was.out_are ∙ ap (λ (l : List R). map reply_of (concat_groups was.groups) ++ l) (one.well going)
+              ∙ sym (map-append reply_of (concat_groups was.groups) (asked ∷ []))
               ∙ ap (λ (l : List (Exchange R)). map reply_of l) (sym (joined_push was.groups (asked ∷ [])));
           pending_are = one.idle_still.0;
           events_are = one.idle_still.1;
@@ -107,8 +121,11 @@ module _ {S R : Type 0} (t : StateMachine S R) where
               let here = one.each going (idle_all begins) in
               let later = run_more t g.moment g.image_since first start.store.disk new.store.disk more (length was.groups) on.0 on.1
               (λ c since. after_fewer t (length more) (length was.groups + 1) first more c (omega (arith, size)) (after_all t first more new.state c apart_run
-              (state_held t new.store new.state here c (only new.store.disk c here.all.0 since)))) in
-              (_, subst (λ (n : ℕ). IsRun t g.moment g.image_since start.store.disk new.store.disk first more n (on.0 ++ g.moment new.store.disk ∷ [])) size later);
+              (state_held t new.store new.state here c (only new.store.disk c here.all.0 since)))) in (
+                _,
+                subst (λ (n : ℕ). IsRun t g.moment g.image_since start.store.disk new.store.disk first more n (on.0 ++ g.moment new.store.disk ∷ [])) size
+                    later,
+              );
         }
 
         -- a call of the device failed in it
@@ -118,9 +135,11 @@ module _ {S R : Type 0} (t : StateMachine S R) where
           group = asked ∷ [];
           others = [];
           committed = old.state;
-          cuts = apart_group t.barrier size was.groups asked one.barrier (subst (λ (l : List (Exchange R)). IsCutBefore t.barrier size was.groups l) was.cuts.1 was.cuts.0);
+          cuts = apart_group t.barrier size was.groups asked one.barrier
+              (subst (λ (l : List (Exchange R)). IsCutBefore t.barrier size was.groups l) was.cuts.1 was.cuts.0);
           whole = inl (inr (inr one.barrier));
-          bodies_are = apart_bodies ∙ ap (λ (l : List (Exchange R)). map body_of l) (append-nil (concat_groups more) ∙ joined_push was.groups (asked ∷ [])) ∙ sym (append-nil (map body_of (concat_groups was.groups ++ asked ∷ [])));
+          bodies_are = apart_bodies ∙ ap (λ (l : List (Exchange R)). map body_of l) (append-nil (concat_groups more) ∙ joined_push was.groups (asked ∷ []))
+              ∙ sym (append-nil (map body_of (concat_groups was.groups ++ asked ∷ [])));
           replies_are = ap (λ (l : List R). l ++ told) was.out_are ∙ ap (λ (l : List R). map reply_of (concat_groups was.groups) ++ l) (one.broken stopped);
           stands = idle_run;
           runs = run_one t old.state asked new.state one.turn;
@@ -130,7 +149,8 @@ module _ {S R : Type 0} (t : StateMachine S R) where
         }
 
     -- no group was open
-    pub going_idle : (size : ℕ) (old mid : GroupState S R D g) (bodies : List (List ℕ)) (out : List R) → old.pending ≡ [] → (mid.pending ≡ []) × (mid.events ≡ []) → mid.store ≡ old.store → mid.state ≡ old.state
+    pub going_idle : (size : ℕ) (old mid : GroupState S R D g) (bodies : List (List ℕ)) (out : List R) → old.pending ≡ [] → (mid.pending ≡ [])
+        × (mid.events ≡ []) → mid.store ≡ old.store → mid.state ≡ old.state
         → HealthyGroups t (IsCut t.barrier size) start old bodies out → HealthyGroups t (Idle size) start mid bodies out
     going_idle size old mid bodies out none idle store state was =
         let empty : was.held ≡ [] = no_entry was.held (sym was.pending_are ∙ none) in

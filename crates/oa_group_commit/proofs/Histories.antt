@@ -15,7 +15,8 @@ module _ {S R : Type 0} (t : StateMachine S R) where
   refused_groups_leave_no_trace old [] new run = run
   refused_groups_leave_no_trace old (asked ∷ entries) new run = by_cases (t.is_done asked.reply) refl (refused_groups_leave_no_trace run.0 entries new run.2)
     where
-      by_cases : (done : Bool) → t.is_done asked.reply ≡ done → Trace t run.0 (accepted t entries) new → Trace t old (if done then asked ∷ accepted t entries else accepted t entries) new
+      by_cases : (done : Bool) → t.is_done asked.reply ≡ done → Trace t run.0 (accepted t entries) new
+          → Trace t old (if done then asked ∷ accepted t entries else accepted t entries) new
       by_cases true is rest = (run.0, run.1, rest)
       by_cases false is rest = subst (λ (s : S). Trace t s (accepted t entries) new) (t.leaves asked old run.0 run.1 is) rest
 
@@ -23,12 +24,14 @@ module _ {S R : Type 0} (t : StateMachine S R) where
   each_no_trace old [] new run = run
   each_no_trace old (kept ∷ others) new run = (run.0, refused_groups_leave_no_trace (t.opened old) kept run.0 run.1, each_no_trace run.0 others new run.2)
 
-  pub keeps : (session : StoppedSession R) (first : S) (image : List ℕ) (is : HoldsPrefix t session.count first session.groups image) → KeepsAcknowledged session (concat_groups is.done)
+  pub keeps : (session : StoppedSession R) (first : S) (image : List ℕ) (is : HoldsPrefix t session.count first session.groups image)
+      → KeepsAcknowledged session (concat_groups is.done)
   keeps session first image is = record { done = is.done; later = is.later; groups_are = is.groups_are; kept_are = refl; enough = is.enough }
 
   module _ {D : Type 0} (g : Ghosts D) where
     -- what a stop leaves has the groups that were answered by then
-    left_by : (first : S) (session : StoppedSession R) (found left : List ℕ) → IsStopped t g first session found left → HoldsPrefix t session.count first session.groups left
+    left_by : (first : S) (session : StoppedSession R) (found left : List ℕ) → IsStopped t g first session found left
+        → HoldsPrefix t session.count first session.groups left
     left_by first session found left is =
         subst (λ (n : ℕ). HoldsPrefix t n first session.groups left) (sym is.count_is)
         (subst (λ (groups : List (List (Exchange R))). HoldsPrefix t (by_then is.stop (drop 1 is.work.moments)) first groups left) (sym is.groups_are)

@@ -29,7 +29,8 @@ rises_push : (from : ℕ) (xs : List ℕ) (y : ℕ) → AscendsFrom from xs → 
 rises_push from [] y rises below le = (le, tt)
 rises_push from (x ∷ xs) y rises below le = (rises.0, rises_push x xs y rises.1 (λ j m is. below (suc j) m is) (below 0 x refl))
 
-get_split : (xs ys : List ℕ) (j m : ℕ) → slice_get (xs ++ ys) j ≡ Some m → (slice_get xs j ≡ Some m) ⊎ ((k : ℕ) × (j ≡ length xs + k) × (slice_get ys k ≡ Some m))
+get_split : (xs ys : List ℕ) (j m : ℕ) → slice_get (xs ++ ys) j ≡ Some m
+    → (slice_get xs j ≡ Some m) ⊎ ((k : ℕ) × (j ≡ length xs + k) × (slice_get ys k ≡ Some m))
 get_split [] ys j m is = inr (j, omega arith, is)
 get_split (x ∷ xs) ys zero m is = inl is
 get_split (x ∷ xs) ys (suc j) m is = ⊎_elim (λ there. inl there) (λ rest. inr (rest.0, omega (arith, rest.1), rest.2)) (get_split xs ys j m is)
@@ -38,7 +39,8 @@ get_front : (xs ys : List ℕ) (m : ℕ) → slice_get xs 0 ≡ Some m → slice
 get_front [] ys m is = absurd (cc)
 get_front (x ∷ xs) ys m is = is
 
-rises_join : (from : ℕ) (xs : List ℕ) (y : ℕ) (ys : List ℕ) → AscendsFrom from xs → ((j m : ℕ) → slice_get xs j ≡ Some m → m ≤ y) → from ≤ y → AscendsFrom y ys → AscendsFrom from (xs ++ ys)
+rises_join : (from : ℕ) (xs : List ℕ) (y : ℕ) (ys : List ℕ) → AscendsFrom from xs → ((j m : ℕ) → slice_get xs j ≡ Some m → m ≤ y) → from ≤ y → AscendsFrom y ys
+    → AscendsFrom from (xs ++ ys)
 rises_join from [] y [] rises below le more = tt
 rises_join from [] y (z ∷ ys) rises below le more = ((omega (arith, le, more.0)), more.1)
 rises_join from (x ∷ xs) y ys rises below le more = (rises.0, rises_join x xs y ys rises.1 (λ j m is. below (suc j) m is) (below 0 x refl) more)
@@ -49,7 +51,8 @@ rises_lower from lower (m ∷ moments) le rises = ((omega (arith, le, rises.0)),
 
 module _ {S R : Type 0} (t : StateMachine S R) where
   -- the same of more groups
-  pub after_more : (count : ℕ) (first : S) (groups : List (List (Exchange R))) (more : List (List (Exchange R))) (c : List ℕ) → HoldsPrefix t count first groups c → HoldsPrefix t count first (groups ++ more) c
+  pub after_more : (count : ℕ) (first : S) (groups : List (List (Exchange R))) (more : List (List (Exchange R))) (c : List ℕ)
+      → HoldsPrefix t count first groups c → HoldsPrefix t count first (groups ++ more) c
   after_more count first groups more c is = record {
     done = is.done;
     later = is.later ++ more;
@@ -61,7 +64,8 @@ module _ {S R : Type 0} (t : StateMachine S R) where
   }
 
   -- fewer are asked for
-  pub after_fewer : (count fewer : ℕ) (first : S) (groups : List (List (Exchange R))) (c : List ℕ) → fewer ≤ count → HoldsPrefix t count first groups c → HoldsPrefix t fewer first groups c
+  pub after_fewer : (count fewer : ℕ) (first : S) (groups : List (List (Exchange R))) (c : List ℕ) → fewer ≤ count → HoldsPrefix t count first groups c
+      → HoldsPrefix t fewer first groups c
   after_fewer count fewer first groups c le is = record {
     done = is.done;
     later = is.later;
@@ -73,7 +77,8 @@ module _ {S R : Type 0} (t : StateMachine S R) where
   }
 
   -- they all stand
-  pub after_all : (first : S) (groups : List (List (Exchange R))) (state : S) (c : List ℕ) → Trace t first (concat_groups groups) state → HoldsState t state c → HoldsPrefix t (length groups) first groups c
+  pub after_all : (first : S) (groups : List (List (Exchange R))) (state : S) (c : List ℕ) → Trace t first (concat_groups groups) state → HoldsState t state c
+      → HoldsPrefix t (length groups) first groups c
   after_all first groups state c run holds = record {
     done = groups;
     later = [];
@@ -86,8 +91,10 @@ module _ {S R : Type 0} (t : StateMachine S R) where
 
   module _ {D : Type 0} (moment : D → ℕ) (image_since : D → ℕ → List ℕ → Type 0) (first : S) where
     -- the first moment alone
-    pub one_moment : (old new : D) (groups : List (List (Exchange R))) → moment old ≤ moment new → ((c : List ℕ) → image_since new (moment old) c → HoldsPrefix t 0 first groups c)
-        → ((m : ℕ) (c : List ℕ) → m ≤ moment old → image_since new m c → image_since old m c ⊎ HoldsPrefix t 0 first groups c) → IsRun t moment image_since old new first groups 0 (moment old ∷ [])
+    pub one_moment : (old new : D) (groups : List (List (Exchange R))) → moment old ≤ moment new
+        → ((c : List ℕ) → image_since new (moment old) c → HoldsPrefix t 0 first groups c)
+        → ((m : ℕ) (c : List ℕ) → m ≤ moment old → image_since new m c → image_since old m c ⊎ HoldsPrefix t 0 first groups c)
+        → IsRun t moment image_since old new first groups 0 (moment old ∷ [])
     one_moment old new groups later here before = record {
       start = refl;
       rises = (omega arith, tt);
@@ -108,7 +115,8 @@ module _ {S R : Type 0} (t : StateMachine S R) where
         images_each zero m is c since = here c (subst (λ (m : ℕ). image_since new m c) (same (moment old) m is) since)
         images_each (suc j) m is c since = absurd cc
 
-    pub run_started : (start : D) → ((c : List ℕ) → image_since start (moment start) c → HoldsState t first c) → IsRun t moment image_since start start first [] 0 (moment start ∷ [])
+    pub run_started : (start : D) → ((c : List ℕ) → image_since start (moment start) c → HoldsState t first c)
+        → IsRun t moment image_since start start first [] 0 (moment start ∷ [])
     run_started start now = one_moment start start [] (omega arith) (λ c since. after_all first [] first c refl (now c since)) (λ m c le since. inl since)
 
     -- calls after which no image has fewer groups than stood for good, and perhaps one more
@@ -130,8 +138,10 @@ module _ {S R : Type 0} (t : StateMachine S R) where
     }
 
     -- and one group more stands for good
-    pub run_more : (old new : D) (groups : List (List (Exchange R))) (count : ℕ) (moments : List ℕ) → IsRun t moment image_since old new first groups count moments
-        → ((c : List ℕ) → image_since new (moment new) c → HoldsPrefix t (count + 1) first groups c) → IsRun t moment image_since old new first groups (count + 1) (moments ++ moment new ∷ [])
+    pub run_more : (old new : D) (groups : List (List (Exchange R))) (count : ℕ) (moments : List ℕ)
+        → IsRun t moment image_since old new first groups count moments
+        → ((c : List ℕ) → image_since new (moment new) c → HoldsPrefix t (count + 1) first groups c)
+        → IsRun t moment image_since old new first groups (count + 1) (moments ++ moment new ∷ [])
     run_more old new groups count moments run now = record {
       start = get_keep moments (moment new) (moment old) run.start;
       rises = rises_push (moment old) moments (moment new) run.rises run.past (run.past 0 _ run.start);
@@ -144,20 +154,23 @@ module _ {S R : Type 0} (t : StateMachine S R) where
     }
 
   -- groups of a later call stand behind all those of the calls before
-  pub after_behind : (count : ℕ) (first : S) (groups : List (List (Exchange R))) (state : S) (more : List (List (Exchange R))) (c : List ℕ) → Trace t first (concat_groups groups) state → HoldsPrefix t count state more c → HoldsPrefix t (length groups + count) first (groups ++ more) c
+  pub after_behind : (count : ℕ) (first : S) (groups : List (List (Exchange R))) (state : S) (more : List (List (Exchange R))) (c : List ℕ)
+      → Trace t first (concat_groups groups) state → HoldsPrefix t count state more c → HoldsPrefix t (length groups + count) first (groups ++ more) c
   after_behind count first groups state more c run is = record {
     done = groups ++ is.done;
     later = is.later;
     groups_are = ap (λ (l : List (List (Exchange R))). groups ++ l) is.groups_are ∙ sym (append_assoc groups is.done is.later);
     enough = omega (arith, is.enough, length-append groups is.done);
     state = is.state;
-    run = subst (λ (l : List (Exchange R)). Trace t first l is.state) (sym (joined_two groups is.done)) (run_append t first (concat_groups groups) state (concat_groups is.done) is.state run is.run);
+    run = subst (λ (l : List (Exchange R)). Trace t first l is.state) (sym (joined_two groups is.done))
+        (run_append t first (concat_groups groups) state (concat_groups is.done) is.state run is.run);
     holds = is.holds;
   }
 
   module _ {D : Type 0} (moment : D → ℕ) (image_since : D → ℕ → List ℕ → Type 0) (first state : S) where
     -- one call of run behind another
-    pub run_joined : (old mid new : D) (groups more : List (List (Exchange R))) (count : ℕ) (moments others : List ℕ) → Trace t first (concat_groups groups) state
+    pub run_joined : (old mid new : D) (groups more : List (List (Exchange R))) (count : ℕ) (moments others : List ℕ)
+        → Trace t first (concat_groups groups) state
         → IsRun t moment image_since old mid first groups (length groups) moments → IsRun t moment image_since mid new state more count others
         → (x : List ℕ) × ((y : List ℕ) × (x ≡ moments ++ y)) × IsRun t moment image_since old new first (groups ++ more) (length groups + count) x
     run_joined old mid new groups more count moments [] stands run next = absurd (none_there next.start)
@@ -169,11 +182,14 @@ module _ {S R : Type 0} (t : StateMachine S R) where
       (others, refl),
       record {
         start = get_front moments others (moment old) run.start;
-        rises = rises_join (moment old) moments (moment mid) others run.rises run.past (run.past 0 _ run.start) (rises_lower m (moment mid) others next.rises.0 next.rises.1);
+        rises = rises_join (moment old) moments (moment mid) others run.rises run.past (run.past 0 _ run.start)
+            (rises_lower m (moment mid) others next.rises.0 next.rises.1);
         one_each = omega (arith, length-append moments others, run.one_each, next.one_each);
-        past = λ j k is. ⊎_elim (λ there. omega (arith, run.past j k there, next.past 0 _ next.start)) (λ rest. next.past (suc rest.0) k rest.2) (get_split moments others j k is);
+        past = λ j k is. ⊎_elim (λ there. omega (arith, run.past j k there, next.past 0 _ next.start)) (λ rest. next.past (suc rest.0) k rest.2)
+            (get_split moments others j k is);
         images = λ j k is c since. ⊎_elim (λ there. early j k there c (next.before k c (run.past j k there) since))
-            (λ rest. after_fewer (length groups + suc rest.0) j first (groups ++ more) c (omega (arith, rest.1, run.one_each)) (after_behind (suc rest.0) first groups state more c stands (next.images (suc rest.0) k rest.2 c since)))
+            (λ rest. after_fewer (length groups + suc rest.0) j first (groups ++ more) c (omega (arith, rest.1, run.one_each))
+            (after_behind (suc rest.0) first groups state more c stands (next.images (suc rest.0) k rest.2 c since)))
             (get_split moments others j k is);
         before = λ m c le since. ⊎_elim (λ past. ⊎_elim (λ older. inl older) (λ now. inr (after_more 0 first groups more c now)) (run.before m c le past))
             (λ now. inr (after_fewer (length groups + 0) 0 first (groups ++ more) c (omega arith) (after_behind 0 first groups state more c stands now)))
@@ -181,6 +197,8 @@ module _ {S R : Type 0} (t : StateMachine S R) where
       },
     )
       where
-        early : (j k : ℕ) → slice_get moments j ≡ Some k → (c : List ℕ) → image_since mid k c ⊎ HoldsPrefix t 0 state more c → HoldsPrefix t j first (groups ++ more) c
+        early : (j k : ℕ) → slice_get moments j ≡ Some k → (c : List ℕ) → image_since mid k c ⊎ HoldsPrefix t 0 state more c
+            → HoldsPrefix t j first (groups ++ more) c
         early j k there c (inl past) = after_more j first groups more c (run.images j k there c past)
-        early j k there c (inr now) = after_fewer (length groups + 0) j first (groups ++ more) c (omega (arith, get_below moments j k there, run.one_each)) (after_behind 0 first groups state more c stands now)
+        early j k there c (inr now) = after_fewer (length groups + 0) j first (groups ++ more) c (omega (arith, get_below moments j k there, run.one_each))
+            (after_behind 0 first groups state more c stands now)

@@ -40,7 +40,8 @@ goes_on {D} {g} old mid new one two = record {
     at_most false at = let same = one.unfailed at in omega (arith, two.once, same)
     at_most true at = subst (λ (d : D). g.failures_of d ≤ g.failures_of old.disk + 1) (sym (two.stays at).1) one.once
 
-    by : (b : Bool) → mid.stopped ≡ b → old.stopped ≡ false → new.stopped ≡ true → g.failures_of new.disk < 2 ^ 64 - 1 → g.failures_of old.disk < g.failures_of new.disk
+    by : (b : Bool) → mid.stopped ≡ b → old.stopped ≡ false → new.stopped ≡ true → g.failures_of new.disk < 2 ^ 64 - 1
+        → g.failures_of old.disk < g.failures_of new.disk
     by false at was is small = let rose = two.stops at is small in omega (arith, one.failures, rose)
     by true at was is small = let rose = one.stops was at (omega (arith, two.failures, small)) in omega (arith, two.failures, rose)
 
@@ -51,7 +52,8 @@ goes_on {D} {g} old mid new one two = record {
 
 module _ {S R : Type 0} (t : StateMachine S R) {D : Type 0} {g : Ghosts D} where
   -- an image with the store's banks and library has those of the state that its disk holds
-  pub held_as : (store : Store D g) (state : S) → AllHoldState t store state → (held : TableValue) (c : List ℕ) → IsStoreIn store.bank.shape c store.library.items held → IsStoreIn (Two (t.bank state)) c (t.text state) held
+  pub held_as : (store : Store D g) (state : S) → AllHoldState t store state → (held : TableValue) (c : List ℕ)
+      → IsStoreIn store.bank.shape c store.library.items held → IsStoreIn (Two (t.bank state)) c (t.text state) held
   held_as store state is held c one =
       subst (λ (l : List ℕ). IsStoreIn (Two (t.bank state)) c l held) is.has (subst (λ (s : BankFormat). IsStoreIn s c store.library.items held) is.shape one)
 

@@ -32,24 +32,29 @@ cons_same : (m n : ℕ) (xs ys : List ℕ) → m ≡ n → xs ≡ ys → m ∷ x
 cons_same m n xs ys here there = ap (λ (k : ℕ). k ∷ xs) here ∙ ap (λ (l : List ℕ). n ∷ l) there
 
 -- of what was answered
-answered : (old new : Shared) (front back : List (Exchange ClientReply)) → Trace shared_machine old (front ++ back) new → map client_of (map reply_of front) ≡ map client_in (map body_of front)
+answered : (old new : Shared) (front back : List (Exchange ClientReply)) → Trace shared_machine old (front ++ back) new
+    → map client_of (map reply_of front) ≡ map client_in (map body_of front)
 answered old new [] back run = refl
 answered old new (asked ∷ front) back run =
-    cons_same (client_of asked.reply) (client_in asked.body) (map client_of (map reply_of front)) (map client_in (map body_of front)) (of_turn asked old run.0 run.1) (answered run.0 new front back run.2)
+    cons_same (client_of asked.reply) (client_in asked.body) (map client_of (map reply_of front)) (map client_in (map body_of front))
+    (of_turn asked old run.0 run.1) (answered run.0 new front back run.2)
 
 -- of the group in which the device failed, and of what came behind it
 aborted : (entries : List (Exchange ClientReply)) → map client_of (map (λ asked. fault_client_reply asked.body) entries) ≡ map client_in (map body_of entries)
 aborted [] = refl
 aborted (asked ∷ entries) =
-    cons_same (client_of (fault_client_reply asked.body)) (client_in asked.body) (map client_of (map (λ asked. fault_client_reply asked.body) entries)) (map client_in (map body_of entries))
+    cons_same (client_of (fault_client_reply asked.body)) (client_in asked.body) (map client_of (map (λ asked. fault_client_reply asked.body) entries))
+    (map client_in (map body_of entries))
     (told_to_it one_client.fault_reply (client_in asked.body) (brought_by asked.body)) (aborted entries)
 
 refused : (bodies : List (List ℕ)) → map client_of (map failed_client_reply bodies) ≡ map client_in bodies
 refused [] = refl
 refused (body ∷ bodies) =
-    cons_same (client_of (failed_client_reply body)) (client_in body) (map client_of (map failed_client_reply bodies)) (map client_in bodies) (told_to_it one_client.failed_reply (client_in body) (brought_by body)) (refused bodies)
+    cons_same (client_of (failed_client_reply body)) (client_in body) (map client_of (map failed_client_reply bodies)) (map client_in bodies)
+    (told_to_it one_client.failed_reply (client_in body) (brought_by body)) (refused bodies)
 
-all_three : (a b c : List ClientReply) (x y z : List (List ℕ)) → map client_of a ≡ map client_in x → map client_of b ≡ map client_in y → map client_of c ≡ map client_in z → map client_of (a ++ (b ++ c)) ≡ map client_in ((x ++ y) ++ z)
+all_three : (a b c : List ClientReply) (x y z : List (List ℕ)) → map client_of a ≡ map client_in x → map client_of b ≡ map client_in y
+    → map client_of c ≡ map client_in z → map client_of (a ++ (b ++ c)) ≡ map client_in ((x ++ y) ++ z)
 all_three a b c x y z one two three =
     map-append client_of a (b ++ c)
     ∙ ap (λ (l : List ℕ). map client_of a ++ l) (map-append client_of b c)
@@ -67,8 +72,10 @@ module _ {D : Type 0} {g : Ghosts D} (size : ℕ) (old new : Store D g) (before 
       let group = concat_groups is.faulted in
       let entries : concat_groups (is.groups ++ is.faulted) ≡ groups ++ group = joined_two is.groups is.faulted in
       ap (map client_of) is.served.replies_are
-      ∙ all_three (map reply_of groups) (map (λ asked. fault_client_reply asked.body) group) (map failed_client_reply is.others) (map body_of groups) (map body_of group) is.others
-      (answered before after groups group (subst (λ (l : List (Exchange ClientReply)). Trace shared_machine before l after) entries is.served.run)) (aborted group) (refused is.others)
+      ∙ all_three (map reply_of groups) (map (λ asked. fault_client_reply asked.body) group) (map failed_client_reply is.others) (map body_of groups)
+      (map body_of group) is.others
+      (answered before after groups group (subst (λ (l : List (Exchange ClientReply)). Trace shared_machine before l after) entries is.served.run))
+      (aborted group) (refused is.others)
       ∙ ap (λ (l : List (List ℕ)). map client_in (l ++ is.others)) (sym (map-append body_of groups group))
       ∙ ap (λ (l : List (Exchange ClientReply)). map client_in (map body_of l ++ is.others)) (sym entries)
       ∙ ap (map client_in) (sym is.served.bodies_are)

@@ -10,13 +10,15 @@ use Rattle.oa_store.specs.declared.store.Store.{Store}
 use Rattle.oa_history.specs.promise.DurablePrefixes.{Serving}
 
 -- the device has failed before
-pub record AnswersLate {S R D : Type 0} {g : Ghosts D} (t : StateMachine S R) (old new : Store D g) (before after : S) (bodies : List (List ℕ)) (replies : List R) : Type 0 where
+pub record AnswersLate {S R D : Type 0} {g : Ghosts D} (t : StateMachine S R) (old new : Store D g) (before after : S) (bodies : List (List ℕ))
+    (replies : List R) : Type 0 where
   pub told : replies ≡ map t.failed bodies
   pub state : after ≡ before
   pub disk : new.disk ≡ old.disk
   pub stopped : new.stopped ≡ true
 
-pub record ServesOver {S R D : Type 0} {g : Ghosts D} (t : StateMachine S R) (size : ℕ) (old new : Store D g) (before : S) (bodies : List (List ℕ)) (replies : List R) (after : S) : Type 0 where
+pub record ServesOver {S R D : Type 0} {g : Ghosts D} (t : StateMachine S R) (size : ℕ) (old new : Store D g) (before : S) (bodies : List (List ℕ))
+    (replies : List R) (after : S) : Type 0 where
   pub served : old.stopped ≡ false → IsServed t size old new before after bodies replies
   pub late : old.stopped ≡ true → AnswersLate t old new before after bodies replies
 

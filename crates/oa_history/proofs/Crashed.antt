@@ -10,17 +10,20 @@ use Rattle.oa_disk.specs.declared.crash.Tear.TheVariants.{Kept}
 use Rattle.oa_disk.specs.declared.memory.MemoryDisk.{MemoryDisk}
 
 -- with all writes kept the calls are made again
-kept_all : (calls : List DeviceCall) (state : DiskState) (written : List ℕ) → torn_all Kept state.contents calls written ≡ (last_state state calls written).contents
+kept_all : (calls : List DeviceCall) (state : DiskState) (written : List ℕ)
+    → torn_all Kept state.contents calls written ≡ (last_state state calls written).contents
 kept_all [] state written = refl
 kept_all (Read ∷ calls) state written = kept_all calls (after_call state Read (take 0 written)) (drop 0 written)
 kept_all (Write at count ∷ calls) state written = kept_all calls (after_call state (Write at count) (take count written)) (drop count written)
 kept_all (Sync ∷ calls) state written = kept_all calls (after_call state Sync (take 0 written)) (drop 0 written)
 
-last_state-append : (xs ys : List DeviceCall) (state : DiskState) (written : List ℕ) → last_state state (xs ++ ys) written ≡ last_state (last_state state xs written) ys (drop (count_all xs) written)
+last_state-append : (xs ys : List DeviceCall) (state : DiskState) (written : List ℕ) → last_state state (xs ++ ys) written ≡ last_state
+    (last_state state xs written) ys (drop (count_all xs) written)
 last_state-append [] ys state written = refl
 last_state-append (x ∷ xs) ys state written =
     last_state-append xs ys (after_call state x (take (count_of x) written)) (drop (count_of x) written)
-    ∙ ap (λ (l : List ℕ). last_state (last_state (after_call state x (take (count_of x) written)) xs (drop (count_of x) written)) ys l) (drop-drop (count_all xs) (count_of x) written)
+    ∙ ap (λ (l : List ℕ). last_state (last_state (after_call state x (take (count_of x) written)) xs (drop (count_of x) written)) ys l)
+    (drop-drop (count_all xs) (count_of x) written)
 
 -- of so many calls so many have begun
 begun_all : (n : ℕ) → (2 * n + 1) / 2 ≡ n

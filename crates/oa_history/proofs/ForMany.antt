@@ -43,15 +43,18 @@ clients_are_served g size old (Disk new) before bodies replies after is = record
 
 -- ---- a session is begun
 
-pub sits_over : {D : Type 0} {g : Ghosts D} (disk : D) (state : State) → NothingPending g.contents g.image disk → ((d : D) → IsTrue (g.is_honest d)) → HoldsState server_machine state (g.contents disk) → (storage : Storage D g)
-    → OverStore storage (λ store. IsOpened g disk state.library store state.table) → OverStore storage (λ store. SessionStart server_machine disk store state) → OverStore storage (λ store. SessionStart shared_machine disk store (shared state []))
+pub sits_over : {D : Type 0} {g : Ghosts D} (disk : D) (state : State) → NothingPending g.contents g.image disk → ((d : D) → IsTrue (g.is_honest d))
+    → HoldsState server_machine state (g.contents disk) → (storage : Storage D g)
+    → OverStore storage (λ store. IsOpened g disk state.library store state.table) → OverStore storage (λ store. SessionStart server_machine disk store state)
+    → OverStore storage (λ store. SessionStart shared_machine disk store (shared state []))
 sits_over disk state barrier honest holds (Memory d) found over = absurd over
 sits_over {D} {g} disk state barrier honest holds (Disk store) found over =
     let all = over.sits.all in
     record {
       goes_on = over.goes_on;
       sits = session_opened shared_machine {g = g} disk store (shared state [])
-          (weakened g.moment g.image_since disk store.disk (g.image disk) (HoldsState shared_machine (shared state [])) (found.found (honest store.disk)).reads.moments
+          (weakened g.moment g.image_since disk store.disk (g.image disk) (HoldsState shared_machine (shared state []))
+          (found.found (honest store.disk)).reads.moments
           (λ c is. subst (λ (l : List ℕ). HoldsState shared_machine (shared state []) l) (sym (barrier c is)) holds))
           (record { shape = all.shape; has = all.has; all = all.all });
     }
@@ -83,7 +86,8 @@ same_begins old new bank same is = record {
     of_image small = subst (λ (l : List ℕ). length l + reserved_bytes ≤ new.bank) image_is small
 
 module _ (turn_begins : (old new : State) (body : List ℕ) (reply : ReplyValue) → CanBegin old → Turn old body reply new → CanBegin new) where
-  pub turn_of : (client : ℕ) (brought : Brought) (told : ClientReply) (old new : Shared) → CanBeginShared old → SharedTurnOf client brought told old new → CanBeginShared new
+  pub turn_of : (client : ℕ) (brought : Brought) (told : ClientReply) (old new : Shared) → CanBeginShared old → SharedTurnOf client brought told old new
+      → CanBeginShared new
   turn_of client (Body body) told old new is one = by one.turn
     where
       by : TurnsFor client body one.reply old new → CanBeginShared new
@@ -92,9 +96,11 @@ module _ (turn_begins : (old new : State) (body : List ℕ) (reply : ReplyValue)
   turn_of client (Ends why) told old new is one =
       let keeps = end_keeps client old in subst CanBeginShared (sym one.behind) (same_begins old.state _ keeps.0 keeps.1 is)
 
-  pub groups_begin_for_many : (old new : Shared) (entries : List (Exchange ClientReply)) → CanBeginShared old → Trace shared_machine old entries new → CanBeginShared new
+  pub groups_begin_for_many : (old new : Shared) (entries : List (Exchange ClientReply)) → CanBeginShared old → Trace shared_machine old entries new
+      → CanBeginShared new
   groups_begin_for_many old new [] is r = subst CanBeginShared r is
-  groups_begin_for_many old new (asked ∷ entries) is r = groups_begin_for_many r.0 new entries (turn_of r.1.client r.1.brought asked.reply old r.0 is r.1.turn) r.2
+  groups_begin_for_many old new (asked ∷ entries) is r = groups_begin_for_many r.0 new entries (turn_of r.1.client r.1.brought asked.reply old r.0 is r.1.turn)
+      r.2
 
 -- what an opening makes has no locks
 pub without_locks : (one : Shared) → opened_shared one ≡ one → one ≡ shared one.state []

@@ -38,28 +38,36 @@ begun_on {g = g} disk library state host storage library_is same is =
     subst (λ (s : State). OverStore storage (λ store. IsOpened g disk s.library store s.table)) same
     (subst (λ (l : TreeValue). OverStore storage (λ store. IsOpened g disk l store host.table)) (sym library_is) is)
 
-module _ {D : Type 0} {g : Ghosts D} (disk : D) (library : TreeValue) (state : State) (barrier : NothingPending g.contents g.image disk) (honest : (d : D) → IsTrue (g.is_honest d))
+module _ {D : Type 0} {g : Ghosts D} (disk : D) (library : TreeValue) (state : State) (barrier : NothingPending g.contents g.image disk)
+    (honest : (d : D) → IsTrue (g.is_honest d))
     (holds : HoldsState server_machine state (g.contents disk)) (unlocked : opened state ≡ state) (is_its : library ≡ state.library) where
   found_is : (store : Store D g) (table : TableValue) → IsOpened g disk library store table → state_of (body_bytes store.bank.shape) library table ≡ state
   found_is store table is =
       let finds : FindsState (body_bytes store.bank.shape) library table state =
-      ⊎_elim (λ one. one) (λ two. two) ((is.found (honest store.disk)).one state state (λ c image. inl (subst (λ (l : List ℕ). HoldsState server_machine state l) (sym (barrier c image)) holds))) in
+      ⊎_elim (λ one. one) (λ two. two) ((is.found (honest store.disk)).one state state
+      (λ c image. inl (subst (λ (l : List ℕ). HoldsState server_machine state l) (sym (barrier c image)) holds))) in
       same_state (state_of (body_bytes store.bank.shape) library table) state finds.bank_is is_its (finds.table_is ∙ ap (λ (s : State). s.table) unlocked)
 
-  pub sits : OpenedBegins server_machine (λ s. s) g → (storage : Storage D g) (table : TableValue) → OverStore storage (λ store. IsOpened g disk library store table) → OverStore storage (λ store. SessionStart server_machine disk store state)
+  pub sits : OpenedBegins server_machine (λ s. s) g → (storage : Storage D g) (table : TableValue)
+      → OverStore storage (λ store. IsOpened g disk library store table) → OverStore storage (λ store. SessionStart server_machine disk store state)
   sits begins (Memory d) table is = absurd is
   sits begins (Disk store) table is = record {
     goes_on = is.goes_on;
-    sits = subst (λ (s : State). OpenSession server_machine disk store s s []) (found_is store table is) (begins disk library store table is (honest store.disk) barrier);
+    sits = subst (λ (s : State). OpenSession server_machine disk store s s []) (found_is store table is)
+        (begins disk library store table is (honest store.disk) barrier);
   }
 
-  pub serves : (storage : Storage D g) (host : State) → host.library ≡ library → host.bank ≡ bank_bytes_of storage → OverStore storage (λ store. IsOpened g disk library store host.table) → host ≡ state
+  pub serves : (storage : Storage D g) (host : State) → host.library ≡ library → host.bank ≡ bank_bytes_of storage
+      → OverStore storage (λ store. IsOpened g disk library store host.table) → host ≡ state
   serves (Memory d) host library_is bank_is is = absurd is
-  serves (Disk store) host library_is bank_is is = same_state host (state_of (body_bytes store.bank.shape) library host.table) bank_is library_is refl ∙ found_is store host.table is
+  serves (Disk store) host library_is bank_is is = same_state host (state_of (body_bytes store.bank.shape) library host.table) bank_is library_is refl
+      ∙ found_is store host.table is
 
   -- no refusal is true of it
   pub never_refused : CanBegin state → (back : D) (fault : OpenFault) → IsNotOpened g disk back library fault → SpeaksOfContents fault → ⊥
   never_refused begins back fault is refusal =
-      let why = (is.told (honest back)).late refusal state state (λ c image. inl (subst (λ (l : List ℕ). HoldsState server_machine state l) (sym (barrier c image)) holds)) begins begins in
+      let why =
+      (is.told (honest back)).late refusal state state
+      (λ c image. inl (subst (λ (l : List ℕ). HoldsState server_machine state l) (sym (barrier c image)) holds)) begins begins in
       let text : canonical state.library ≡ canonical library = ap canonical (sym is_its) in
       ⊎_elim (λ one. absurd (one.1 text)) (λ two. absurd (two.1 text)) why.1

@@ -35,7 +35,8 @@ pub record Left {S R : Type 0} (t : StateMachine S R) (Can : S → Type 0) (stop
   pub unlocked : t.opened after ≡ after
 
 module _ {S R : Type 0} (t : StateMachine S R) (Can : S → Type 0) (again : (state : S) → t.opened (t.opened state) ≡ t.opened state) (no_trace : OthersAreRun t)
-    (goes_on : (old new : S) (entries : List (Exchange R)) → Can old → Trace t old entries new → Can new) (opens : (state : S) → Can state → Can (t.opened state))
+    (goes_on : (old new : S) (entries : List (Exchange R)) → Can old → Trace t old entries new → Can new)
+    (opens : (state : S) → Can state → Can (t.opened state))
     {D : Type 0} (g : Ghosts D) (keeps : CrashKeepsAcknowledged t g) (counts_all : EndCountsAll t g)
     (disk : D) (calls : List (CompletedCall R)) (before : S) (begins : Can before) (m stop : ℕ) (c : List ℕ) (start : g.moment disk ≤ m) where
   -- The image may be left by a stop at a moment: the one that was wanted, or the last one of the disk, where that comes before.
@@ -57,8 +58,10 @@ module _ {S R : Type 0} (t : StateMachine S R) (Can : S → Type 0) (again : (st
           later = kept.later;
           parts = kept.groups_are;
           enough = ⊎_elim
-              (λ same. let by_clock : due.0 ≤ answered_by m session.moments = subst (λ (n : ℕ). due.0 ≤ answered_by n session.moments) (sym same) due.3 in omega (arith, by_clock, kept.enough))
-              (λ late. let all : answered_by m session.moments ≡ session.count = counts_all disk now before called last session m late.0 in omega (arith, all, due.2, kept.enough))
+              (λ same. let by_clock : due.0 ≤ answered_by m session.moments = subst (λ (n : ℕ). due.0 ≤ answered_by n session.moments) (sym same) due.3 in
+              omega (arith, by_clock, kept.enough))
+              (λ late. let all : answered_by m session.moments ≡ session.count = counts_all disk now before called last session m late.0 in
+              omega (arith, all, due.2, kept.enough))
               at;
           state = kept.state;
           run = kept.run;
@@ -70,20 +73,24 @@ module _ {S R : Type 0} (t : StateMachine S R) (Can : S → Type 0) (again : (st
         unlocked = again kept.state;
       }
 
-  store_leaves : (store : Store D g) (last : S) → GroupInvariant t disk store before calls last → (m ≡ stop) ⊎ ((g.moment store.disk ≤ m) × (g.moment store.disk ≤ stop)) → MayBeLeft g store.disk m c
+  store_leaves : (store : Store D g) (last : S) → GroupInvariant t disk store before calls last
+      → (m ≡ stop) ⊎ ((g.moment store.disk ≤ m) × (g.moment store.disk ≤ stop)) → MayBeLeft g store.disk m c
       → (b : Bool) → store.stopped ≡ b → Left t Can stop calls before c
   store_leaves store last is at may false going = let was = is.going going in session_leaves store.disk last was.0 false was.1.session was.2 at may
   store_leaves store last is at may true stopped = let was = is.late stopped in session_leaves store.disk last was.0 true was.1 was.3 at may
 
-  storage_leaves : (storage : Storage D g) (last : S) (now : D) → OverStore storage (λ store. GroupInvariant t disk store before calls last) → now ≡ disk_of storage
+  storage_leaves : (storage : Storage D g) (last : S) (now : D) → OverStore storage (λ store. GroupInvariant t disk store before calls last)
+      → now ≡ disk_of storage
       → (m ≡ stop) ⊎ ((g.moment now ≤ m) × (g.moment now ≤ stop)) → MayBeLeft g now m c → Left t Can stop calls before c
   storage_leaves (Memory d) last now is of_it at may = absurd is
   storage_leaves (Disk store) last now is of_it at may = store_leaves store last is
       (subst (λ (d : D). (m ≡ stop) ⊎ ((g.moment d ≤ m) × (g.moment d ≤ stop))) of_it at) (subst (λ (d : D). MayBeLeft g d m c) of_it may) store.stopped refl
 
-  pub leaves : (serving : Serving g S R) → IsServing t serving → LateCallCounts t g → (old new : Storage D g) (last : S) (now : D) → OverStore old (λ store. SessionStart t disk store before) → CallSequence serving old before calls new last → now ≡ disk_of new
+  pub leaves : (serving : Serving g S R) → IsServing t serving → LateCallCounts t g → (old new : Storage D g) (last : S) (now : D)
+      → OverStore old (λ store. SessionStart t disk store before) → CallSequence serving old before calls new last → now ≡ disk_of new
       → (m ≡ stop) ⊎ ((g.moment now ≤ m) × (g.moment now ≤ stop)) → MayBeLeft g now m c → Left t Can stop calls before c
-  leaves serving over late_counts old new last now opens made of_it at may = storage_leaves new last now (all_made t g serving over late_counts disk before old new last calls opens made) of_it at may
+  leaves serving over late_counts old new last now opens made of_it at may =
+      storage_leaves new last now (all_made t g serving over late_counts disk before old new last calls opens made) of_it at may
 
 -- the stop is at the moment that was wanted, or at the disk's last one, where that comes before
 pub min_at : (m stop end n : ℕ) → m ≡ min stop n → n ≡ end → (m ≡ stop) ⊎ ((end ≤ m) × (end ≤ stop))

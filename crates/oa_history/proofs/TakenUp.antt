@@ -28,33 +28,43 @@ use Rattle.oa_typelib.specs.promise.Checked.{IsChecked}
 use Rattle.oa_history.proofs.Found.{same_state}
 use Rattle.oa_history.proofs.Reading.{opened_by_its_own}
 
-module _ {D : Type 0} {g : Ghosts D} (disk : D) (library : TreeValue) (state : State) (honest : (d : D) → IsTrue (g.is_honest d)) (holds : HoldsState server_machine state (g.contents disk)) (begins : CanBegin state) (is_its : library ≡ state.library) where
+module _ {D : Type 0} {g : Ghosts D} (disk : D) (library : TreeValue) (state : State) (honest : (d : D) → IsTrue (g.is_honest d))
+    (holds : HoldsState server_machine state (g.contents disk)) (begins : CanBegin state) (is_its : library ≡ state.library) where
   module _ (found_is_kept : FoundIsKept) where
-    found_is : (store : Store D g) (table : TableValue) → IsOpened g disk library store table → opened state ≡ state_of (body_bytes store.bank.shape) library table
+    found_is : (store : Store D g) (table : TableValue) → IsOpened g disk library store table
+        → opened state ≡ state_of (body_bytes store.bank.shape) library table
     found_is store table is =
         let found = is.found (honest store.disk) in
         found_is_kept (body_bytes store.bank.shape) library state 0 [] (g.contents disk) table (subst IsChecked (sym is_its) begins.checked) begins.checked
         (record { done = []; later = []; groups_are = refl; enough = omega arith; state = state; run = refl; holds = holds })
         (subst (λ (s : BankFormat). IsStoreIn s (g.contents disk) (canonical library) table) is.shape found.contents) is.unlocked
 
-    pub host_is : (storage : Storage D g) (host : State) → host.library ≡ library → host.bank ≡ bank_bytes_of storage → OverStore storage (λ store. IsOpened g disk library store host.table) → host ≡ opened state
+    pub host_is : (storage : Storage D g) (host : State) → host.library ≡ library → host.bank ≡ bank_bytes_of storage
+        → OverStore storage (λ store. IsOpened g disk library store host.table) → host ≡ opened state
     host_is (Memory d) host library_is bank_is is = absurd is
-    host_is (Disk store) host library_is bank_is is = same_state host (state_of (body_bytes store.bank.shape) library host.table) bank_is library_is refl ∙ sym (found_is store host.table is)
+    host_is (Disk store) host library_is bank_is is = same_state host (state_of (body_bytes store.bank.shape) library host.table) bank_is library_is refl
+        ∙ sym (found_is store host.table is)
 
-    pub opened_so : (storage : Storage D g) (host : State) → host ≡ opened state → OverStore storage (λ store. IsOpened g disk library store host.table) → OverStore storage (λ store. IsOpened g disk (opened state).library store (opened state).table)
+    pub opened_so : (storage : Storage D g) (host : State) → host ≡ opened state → OverStore storage (λ store. IsOpened g disk library store host.table)
+        → OverStore storage (λ store. IsOpened g disk (opened state).library store (opened state).table)
     opened_so (Memory d) host same is = absurd is
     opened_so (Disk store) host same is = subst (λ (l : TreeValue). IsOpened g disk l store (opened state).table) is_its
         (subst (λ (t : TableValue). IsOpened g disk library store t) (ap (λ (s : State). s.table) same) is)
 
-    pub all_hold : OpenedJoins g → (storage : Storage D g) (table : TableValue) → OverStore storage (λ store. IsOpened g disk library store table) → OverStore storage (λ store. AllHoldState server_machine store (opened state))
+    pub all_hold : OpenedJoins g → (storage : Storage D g) (table : TableValue) → OverStore storage (λ store. IsOpened g disk library store table)
+        → OverStore storage (λ store. AllHoldState server_machine store (opened state))
     all_hold joins (Memory d) table is = absurd is
-    all_hold joins (Disk store) table is = subst (λ (s : State). AllHoldState server_machine store s) (sym (found_is store table is)) (joins disk library store table is (honest store.disk)).0.all
+    all_hold joins (Disk store) table is = subst (λ (s : State). AllHoldState server_machine store s) (sym (found_is store table is))
+        (joins disk library store table is (honest store.disk)).0.all
 
   -- no refusal is true of it
-  module _ (one_tree : (text : List ℕ) (s t : TreeValue) → IsTree text s → IsTree text t → s ≡ t) (read : (t : TreeValue) → IsChecked t → IsTree (canonical t) t) (long : length (g.contents disk) ≡ g.size_of disk) where
+  module _ (one_tree : (text : List ℕ) (s t : TreeValue) → IsTree text s → IsTree text t → s ≡ t)
+      (read : (t : TreeValue) → IsChecked t → IsTree (canonical t) t) (long : length (g.contents disk) ≡ g.size_of disk) where
     pub never_refused : (back : D) (fault : OpenFault) → IsNotOpened g disk back library fault → SpeaksOfContents fault → ⊥
     never_refused back fault is r = ⊎_elim
-        (λ says. opened_by_its_own (g.size_of disk) (g.contents disk) (Two state.bank) (canonical state.library) (held_of state) long holds state.bank refl fault r
+        (λ says. opened_by_its_own (g.size_of disk) (g.contents disk) (Two state.bank) (canonical state.library)
+        (held_of state) long holds state.bank refl fault r
         (subst (λ (l : TreeValue). RefusalSays (Some (canonical l)) (g.size_of disk) (g.contents disk) fault) is_its says))
-        (λ unfit. unfit.cannot (can_begin (same_library one_tree read) library (subst IsChecked (sym is_its) begins.checked) (g.contents disk) unfit.bank unfit.table unfit.holds state begins holds))
+        (λ unfit. unfit.cannot (can_begin (same_library one_tree read) library (subst IsChecked (sym is_its) begins.checked)
+        (g.contents disk) unfit.bank unfit.table unfit.holds state begins holds))
         (is.told (honest back)).says

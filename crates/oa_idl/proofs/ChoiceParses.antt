@@ -84,7 +84,8 @@ this_heads test text more f = ap (λ (ws : List Word). heads test (ws ++ more)) 
 
 pub then_heads : {F G : List Word → Type 0} (test : Word → Bool) (v : Bool) (text more : List Word)
     → ((a left : List Word) → F a → heads test (a ++ left) ≡ v) → Then F G text → heads test (text ++ more) ≡ v
-then_heads test v text more begins f = ap (λ (ws : List Word). heads test (ws ++ more)) f.parts ∙ ap (heads test) (append_assoc f.front f.back more) ∙ begins f.front (f.back ++ more) f.first
+then_heads test v text more begins f = ap (λ (ws : List Word). heads test (ws ++ more)) f.parts ∙ ap (heads test) (append_assoc f.front f.back more)
+    ∙ begins f.front (f.back ++ more) f.first
 
 -- An optional word, before words that never begin with it.
 pub perhaps_parses : {n : ℕ} {C : Type 0} {R : C → Type 0} {G : C → List Word → Type 0} {L : TreeLimit → C → Type 0} {Q : C
@@ -93,7 +94,8 @@ pub perhaps_parses : {n : ℕ} {C : Type 0} {R : C → Type 0} {G : C → List W
     → Parses n R G L Q read → Parses n R (λ c. optional (this test) ▸ G c) L Q (bind (perhaps_at test) (λ _. read))
 unfolding bind choose this_at perhaps_at
 perhaps_parses {n} {C} {R} {G} {L} {Q} {read} test free r =
-    let p : Parses n R (λ c. optional (this test) ▸ G c) L Q (choose test (bind (this_at test) (λ _. read)) read) = choose_parses {A = λ c. this test ▸ G c} {B = G} test yes no from_yes from_no (skip_parses test r) r in
+    let p : Parses n R (λ c. optional (this test) ▸ G c) L Q (choose test (bind (this_at test) (λ _. read)) read) =
+    choose_parses {A = λ c. this test ▸ G c} {B = G} test yes no from_yes from_no (skip_parses test r) r in
     record {
       same = p.same;
       takes = λ words x left le e. p.takes words x left le (alike words (heads test words) refl ∙ e);
@@ -110,12 +112,14 @@ perhaps_parses {n} {C} {R} {G} {L} {Q} {read} test free r =
         → (this test ▸ G c) text
     yes c text more h f is = ⊎_elim
         (λ (k : this test f.front). record { front = f.front; back = f.back; parts = f.parts; first = k; second = f.second })
-        (λ (k : f.front ≡ []). absurd (clash is (ap (λ (ws : List Word). heads test (ws ++ more)) (f.parts ∙ ap (λ (ws : List Word). ws ++ f.back) k) ∙ free c f.back more h f.second)))
+        (λ (k : f.front ≡ []). absurd (clash is (ap (λ (ws : List Word). heads test (ws ++ more)) (f.parts ∙ ap (λ (ws : List Word). ws ++ f.back) k)
+        ∙ free c f.back more h f.second)))
         f.first
 
     no : (c : C) (text more : List Word) → R c → (optional (this test) ▸ G c) text → heads test (text ++ more) ≡ false → G c text
     no c text more h f is = ⊎_elim
-        (λ (k : this test f.front). absurd (clash (ap (λ (ws : List Word). heads test (ws ++ more)) f.parts ∙ ap (heads test) (append_assoc f.front f.back more) ∙ this_heads test f.front (f.back ++ more) k) is))
+        (λ (k : this test f.front). absurd (clash (ap (λ (ws : List Word). heads test (ws ++ more)) f.parts ∙ ap (heads test) (append_assoc f.front f.back more)
+        ∙ this_heads test f.front (f.back ++ more) k) is))
         (λ (k : f.front ≡ []). subst (G c) (sym (f.parts ∙ ap (λ (ws : List Word). ws ++ f.back) k)) f.second)
         f.first
 

@@ -44,7 +44,9 @@ pub until_goes_on : {S A B : Type 0} (test : Word → Bool) (apart : A → Word 
 unfolding until choose bind perhaps_at
 until_goes_on test apart item grow last front n i state s t u x total lt going h is so_far =
     let k : n - i ≡ suc (n - (i + 1)) = omega arith in
-    let one : with_front front (until test apart item grow last (n - i) state s) ≡ with_front (front ++ x ∷ []) (until test apart item grow last (n - (i + 1)) (grow state x) u) = rw (k, going, h, is) (regroup front x (until test apart item grow last (n - (i + 1)) (grow state x) (cond (heads (apart x) t) (later_words t) t))) in
+    let one : with_front front (until test apart item grow last (n - i) state s) ≡ with_front (front ++ x ∷ [])
+    (until test apart item grow last (n - (i + 1)) (grow state x) u) =
+    rw (k, going, h, is) (regroup front x (until test apart item grow last (n - (i + 1)) (grow state x) (cond (heads (apart x) t) (later_words t) t))) in
     sym one ∙ so_far
 
 -- As above, without a word between the items.
@@ -52,7 +54,8 @@ pub plain_goes_on : {S A B : Type 0} (test : Word → Bool) (item : S → Parser
     (n i : ℕ) (state : S) (s t : List Word) (x : A) (total : ReadStep (List A × B)) → i < n → heads test s ≡ false → item state s ≡ Got x t
     → with_front front (until test nowhere item grow last (n - i) state s) ≡ total
     → with_front (front ++ x ∷ []) (until test nowhere item grow last (n - (i + 1)) (grow state x) t) ≡ total
-plain_goes_on test item grow last front n i state s t x total lt going h so_far = until_goes_on test nowhere item grow last front n i state s t t x total lt going h (same x t) so_far
+plain_goes_on test item grow last front n i state s t x total lt going h so_far =
+    until_goes_on test nowhere item grow last front n i state s t t x total lt going h (same x t) so_far
   where
     same : {A : Type 0} (x : A) (t : List Word) → t ≡ cond (heads (nowhere x) t) (later_words t) t
     same x [] = refl
@@ -65,7 +68,8 @@ pub until_ends : {S A B : Type 0} (test : Word → Bool) (apart : A → Word →
 unfolding until choose bind give
 until_ends test apart item grow last front n i state b s u total lt closed h so_far =
     let k : n - i ≡ suc (n - (i + 1)) = omega arith in
-    let one : with_front front (until test apart item grow last (n - i) state s) ≡ Got (front, b) u = rw (k, closed, h) (ap (got_list u b) (append-nil front)) in
+    let one : with_front front (until test apart item grow last (n - i) state s) ≡ Got (front, b) u =
+    rw (k, closed, h) (ap (got_list u b) (append-nil front)) in
     sym so_far ∙ one
 
 -- the end is a word of its own
@@ -112,8 +116,10 @@ pub until_err : {S A : Type 0} (test : Word → Bool) (apart : A → Word → Bo
     → i < n → heads test s ≡ false → ReadsWords {X = A} (λ x. x) (Err e) t (item state s)
     → with_front front (until test apart item grow last (n - i) state s) ≡ total
     → ReadsWords {X = Vec A} (λ v. (v.items, done)) (Err e) t total
-until_err test apart item grow last Syntax front n i state s t total lt going h so_far = until_stops test apart item grow last front n i state s t Syntax total lt going h so_far
-until_err test apart item grow last (stops.Limit l) front n i state s t total lt going h so_far = until_stops test apart item grow last front n i state s t (stops.Limit l) total lt going h so_far
+until_err test apart item grow last Syntax front n i state s t total lt going h so_far =
+    until_stops test apart item grow last front n i state s t Syntax total lt going h so_far
+until_err test apart item grow last (stops.Limit l) front n i state s t total lt going h so_far = until_stops test apart item grow last front n i state s t
+    (stops.Limit l) total lt going h so_far
 until_err test apart item grow last Memory front n i state s t total lt going h so_far = tt
 
 -- As above for two sections, if the end determines the second.
@@ -122,8 +128,10 @@ pub properties_err : {A C : Type 0} (test : Word → Bool) (apart : A → Word �
     → heads test s ≡ false → ReadsWords {X = A} (λ x. x) (Err e) t (item state s)
     → with_front front (until test apart item grow last (n - i) state s) ≡ total
     → ReadsWords {X = Vec A × Vec C} (λ v. (v.0.items, v.1.items)) (Err e) t total
-properties_err test apart item grow last Syntax front n i state s t total lt going h so_far = until_stops test apart item grow last front n i state s t Syntax total lt going h so_far
-properties_err test apart item grow last (stops.Limit l) front n i state s t total lt going h so_far = until_stops test apart item grow last front n i state s t (stops.Limit l) total lt going h so_far
+properties_err test apart item grow last Syntax front n i state s t total lt going h so_far =
+    until_stops test apart item grow last front n i state s t Syntax total lt going h so_far
+properties_err test apart item grow last (stops.Limit l) front n i state s t total lt going h so_far = until_stops test apart item grow last front n i state s t
+    (stops.Limit l) total lt going h so_far
 properties_err test apart item grow last Memory front n i state s t total lt going h so_far = tt
 
 pub properties_end_err : {A C : Type 0} (test : Word → Bool) (apart : A → Word → Bool) (item : ℕ → Parser A) (grow : ℕ → A → ℕ)
@@ -131,8 +139,10 @@ pub properties_end_err : {A C : Type 0} (test : Word → Bool) (apart : A → Wo
     → heads test s ≡ true → ReadsWords {X = Vec C} (λ v. v.items) (Err e) t (last state s)
     → with_front front (until test apart item grow last (n - i) state s) ≡ total
     → ReadsWords {X = Vec A × Vec C} (λ v. (v.0.items, v.1.items)) (Err e) t total
-properties_end_err test apart item grow last Syntax front n i state s t total lt closed h so_far = until_early test apart item grow last front n i state s t Syntax total lt closed h so_far
-properties_end_err test apart item grow last (stops.Limit l) front n i state s t total lt closed h so_far = until_early test apart item grow last front n i state s t (stops.Limit l) total lt closed h so_far
+properties_end_err test apart item grow last Syntax front n i state s t total lt closed h so_far =
+    until_early test apart item grow last front n i state s t Syntax total lt closed h so_far
+properties_end_err test apart item grow last (stops.Limit l) front n i state s t total lt closed h so_far =
+    until_early test apart item grow last front n i state s t (stops.Limit l) total lt closed h so_far
 properties_end_err test apart item grow last Memory front n i state s t total lt closed h so_far = tt
 
 -- ---- If only the state is kept.
@@ -253,7 +263,8 @@ pub items_go_on : (xs : List Item) (n i : ℕ) (s : ItemsSeen) (words t u : List
 items_go_on xs n i s words t u x total lt going here h is r = record {
   front = r.front ++ OfItem x ∷ [];
   are = more_items r.front x ∙ ap (λ (ys : List Item). ys ++ x ∷ []) r.are;
-  so_far = until_goes_on (passes (codes "}")) semicolon_after content_at elements_grow closing_at r.front n i s words t u (OfItem x) total lt going (at_item s words t x here h) (is ∙ word_after x t) r.so_far;
+  so_far = until_goes_on (passes (codes "}")) semicolon_after content_at elements_grow closing_at r.front n i s words t u (OfItem x) total lt going
+      (at_item s words t x here h) (is ∙ word_after x t) r.so_far;
 }
 
 pub imports_go_on : (xs : List Item) (n i : ℕ) (s : ItemsSeen) (words t : List Word) (total : ReadStep (List LibraryContent × Unit {0})) → i < n
@@ -262,14 +273,16 @@ pub imports_go_on : (xs : List Item) (n i : ℕ) (s : ItemsSeen) (words t : List
 imports_go_on xs n i s words t total lt going here h r = record {
   front = r.front ++ Import ∷ [];
   are = more_imports r.front ∙ r.are;
-  so_far = until_goes_on (passes (codes "}")) semicolon_after content_at elements_grow closing_at r.front n i s words t t Import total lt going (at_import s words t here h) (no_word_after t) r.so_far;
+  so_far = until_goes_on (passes (codes "}")) semicolon_after content_at elements_grow closing_at r.front n i s words t t Import total lt going
+      (at_import s words t here h) (no_word_after t) r.so_far;
 }
 
 pub items_end : (xs : List Item) (n i room : ℕ) (s : ItemsSeen) (words start : List Word) → i < n → heads (passes (codes "}")) words ≡ true
     → ItemsRead xs (n - i) s words (so_far_read room no_items start) → elements_within room start ≡ Got xs (later_words words)
 unfolding elements_within bind give
 items_end xs n i room s words start lt closed r =
-    let one = until_ends_at (passes (codes "}")) semicolon_after content_at elements_grow r.front n i s words (so_far_read room no_items start) lt closed r.so_far in
+    let one = until_ends_at (passes (codes "}")) semicolon_after content_at elements_grow r.front n i s words
+    (so_far_read room no_items start) lt closed r.so_far in
     ap (λ (o : ReadStep (List LibraryContent × Unit {0})). and_then o items_alone) one ∙ ap (λ (ys : List Item). got_items ys (later_words words)) r.are
   where
     got_items : List Item → List Word → ReadStep (List Item)
@@ -282,7 +295,9 @@ items_stuck room start t why e = ap (λ (o : ReadStep (List LibraryContent × Un
 
 pub items_out : (xs : List Item) (n i room : ℕ) (s : ItemsSeen) (words start : List Word) → n ≤ i
     → ItemsRead xs (n - i) s words (so_far_read room no_items start) → elements_within room start ≡ Stuck Syntax words
-items_out xs n i room s words start le r = items_stuck room start words Syntax (until_out (passes (codes "}")) semicolon_after content_at elements_grow closing_at r.front n i s words (so_far_read room no_items start) le r.so_far)
+items_out xs n i room s words start le r =
+    items_stuck room start words Syntax (until_out (passes (codes "}")) semicolon_after content_at elements_grow closing_at r.front n i s words
+    (so_far_read room no_items start) le r.so_far)
 
 item_stops : (s : ItemsSeen) (words t : List Word) (why : Stop) → heads (passes (codes "importlib")) words ≡ false
     → item_at s words ≡ Stuck why t → content_at s words ≡ Stuck why t
@@ -297,15 +312,19 @@ import_stops s words t why is h = rw (is, h) refl
 content_stops : (xs : List Item) (n i room : ℕ) (s : ItemsSeen) (words t start : List Word) (why : Stop) → i < n
     → heads (passes (codes "}")) words ≡ false → content_at s words ≡ Stuck why t
     → ItemsRead xs (n - i) s words (so_far_read room no_items start) → elements_within room start ≡ Stuck why t
-content_stops xs n i room s words t start why lt going h r = items_stuck room start t why (until_stops (passes (codes "}")) semicolon_after content_at elements_grow closing_at r.front n i s words t why (so_far_read room no_items start) lt going h r.so_far)
+content_stops xs n i room s words t start why lt going h r =
+    items_stuck room start t why (until_stops (passes (codes "}")) semicolon_after content_at elements_grow closing_at r.front n i s words t why
+    (so_far_read room no_items start) lt going h r.so_far)
 
 pub items_err : (e : Stop) (xs : List Item) (n i room : ℕ) (s : ItemsSeen) (words t start : List Word) → i < n
     → heads (passes (codes "}")) words ≡ false → heads (passes (codes "importlib")) words ≡ false
     → ReadsWords {X = Item} (λ x. x) (Err e) t (item_at s words)
     → ItemsRead xs (n - i) s words (so_far_read room no_items start)
     → ReadsWords {X = Vec Item} (λ v. v.items) (Err e) t (elements_within room start)
-items_err Syntax xs n i room s words t start lt going here h r = content_stops xs n i room s words t start Syntax lt going (item_stops s words t Syntax here h) r
-items_err (stops.Limit l) xs n i room s words t start lt going here h r = content_stops xs n i room s words t start (stops.Limit l) lt going (item_stops s words t (stops.Limit l) here h) r
+items_err Syntax xs n i room s words t start lt going here h r = content_stops xs n i room s words t start Syntax lt going
+    (item_stops s words t Syntax here h) r
+items_err (stops.Limit l) xs n i room s words t start lt going here h r = content_stops xs n i room s words t start (stops.Limit l) lt going
+    (item_stops s words t (stops.Limit l) here h) r
 items_err Memory xs n i room s words t start lt going here h r = tt
 
 pub imports_err : (e : Stop) (xs : List Item) (n i room : ℕ) (s : ItemsSeen) (words t start : List Word) → i < n
@@ -313,8 +332,10 @@ pub imports_err : (e : Stop) (xs : List Item) (n i room : ℕ) (s : ItemsSeen) (
     → ReadsWords {X = Unit {0}} (λ _. done) (Err e) t (import_at words)
     → ItemsRead xs (n - i) s words (so_far_read room no_items start)
     → ReadsWords {X = Vec Item} (λ v. v.items) (Err e) t (elements_within room start)
-imports_err Syntax xs n i room s words t start lt going here h r = content_stops xs n i room s words t start Syntax lt going (import_stops s words t Syntax here h) r
-imports_err (stops.Limit l) xs n i room s words t start lt going here h r = content_stops xs n i room s words t start (stops.Limit l) lt going (import_stops s words t (stops.Limit l) here h) r
+imports_err Syntax xs n i room s words t start lt going here h r = content_stops xs n i room s words t start Syntax lt going
+    (import_stops s words t Syntax here h) r
+imports_err (stops.Limit l) xs n i room s words t start lt going here h r = content_stops xs n i room s words t start (stops.Limit l) lt going
+    (import_stops s words t (stops.Limit l) here h) r
 imports_err Memory xs n i room s words t start lt going here h r = tt
 
 pub few_interfaces : (s : ItemsSeen) (x : Item) (n : ℕ) → s.interfaces ≤ n → (items_grow s x).interfaces ≤ n + 1

@@ -48,7 +48,8 @@ pub over_named : (m : TreeLimit) (b c : ℕ) → (m ≡ limits.Name → ⊥) →
 over_named m b c apart l w name is e = record {
   name = name;
   is = is;
-  long = ⊎_elim (λ (k : (max_name_characters < length name) × (limits.Name ≡ l)). long_name l name k.0 k.1) (λ (k : (b ≤ c) × (m ≡ l)). free l m name apart k.1) (over_is m l b c name e);
+  long = ⊎_elim (λ (k : (max_name_characters < length name) × (limits.Name ≡ l)). long_name l name k.0 k.1) (λ (k : (b ≤ c) × (m ≡ l)). free l m name apart k.1)
+      (over_is m l b c name e);
 }
 
 -- and so is that of names alone
@@ -56,5 +57,6 @@ pub long_named : (l : TreeLimit) (w : Word) (name : List ℕ) → name_of w ≡ 
 long_named l w name is e = record {
   name = name;
   is = is;
-  long = ⊎_elim (λ (k : (max_name_characters < length name) × (limits.Name ≡ l)). long_name l name k.0 k.1) (λ (k : (1 ≤ 0) × (limits.Name ≡ l)). absurd (omega (arith, k.0))) (over_is limits.Name l 1 0 name e);
+  long = ⊎_elim (λ (k : (max_name_characters < length name) × (limits.Name ≡ l)). long_name l name k.0 k.1)
+      (λ (k : (1 ≤ 0) × (limits.Name ≡ l)). absurd (omega (arith, k.0))) (over_is limits.Name l 1 0 name e);
 }

@@ -133,7 +133,8 @@ this_parses {n} test = record {
 }
   where
     same_one : (a b s t : List Word) → this test a → this test b → a ++ s ≡ b ++ t → (done ≡ done) × (s ≡ t)
-    same_one a b s t f g e = (refl, (apart_cons f.word g.word s t (ap (λ (ws : List Word). ws ++ s) (sym f.parts) ∙ e ∙ ap (λ (ws : List Word). ws ++ t) g.parts)).1)
+    same_one a b s t f g e =
+        (refl, (apart_cons f.word g.word s t (ap (λ (ws : List Word). ws ++ s) (sym f.parts) ∙ e ∙ ap (λ (ws : List Word). ws ++ t) g.parts)).1)
 
     takes_one : (words : List Word) (x : Unit {0}) (left : List Word)
         → cond (heads test words) (got done (later_words words)) (stuck_at Syntax words) ≡ Got x left
@@ -143,7 +144,14 @@ this_parses {n} test = record {
       where
         taken : (b : Bool) → test w ≡ b → cond b (got done words) (stuck_at Syntax (w ∷ words)) ≡ Got x left
             → (Always x × Always x) × Takes (this test) (w ∷ words) left
-        taken true is e = ((tt, tt), record { text = w ∷ []; parts = ap (λ (ws : List Word). w ∷ ws) (got_is done x words left e).1; form = record { word = w; parts = refl; is = is } })
+        taken true is e = (
+          (tt, tt),
+          record {
+            text = w ∷ [];
+            parts = ap (λ (ws : List Word). w ∷ ws) (got_is done x words left e).1;
+            form = record { word = w; parts = refl; is = is };
+          },
+        )
         taken false is e = absurd cc
 
     stops_one : (words : List Word) (why : Stop) (left : List Word)

@@ -18,7 +18,8 @@ use Rattle.oa_formats.proofs.Exact.{no_prefix}
 use Rattle.oa_image.specs.promise.Tables.{cell, cells, is_used, object, older, place_before, table, table_image}
 use Rattle.oa_image.specs.declared.reader.OpenObject.{OpenObject}
 use Rattle.oa_image.specs.declared.reader.OpenTable.{OpenTable}
-use Rattle.oa_image.specs.Reader.{IsOpenTable, TakesEnd, all_objects, object_so_far, with_at_hand, count_at_hand, is_behind, last_number, object_head, object_taken, table_head, table_taken, taken_at_hand}
+use Rattle.oa_image.specs.Reader.{IsOpenTable, TakesEnd, all_objects, object_so_far, with_at_hand, count_at_hand, is_behind, last_number, object_head}
+use Rattle.oa_image.specs.Reader.{object_taken, table_head, table_taken, taken_at_hand}
 use Rattle.oa_image.proofs.Pieced.{whole_image}
 use Rattle.oa_image.proofs.Rising.{apart, sorted}
 use Rattle.oa_image.proofs.TablesWithImages.{object_parts, table_parts}
@@ -53,7 +54,8 @@ at_last P (p ∷ os) o h = at_last P os o h.1
 below : (a b : ℕ) → nat_cmp a b ≡ Less → a < b
 below a b e = ranked a b Less (sym e)
 
-all_below : (os : List (ℕ × ObjectValue)) (o : ℕ × ObjectValue) → IsStrictlySortedBy nat_cmp (keys_of (os ++ o ∷ [])) → AllByRecursion (λ k. k < o.0) (keys_of os)
+all_below : (os : List (ℕ × ObjectValue)) (o : ℕ × ObjectValue) → IsStrictlySortedBy nat_cmp (keys_of (os ++ o ∷ []))
+    → AllByRecursion (λ k. k < o.0) (keys_of os)
 unfolding IsStrictlySortedBy
 all_below [] o h = tt
 all_below (p ∷ os) o h = (below p.0 o.0 (at_last (λ k. nat_cmp p.0 k ≡ Less) os o h.0), all_below os o h.1)
@@ -130,16 +132,19 @@ pub record ObjectsBehind (t : OpenTable) (bytes : List ℕ) (whole : TableValue)
   pub are : AllByRecursion object.Is others
   pub bytes_are : taken_at_hand t.object ++ bytes ≡ flat_map object.image others
 
-pub objects_behind : (t : OpenTable) (bytes : List ℕ) (whole : TableValue) → IsOpenTable t → table.Is whole → table_taken t ++ bytes ≡ table_image whole → ObjectsBehind t bytes whole
+pub objects_behind : (t : OpenTable) (bytes : List ℕ) (whole : TableValue) → IsOpenTable t → table.Is whole → table_taken t ++ bytes ≡ table_image whole
+    → ObjectsBehind t bytes whole
 objects_behind t bytes whole valid is e =
     let here = table_parts t.table valid.is in
     let there = table_parts whole is in
     let hand = taken_at_hand t.object in
     let here_all = flat_map object.image t.table.objects in
     let there_all = flat_map object.image whole.objects in
-    let one : table_taken t ++ bytes ≡ table_head.image (t.table.next, all_objects t) ++ ((here_all ++ hand) ++ bytes) = append_assoc (table_head.image (t.table.next, all_objects t)) (here_all ++ hand) bytes in
+    let one : table_taken t ++ bytes ≡ table_head.image (t.table.next, all_objects t) ++ ((here_all ++ hand) ++ bytes) =
+    append_assoc (table_head.image (t.table.next, all_objects t)) (here_all ++ hand) bytes in
     let p = no_prefix table_head (t.table.next, all_objects t) (whole.next, length whole.objects) ((here_all ++ hand) ++ bytes) there_all
-    (head_is t.table.next (all_objects t) here.next valid.few) (head_is whole.next (length whole.objects) there.next there.few) (sym one ∙ e ∙ head_image whole) in
+    (head_is t.table.next (all_objects t) here.next valid.few) (head_is whole.next (length whole.objects) there.next there.few)
+    (sym one ∙ e ∙ head_image whole) in
     let many : all_objects t ≡ length whole.objects = ap (λ (h : ℕ × ℕ). h.1) p.0 in
     let same : here_all ++ (hand ++ bytes) ≡ there_all ++ [] = sym (append_assoc here_all hand bytes) ∙ p.1 ∙ sym (append-nil there_all) in
     let q = list_behind object t.table.objects whole.objects (hand ++ bytes) [] here.all there.all (omega (arith, many)) same in
@@ -205,7 +210,8 @@ object_comes t bytes whole valid none some is e =
         }
 
 -- a cell, where cells of the object at hand are left
-module _ (t : OpenTable) (o : OpenObject) (bytes : List ℕ) (whole : TableValue) (valid : IsOpenTable (with_at_hand o t)) (some : 0 < o.left) (is : table.Is whole)
+module _ (t : OpenTable) (o : OpenObject) (bytes : List ℕ) (whole : TableValue) (valid : IsOpenTable (with_at_hand o t)) (some : 0 < o.left)
+    (is : table.Is whole)
     (e : table_taken (with_at_hand o t) ++ bytes ≡ table_image whole) where
   abbrev NextCell : Type 0
   NextCell = Comes cell (λ next. is_behind place_before o.cells.items next ≡ true) bytes
@@ -213,7 +219,8 @@ module _ (t : OpenTable) (o : OpenObject) (bytes : List ℕ) (whole : TableValue
   abbrev there : List ℕ
   there = flat_map cell.image o.cells.items
 
-  among_cells : (z : ℕ × ObjectValue) (rest : List ℕ) (cells : List (PlaceValue × Variant)) → length o.cells.items + length cells ≡ length o.cells.items + o.left → AllByRecursion cell.Is cells
+  among_cells : (z : ℕ × ObjectValue) (rest : List ℕ) (cells : List (PlaceValue × Variant))
+      → length o.cells.items + length cells ≡ length o.cells.items + o.left → AllByRecursion cell.Is cells
       → rising place_before (o.cells.items ++ cells) ≡ true → bytes ≡ flat_map cell.image cells ++ rest → NextCell
   among_cells z rest [] count are rises same = absurd (omega (arith, some, count))
   among_cells z rest (c ∷ cs) count are rises same = record {
@@ -234,7 +241,8 @@ module _ (t : OpenTable) (o : OpenObject) (bytes : List ℕ) (whole : TableValue
       let whole_object : object.image z ++ rest ≡ other ++ (flat_map cell.image z.1.cells ++ rest) =
       ap (λ (l : List ℕ). l ++ rest) (object_image z) ∙ append_assoc other (flat_map cell.image z.1.cells) rest in
       let p = no_prefix object_head (o.number, (o.class, all)) (z.0, (z.1.class, length z.1.cells)) (there ++ bytes) (flat_map cell.image z.1.cells ++ rest)
-      (object_head_is o.number o.class all here.number here.class valid.at_hand.few) (object_head_is z.0 z.1.class (length z.1.cells) parts.number parts.class parts.few)
+      (object_head_is o.number o.class all here.number here.class valid.at_hand.few)
+      (object_head_is z.0 z.1.class (length z.1.cells) parts.number parts.class parts.few)
       (sym (append_assoc front there bytes) ∙ same ∙ whole_object) in
       let many : all ≡ length z.1.cells = ap (λ (h : ℕ × (List ℕ × ℕ)). h.1.1) p.0 in
       let q = list_behind cell o.cells.items z.1.cells bytes rest here.all parts.all (omega (arith, many)) p.1 in
@@ -247,6 +255,7 @@ module _ (t : OpenTable) (o : OpenObject) (bytes : List ℕ) (whole : TableValue
       b : ObjectsBehind (with_at_hand o t) bytes whole
       b = objects_behind (with_at_hand o t) bytes whole valid is e
 
-      by : (others : List (ℕ × ObjectValue)) → length others ≡ 1 + t.left → AllByRecursion object.Is others → object_taken o ++ bytes ≡ flat_map object.image others → NextCell
+      by : (others : List (ℕ × ObjectValue)) → length others ≡ 1 + t.left → AllByRecursion object.Is others
+          → object_taken o ++ bytes ≡ flat_map object.image others → NextCell
       by [] count are same = absurd (omega (arith, count))
       by (z ∷ os) count are same = of_object z (flat_map object.image os) are.0 same

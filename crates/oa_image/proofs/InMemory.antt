@@ -25,7 +25,8 @@ as_many image some (x ∷ xs) = omega (arith, some x, as_many image some xs, len
 
 place_bytes : (p : PlaceValue) → 0 < length (place.image p)
 unfolding place next_by made_where i32 u32 raw
-place_bytes p = omega (arith, length-append (guid_format.image p.interface) (i32.image p.dispid ++ key.image p.key), length-append (i32.image p.dispid) (key.image p.key))
+place_bytes p =
+    omega (arith, length-append (guid_format.image p.interface) (i32.image p.dispid ++ key.image p.key), length-append (i32.image p.dispid) (key.image p.key))
 
 pub cell_bytes : (c : PlaceValue × Variant) → 0 < length (cell.image c)
 unfolding cell next_by
@@ -70,5 +71,13 @@ pub is_table : (t : TableValue) → is_numbered t ≡ true → IsStrictlySortedB
     → t.next < 2 ^ 32 → length (table.image t) < 2 ^ 32 → table.Is (unlocked_table t)
 unfolding table objects only counted coded made_where next_by u32 times
 is_table t numbered sorted all low small =
-    let few = few_objects t small in
-    ((low, ((omega (arith, few, length-map t.objects unlocked_entry, as_many object.image object_bytes t.objects), all), rises nat_cmp unlocked_object t.objects sorted)), unlocked_numbers t ∙ numbered)
+    let few = few_objects t small in (
+      (
+        low,
+        (
+          (omega (arith, few, length-map t.objects unlocked_entry, as_many object.image object_bytes t.objects), all),
+          rises nat_cmp unlocked_object t.objects sorted,
+        ),
+      ),
+      unlocked_numbers t ∙ numbered,
+    )

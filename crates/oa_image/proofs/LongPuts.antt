@@ -26,14 +26,16 @@ laid o g d n =
     ∷ slice_index_or d 0 0 ∷ slice_index_or d 1 0 ∷ slice_index_or d 2 0 ∷ slice_index_or d 3 0
     ∷ 0 ∷ 0 ∷ 3 ∷ 0 ∷ slice_index_or n 0 0 ∷ slice_index_or n 1 0 ∷ slice_index_or n 2 0 ∷ slice_index_or n 3 0 ∷ []
 
-pub is_laid : (n : CellName) (z : ℤ) (object guid dispid number : List ℕ) → n.place.key ≡ [] → object ≡ to_le_bytes w32 n.object → guid ≡ wire_order n.place.interface
+pub is_laid : (n : CellName) (z : ℤ) (object guid dispid number : List ℕ) → n.place.key ≡ [] → object ≡ to_le_bytes w32 n.object
+    → guid ≡ wire_order n.place.interface
     → dispid ≡ to_le_bytes w32 (cast_unsigned w32 n.place.dispid) → number ≡ to_le_bytes w32 (cast_unsigned w32 z)
     → laid object guid dispid number ≡ event_image (Put n (One (I4 z)))
 unfolding combinators numbers scalar_parts of_type contents names events
 is_laid n z object guid dispid number bare o g d v = rw (o, g, d, v, bare) refl
 
 -- bytes that are an event's image, put in from a place on
-pub has_room : (event other : Event) (bytes out : List ℕ) (start : ℕ) → event ≡ other → bytes ≡ event_image other → start + length (event_image event) ≤ length out
+pub has_room : (event other : Event) (bytes out : List ℕ) (start : ℕ) → event ≡ other → bytes ≡ event_image other
+    → start + length (event_image event) ≤ length out
     → start + length bytes ≤ length out
 has_room event other bytes out start same is room = rw (is, sym same) room
 

@@ -74,7 +74,8 @@ used_later next number e =
     rw (parts.0, lt-ltb number (next + 1) (omega (arith, ltb-true number next parts.1))) refl
 
 create_keeps : (number : ℕ) (object : ObjectValue) (t : TableValue) → IsNumbered t → IfOk (created number object t) IsNumbered
-create_keeps number object t h = by (eqb number t.next && leb number greatest_object_number) (λ e. made (and_parts (eqb number t.next) (leb number greatest_object_number) e).0)
+create_keeps number object t h = by (eqb number t.next && leb number greatest_object_number)
+    (λ e. made (and_parts (eqb number t.next) (leb number greatest_object_number) e).0)
   where
     made : eqb number t.next ≡ true → IsNumbered (record { next = number + 1; objects = insert_entry nat_cmp t.objects number object })
     made e =
@@ -82,7 +83,8 @@ create_keeps number object t h = by (eqb number t.next && leb number greatest_ob
         let parts = and_parts (ltb 0 t.next) (list_all (is_used t.next) t.objects) h in
         let old : good (used number) t.objects ≡ true = subst (λ (n : ℕ). good (used n) t.objects ≡ true) (sym is) parts.1 in
         let later = good_weaker (used number) (used (number + 1)) (used_later number) t.objects old in
-        let here : used (number + 1) number ≡ true = rw (lt-ltb 0 number (omega (arith, is, ltb-true 0 t.next parts.0)), lt-ltb number (number + 1) (omega arith)) refl in
+        let here : used (number + 1) number ≡ true =
+        rw (lt-ltb 0 number (omega (arith, is, ltb-true 0 t.next parts.0)), lt-ltb number (number + 1) (omega arith)) refl in
         rw (lt-ltb 0 (number + 1) (omega arith), good_inserted (used (number + 1)) nat_cmp t.objects number object later here) refl
 
     by : (b : Bool) → (b ≡ true → IsNumbered (record { next = number + 1; objects = insert_entry nat_cmp t.objects number object }))
@@ -136,7 +138,8 @@ pub unlocked_numbers : (t : TableValue) → is_numbered (unlocked_table t) ≡ i
 unlocked_numbers t = ap (λ (b : Bool). nat_lt 0 t.next && b) (list_all-map (is_used t.next) unlocked_entry t.objects)
 
 -- one object more, behind the others
-pub pushed_numbers_stay : (number : ℕ) (object : ObjectValue) (t : TableValue) → CanBeLast number object t → IsNumbered t → IsNumbered (with_last number object t)
+pub pushed_numbers_stay : (number : ℕ) (object : ObjectValue) (t : TableValue) → CanBeLast number object t → IsNumbered t
+    → IsNumbered (with_last number object t)
 pushed_numbers_stay number object t can h =
     let parts = and_parts (ltb 0 t.next) (list_all (is_used t.next) t.objects) h in
     let here : used t.next number ≡ true = rw (lt-ltb 0 number (omega (arith, can.positive)), lt-ltb number t.next can.used) refl in

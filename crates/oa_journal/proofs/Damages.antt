@@ -131,7 +131,8 @@ not_damaged shape head body place library now gate damaged bank = ⊎_elim
     let long = bank_lengths shape head body library now gate rest.0 rest.1 rest.3.has bank in
     let first = bank_first shape head body library now gate rest.0 rest.1 rest.2 rest.3 bank in
     let at : length library + length (table_image bank.first) ≡ rest.0 + rest.1 = omega (arith, long.0, long.1) in
-    none_beyond (body_bytes shape) body (rest.0 + rest.1) rest.4.groups place rest.2 rest.4.now (omega (arith, body_small shape bank.known)) rest.4.there rest.4.makes rest.4.inside rest.4.stops
+    none_beyond (body_bytes shape) body (rest.0 + rest.1) rest.4.groups place rest.2 rest.4.now (omega (arith, body_small shape bank.known)) rest.4.there
+    rest.4.makes rest.4.inside rest.4.stops
     bank.groups now gate (subst (λ (k : ℕ). AreGroups body k bank.groups gate) at bank.parts.behind)
     (subst (λ (t : TableValue). ReplaysAll bank.groups t now) first bank.makes) bank.parts.inside)
     damaged

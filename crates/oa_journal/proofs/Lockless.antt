@@ -56,12 +56,14 @@ event_unlocked e old new is same makes =
     let follows : applied e (unlocked_table old) ≡ made (unlocked_table new) = rw makes at (event_follows e old (brings_none e is)) in
     same_made (unlocked_table new) new (sym follows ∙ ap (applied e) same ∙ makes)
 
-events_unlocked : (es : List Event) (old new : TableValue) → AllByRecursion event.Is es → unlocked_table old ≡ old → applied_all es old ≡ made new → unlocked_table new ≡ new
+events_unlocked : (es : List Event) (old new : TableValue) → AllByRecursion event.Is es → unlocked_table old ≡ old → applied_all es old ≡ made new
+    → unlocked_table new ≡ new
 events_unlocked [] old new all same makes = subst (λ t. unlocked_table t ≡ t) (same_made old new makes) same
 events_unlocked (e ∷ es) old new all same makes = by (applied e old) refl makes (events_unlocked es)
   where
     by : (r : Result TableValue TableFault) → applied e old ≡ r → followed (λ next. applied_all es next) r ≡ made new
-        → ((mid last : TableValue) → AllByRecursion event.Is es → unlocked_table mid ≡ mid → applied_all es mid ≡ made last → unlocked_table last ≡ last) → unlocked_table new ≡ new
+        → ((mid last : TableValue) → AllByRecursion event.Is es → unlocked_table mid ≡ mid → applied_all es mid ≡ made last → unlocked_table last ≡ last)
+        → unlocked_table new ≡ new
     by (Ok mid) is rest next = next mid new all.1 (event_unlocked e old mid all.0 same is) rest
     by (Err fault) is rest next = absurd cc
 

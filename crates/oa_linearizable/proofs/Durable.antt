@@ -31,22 +31,26 @@ holds_opened state c holds =
 
 module _ (turn_begins : (old new : State) (body : List ℕ) (reply : ReplyValue) → CanBegin old → Turn old body reply new → CanBegin new) where
   -- a server can begin behind any legal history
-  failed_begins : (client : ℕ) (brought : Brought) (told : ClientReply) (old new : Shared) → CanBegin old.state → FailsFor client brought told old new → CanBegin new.state
+  failed_begins : (client : ℕ) (brought : Brought) (told : ClientReply) (old new : Shared) → CanBegin old.state → FailsFor client brought told old new
+      → CanBegin new.state
   failed_begins client brought told old new is (inl (same, inl kept)) = subst (λ (s : Shared). CanBegin s.state) (sym kept) is
   failed_begins client brought told old new is (inl (same, inr (other, turn))) = turn_of turn_begins client brought other old new is turn
   failed_begins client brought told old new is (inr (same, kept)) = subst (λ (s : Shared). CanBegin s.state) (sym kept) is
 
-  legal_begins : (f : Bool) (old new : Shared) (order : List (Operation Brought ClientReply)) → CanBegin old.state → IsLegal (the_table f) old order new → CanBegin new.state
+  legal_begins : (f : Bool) (old new : Shared) (order : List (Operation Brought ClientReply)) → CanBegin old.state → IsLegal (the_table f) old order new
+      → CanBegin new.state
   legal_begins f old new [] is legal = subst (λ (s : Shared). CanBegin s.state) (sym legal) is
   legal_begins f old new (one ∷ order) is legal = legal_begins f legal.0 new order (by legal.1) legal.2
     where
-      by : SharedTurnOf one.client one.input one.result old legal.0 ⊎ ((f ≡ true) × FailsFor one.client one.input one.result old legal.0) → CanBegin legal.0.state
+      by : SharedTurnOf one.client one.input one.result old legal.0 ⊎ ((f ≡ true) × FailsFor one.client one.input one.result old legal.0)
+          → CanBegin legal.0.state
       by (inl turn) = turn_of turn_begins one.client one.input one.result old legal.0 is turn
       by (inr fails) = failed_begins one.client one.input one.result old legal.0 is fails.1
 
   module _ (kept : FoundIsKept) (opens : (state : State) → CanBegin state → CanBegin (one_client.opened state)) where
     -- what a recovery finds is the state that is left, without locks
-    found_state : (after next : Shared) (left : List ℕ) → CanBegin after.state → HoldsState shared_machine after left → RecoversState left next → next ≡ opened_shared after
+    found_state : (after next : Shared) (left : List ℕ) → CanBegin after.state → HoldsState shared_machine after left → RecoversState left next
+        → next ≡ opened_shared after
     found_state after next left begins holds finds =
         finds.is ∙ ap (λ (s : State). shared s []) (sym (kept finds.bank finds.library after.state 0 [] left finds.table finds.checked begins.checked
         (record { done = []; later = []; groups_are = refl; enough = omega arith; state = after.state; run = refl; holds = holds }) finds.holds finds.unlocked))
@@ -60,7 +64,8 @@ module _ (turn_begins : (old new : State) (body : List ℕ) (reply : ReplyValue)
       holds = holds;
     }
       where
-        none : (histories : List (History Brought ClientReply)) → AreHistoriesOf {D = D} [] [] histories → IsDurablyLinearizable the_table before [] histories before
+        none : (histories : List (History Brought ClientReply)) → AreHistoriesOf {D = D} [] [] histories
+            → IsDurablyLinearizable the_table before [] histories before
         none [] are = refl
         none (history ∷ histories) are = absurd are
     all_eras {D} {g} law before found (era ∷ eras) begins holds runs =
@@ -77,7 +82,8 @@ module _ (turn_begins : (old new : State) (body : List ℕ) (reply : ReplyValue)
           holds = rest.holds;
         }
       where
-        more : (one : EraIsLinearizable before era) (rest : IsDurable runs.2 era.left eras) → runs.2 ≡ opened_shared one.after → (histories : List (History Brought ClientReply)) → AreHistoriesOf (era ∷ eras) (one.replies ∷ rest.replies) histories
+        more : (one : EraIsLinearizable before era) (rest : IsDurable runs.2 era.left eras) → runs.2 ≡ opened_shared one.after
+            → (histories : List (History Brought ClientReply)) → AreHistoriesOf (era ∷ eras) (one.replies ∷ rest.replies) histories
             → IsDurablyLinearizable the_table before (failed_in (era ∷ eras)) histories rest.after
         more one rest next [] are = absurd are
         more one rest next (history ∷ histories) are = (

@@ -20,7 +20,9 @@ unfolding own of_client inputs_in
 own_inputs client [] = refl
 own_inputs client (Of other brought ∷ asks) = by (other == client) (own_inputs client asks)
   where
-    by : (b : Bool) → own client asks ≡ of_client client (inputs_in asks) → (if b then brought ∷ own client asks else own client asks) ≡ (if b then brought ∷ of_client client (inputs_in asks) else of_client client (inputs_in asks))
+    by : (b : Bool) → own client asks ≡ of_client client (inputs_in asks)
+        → (if b then brought ∷ own client asks else own client asks)
+        ≡ (if b then brought ∷ of_client client (inputs_in asks) else of_client client (inputs_in asks))
     by true rest = ap (λ (l : List Brought). brought ∷ l) rest
     by false rest = rest
 own_inputs client (Flush ∷ asks) = own_inputs client asks
@@ -35,7 +37,8 @@ frames_with_own client other [] = by (other == client)
     by false = refl
 frames_with_own client other (bytes ∷ all) = by (other == client) (frames_with_own client other all)
   where
-    by : (b : Bool) → of_client client (frames_with other all) ≡ (if b then all else []) → (if b then bytes ∷ of_client client (frames_with other all) else of_client client (frames_with other all)) ≡ (if b then bytes ∷ all else [])
+    by : (b : Bool) → of_client client (frames_with other all) ≡ (if b then all else [])
+        → (if b then bytes ∷ of_client client (frames_with other all) else of_client client (frames_with other all)) ≡ (if b then bytes ∷ all else [])
     by true rest = ap (λ (l : List (List ℕ)). bytes ∷ l) rest
     by false rest = rest
 
@@ -48,7 +51,8 @@ reply_frames : (reply : ClientReply) → (all : List (List ℕ)) × (frames_of r
 reply_frames (Replies client reply) = (reply_record reply ∷ [], refl)
 reply_frames (Leaves client why) = (last_reply last_written why ++ [] ∷ [], refl)
 
-reply_heard : (client : ℕ) (reply : ClientReply) → of_client client (frames_of reply) ≡ (if client_of reply == client then map frame_bytes (frames_of reply) else [])
+reply_heard : (client : ℕ) (reply : ClientReply)
+    → of_client client (frames_of reply) ≡ (if client_of reply == client then map frame_bytes (frames_of reply) else [])
 reply_heard client reply =
     let is = reply_frames reply in
     ap (of_client client) is.1 ∙ frames_with_own client (client_of reply) is.0
@@ -63,12 +67,15 @@ frames_heard client (reply ∷ replies) =
     ∙ by (client_of reply == client) (frames_heard client replies)
   where
     by : (b : Bool) → of_client client (all_frames replies) ≡ bytes_told (of_client client (map result_for replies))
-        → (if b then map frame_bytes (frames_of reply) else []) ++ of_client client (all_frames replies) ≡ bytes_told (if b then reply ∷ of_client client (map result_for replies) else of_client client (map result_for replies))
+        → (if b then map frame_bytes (frames_of reply) else []) ++ of_client client (all_frames replies) ≡ bytes_told
+        (if b then reply ∷ of_client client (map result_for replies) else of_client client (map result_for replies))
     by true rest = ap (λ (l : List (List ℕ)). map frame_bytes (frames_of reply) ++ l) rest
     by false rest = rest
 
-pub client_served : (client : ℕ) (asks : List (Tagged Brought)) (frames : List (ℕ × List ℕ)) (replies : List ClientReply) (order : List (Operation Brought ClientReply)) (more : List (ℕ × Brought)) (unheard : List (ℕ × ClientReply))
-    → inputs_in asks ≡ map input_of order ++ more → map result_of order ≡ map result_for replies ++ unheard → frames ≡ all_frames replies → ClientIsServed client asks frames order
+pub client_served : (client : ℕ) (asks : List (Tagged Brought)) (frames : List (ℕ × List ℕ)) (replies : List ClientReply)
+    (order : List (Operation Brought ClientReply)) (more : List (ℕ × Brought)) (unheard : List (ℕ × ClientReply))
+    → inputs_in asks ≡ map input_of order ++ more → map result_of order ≡ map result_for replies ++ unheard → frames ≡ all_frames replies
+    → ClientIsServed client asks frames order
 client_served client asks frames replies order more unheard asked told are =
     let requests = of_first client (map input_of order) (inputs_in asks) (more, asked) in
     record {

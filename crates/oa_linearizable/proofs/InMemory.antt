@@ -39,12 +39,15 @@ none_answered : (before after : Shared) → after ≡ before → Answered before
 unfolding all_told all_frames inputs_in
 none_answered before after same = record { replies = []; frames_are = refl; order = []; legal = same; inputs_are = refl; results_are = refl }
 
-reply_to : (client : ℕ) (brought : Brought) (told : ClientReply) (before after : Shared) → SharedTurnOf client brought told before after → client_of told ≡ client
+reply_to : (client : ℕ) (brought : Brought) (told : ClientReply) (before after : Shared) → SharedTurnOf client brought told before after
+    → client_of told ≡ client
 reply_to client (Body body) told before after one = ap client_of one.told_is
 reply_to client (Ends why) told before after one = ap client_of one.told_is
 
-one_answered : (client : ℕ) (brought : Brought) (told : ClientReply) (frames : List (ℕ × List ℕ)) (before mid after : Shared) (asks : List (Tagged Brought)) (tolds : List (List (ℕ × List ℕ)))
-    → frames ≡ frames_of told → SharedTurnOf client brought told before mid → Answered mid asks tolds after → Answered before (Of client brought ∷ asks) (frames ∷ tolds) after
+one_answered : (client : ℕ) (brought : Brought) (told : ClientReply) (frames : List (ℕ × List ℕ)) (before mid after : Shared) (asks : List (Tagged Brought))
+    (tolds : List (List (ℕ × List ℕ)))
+    → frames ≡ frames_of told → SharedTurnOf client brought told before mid → Answered mid asks tolds after
+    → Answered before (Of client brought ∷ asks) (frames ∷ tolds) after
 unfolding all_told all_frames inputs_in
 one_answered client brought told frames before mid after asks tolds are turn rest = record {
   replies = told ∷ rest.replies;
@@ -52,7 +55,8 @@ one_answered client brought told frames before mid after asks tolds are turn res
   order = record { client = client; input = brought; result = told } ∷ rest.order;
   legal = (mid, inl turn, rest.legal);
   inputs_are = ap (λ (l : List (ℕ × Brought)). (client, brought) ∷ l) rest.inputs_are;
-  results_are = ap (λ (n : ℕ). (n, told) ∷ map result_of rest.order) (sym (reply_to client brought told before mid turn)) ∙ ap (λ (l : List (ℕ × ClientReply)). result_for told ∷ l) rest.results_are;
+  results_are = ap (λ (n : ℕ). (n, told) ∷ map result_of rest.order) (sym (reply_to client brought told before mid turn))
+      ∙ ap (λ (l : List (ℕ × ClientReply)). result_for told ∷ l) rest.results_are;
 }
 
 now_answered : (frames : List (ℕ × List ℕ)) (before mid after : Shared) (asks : List (Tagged Brought)) (tolds : List (List (ℕ × List ℕ)))
@@ -68,20 +72,26 @@ now_answered frames before mid after asks tolds none same rest = record {
 }
 
 module _ {D : Type 0} {g : Ghosts D} (disk : D) where
-  at_memory : (storage : Storage D g) (before : State) (desk : SharedGroup) (ask : Tagged Brought) (frames : List (ℕ × List ℕ)) (new : Storage D g) (after : State) (desk' : SharedGroup)
-      → storage ≡ Memory disk → AsksIn storage before desk ask frames new after desk' → (new ≡ Memory disk) × AnswersInMemory (shared before desk.owners) ask frames (shared after desk'.owners)
+  at_memory : (storage : Storage D g) (before : State) (desk : SharedGroup) (ask : Tagged Brought) (frames : List (ℕ × List ℕ)) (new : Storage D g)
+      (after : State) (desk' : SharedGroup)
+      → storage ≡ Memory disk → AsksIn storage before desk ask frames new after desk' → (new ≡ Memory disk)
+      × AnswersInMemory (shared before desk.owners) ask frames (shared after desk'.owners)
   at_memory (Memory d) before desk ask frames new after desk' is asks = (asks.0 ∙ is, asks.1)
   at_memory (Disk store) before desk ask frames new after desk' is asks = absurd (cc)
 
-  all_answered : (old new : ServerState D g) (asks : List (Tagged Brought)) (tolds : List (List (ℕ × List ℕ))) → old.storage ≡ Memory disk → AllTurned asked_written old asks tolds new
+  all_answered : (old new : ServerState D g) (asks : List (Tagged Brought)) (tolds : List (List (ℕ × List ℕ))) → old.storage ≡ Memory disk
+      → AllTurned asked_written old asks tolds new
       → Answered (shared old.host old.desk.owners) asks tolds (shared new.host new.desk.owners)
-  all_answered old new [] [] is run = none_answered (shared old.host old.desk.owners) (shared new.host new.desk.owners) (ap (λ (e : ServerState D g). shared e.host e.desk.owners) run)
+  all_answered old new [] [] is run = none_answered (shared old.host old.desk.owners) (shared new.host new.desk.owners)
+      (ap (λ (e : ServerState D g). shared e.host e.desk.owners) run)
   all_answered old new (Of client brought ∷ asks) (told ∷ tolds) is run =
       let one = at_memory old.storage old.host old.desk (Of client brought) told run.0.storage run.0.host run.0.desk is run.1 in
-      one_answered client brought one.1.0 told (shared old.host old.desk.owners) (shared run.0.host run.0.desk.owners) (shared new.host new.desk.owners) asks tolds one.1.1 one.1.2 (all_answered run.0 new asks tolds one.0 run.2)
+      one_answered client brought one.1.0 told (shared old.host old.desk.owners) (shared run.0.host run.0.desk.owners)
+      (shared new.host new.desk.owners) asks tolds one.1.1 one.1.2 (all_answered run.0 new asks tolds one.0 run.2)
   all_answered old new (Flush ∷ asks) (told ∷ tolds) is run =
       let one = at_memory old.storage old.host old.desk Flush told run.0.storage run.0.host run.0.desk is run.1 in
-      now_answered told (shared old.host old.desk.owners) (shared run.0.host run.0.desk.owners) (shared new.host new.desk.owners) asks tolds one.1.0 one.1.1 (all_answered run.0 new asks tolds one.0 run.2)
+      now_answered told (shared old.host old.desk.owners) (shared run.0.host run.0.desk.owners) (shared new.host new.desk.owners) asks tolds one.1.0 one.1.1
+      (all_answered run.0 new asks tolds one.0 run.2)
   all_answered old new [] (told ∷ tolds) is run = absurd run
   all_answered old new (Of client brought ∷ asks) [] is run = absurd run
   all_answered old new (Flush ∷ asks) [] is run = absurd run

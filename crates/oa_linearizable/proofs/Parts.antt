@@ -96,7 +96,8 @@ module _ (asked : Exchange ClientReply) (old new : Shared) (one : IsSharedTurn a
       subst (λ (b : List ℕ). SharedTurnOf (client_in b) (brought_by b) asked.reply old new) (sym one.body_is)
       (subst (λ (b : Brought). SharedTurnOf one.client b asked.reply old new) (sym (brought_again one.client one.brought)) one.turn)
 
-pub done_results : (entries : List (Exchange ClientReply)) (old new : Shared) → Trace shared_machine old entries new → map result_of (map done_as entries) ≡ map result_for (map reply_of entries)
+pub done_results : (entries : List (Exchange ClientReply)) (old new : Shared) → Trace shared_machine old entries new
+    → map result_of (map done_as entries) ≡ map result_for (map reply_of entries)
 done_results [] old new run = refl
 done_results (asked ∷ entries) old new run =
     ap (λ (n : ℕ). (n, asked.reply) ∷ map result_of (map done_as entries)) (sym (of_turn asked old run.0 run.1))
@@ -105,27 +106,32 @@ done_results (asked ∷ entries) old new run =
 pub doubted_results : (entries : List (Exchange ClientReply)) → map result_of (map doubted_as entries) ≡ map result_for (map faulted_for entries)
 doubted_results [] = refl
 doubted_results (asked ∷ entries) =
-    ap (λ (n : ℕ). (n, fault_client_reply asked.body) ∷ map result_of (map doubted_as entries)) (sym (told_to_it one_client.fault_reply (client_in asked.body) (brought_by asked.body)))
+    ap (λ (n : ℕ). (n, fault_client_reply asked.body) ∷ map result_of (map doubted_as entries))
+    (sym (told_to_it one_client.fault_reply (client_in asked.body) (brought_by asked.body)))
     ∙ ap (λ (l : List (ℕ × ClientReply)). result_for (fault_client_reply asked.body) ∷ l) (doubted_results entries)
 
 pub refused_results : (bodies : List (List ℕ)) → map result_of (map refused_as bodies) ≡ map result_for (map failed_client_reply bodies)
 refused_results [] = refl
 refused_results (body ∷ bodies) =
-    ap (λ (n : ℕ). (n, failed_client_reply body) ∷ map result_of (map refused_as bodies)) (sym (told_to_it one_client.failed_reply (client_in body) (brought_by body)))
+    ap (λ (n : ℕ). (n, failed_client_reply body) ∷ map result_of (map refused_as bodies))
+    (sym (told_to_it one_client.failed_reply (client_in body) (brought_by body)))
     ∙ ap (λ (l : List (ℕ × ClientReply)). result_for (failed_client_reply body) ∷ l) (refused_results bodies)
 
 -- ---- legal histories
 
-pub legal_two : (f : Bool) (old mid new : Shared) (front back : List (Operation Brought ClientReply)) → IsLegal (the_table f) old front mid → IsLegal (the_table f) mid back new → IsLegal (the_table f) old (front ++ back) new
+pub legal_two : (f : Bool) (old mid new : Shared) (front back : List (Operation Brought ClientReply)) → IsLegal (the_table f) old front mid
+    → IsLegal (the_table f) mid back new → IsLegal (the_table f) old (front ++ back) new
 legal_two f old mid new [] back first second = subst (λ (s : Shared). IsLegal (the_table f) s back new) first second
 legal_two f old mid new (one ∷ front) back first second = (first.0, first.1, legal_two f first.0 mid new front back first.2 second)
 
-pub done_legal : (f : Bool) (old new : Shared) (entries : List (Exchange ClientReply)) → Trace shared_machine old entries new → IsLegal (the_table f) old (map done_as entries) new
+pub done_legal : (f : Bool) (old new : Shared) (entries : List (Exchange ClientReply)) → Trace shared_machine old entries new
+    → IsLegal (the_table f) old (map done_as entries) new
 done_legal f old new [] run = sym run
 done_legal f old new (asked ∷ entries) run = (run.0, inl (table_turn asked old run.0 run.1), done_legal f run.0 new entries run.2)
 
 -- of a group in which the device failed, and which is kept
-pub kept_legal : (old new : Shared) (entries : List (Exchange ClientReply)) → Trace shared_machine old entries new → IsLegal (the_table true) old (map doubted_as entries) new
+pub kept_legal : (old new : Shared) (entries : List (Exchange ClientReply)) → Trace shared_machine old entries new
+    → IsLegal (the_table true) old (map doubted_as entries) new
 kept_legal old new [] run = sym run
 kept_legal old new (asked ∷ entries) run =
     (run.0, inr (refl, inl (refl, inr (asked.reply, table_turn asked old run.0 run.1))), kept_legal run.0 new entries run.2)

@@ -9,7 +9,8 @@ use Rattle.oa_linearizable.specs.promise.Tables.{the_table}
 first_of : {X : Type 0} (xs ys zs : List X) → IsFirstPart xs ys → IsFirstPart ys zs → IsFirstPart xs zs
 first_of {X = X} xs ys zs one two = (one.0 ++ two.0, two.1 ∙ ap (λ (l : List X). l ++ two.0) one.1 ∙ append_assoc xs one.0 two.0)
 
-seen_by : (history seen : History Brought ClientReply) (order : List (Operation Brought ClientReply)) → IsSeenAs history seen → IsLinearizedBy history order → IsLinearizedBy seen order
+seen_by : (history seen : History Brought ClientReply) (order : List (Operation Brought ClientReply)) → IsSeenAs history seen → IsLinearizedBy history order
+    → IsLinearizedBy seen order
 seen_by history seen order is was = record {
   calls = λ client. first_of _ _ _ (was.calls client) (is.arrived client);
   results = λ client. first_of _ _ _ (is.received client) (was.results client);

@@ -17,7 +17,8 @@ long_front front bytes k h = length-append front (take k bytes) ∙ ap (λ n. le
 same_said : (front bytes : List ℕ) (k : ℕ) → k ≤ length bytes → 4 ≤ length front + k → said (front ++ take k bytes) ≡ said (front ++ bytes)
 same_said front bytes k h four =
     let len = long_front front bytes k h in
-    let all : front ++ bytes ≡ (front ++ take k bytes) ++ drop k bytes = ap (λ l. front ++ l) (sym (take-append-drop k bytes)) ∙ sym (append_assoc front (take k bytes) (drop k bytes)) in
+    let all : front ++ bytes ≡ (front ++ take k bytes) ++ drop k bytes = ap (λ l. front ++ l) (sym (take-append-drop k bytes))
+    ∙ sym (append_assoc front (take k bytes) (drop k bytes)) in
     ap (from_le_bytes w32) (sym (ap (take 4) all ∙ take-append-le 4 (front ++ take k bytes) (drop k bytes) (omega (arith, len, four))))
 
 same_front : (front bytes : List ℕ) → 4 ≤ length front → said (front ++ bytes) ≡ said front
@@ -31,7 +32,8 @@ finds_closed n front bytes s four few zero =
     (omega (arith, few), k, (omega (arith, len, few), same_said front bytes (4 - length front) k (omega (arith, few)) ∙ sym s ∙ zero))
 
 pub finds_whole : (n : ℕ) (front bytes : List ℕ) → IsPartRecord front → n ≡ said (front ++ bytes) → 4 ≤ length front + length bytes
-    → ((length front < 4) × (n ≡ 0 → ⊥)) ⊎ (4 ≤ length front) → ((length front < 4) × (n ≤ max_request_bytes)) ⊎ (4 ≤ length front) → 4 + n - length front ≤ length bytes
+    → ((length front < 4) × (n ≡ 0 → ⊥)) ⊎ (4 ≤ length front) → ((length front < 4) × (n ≤ max_request_bytes)) ⊎ (4 ≤ length front)
+    → 4 + n - length front ≤ length bytes
     → FindsEnd (found.Whole (4 + n - length front)) front bytes
 finds_whole n front bytes part s four has fits all = by part
   where

@@ -31,9 +31,11 @@ goes_on : List (Tagged StreamPiece) × FramePlace → List ℕ → List (Tagged 
 goes_on r rest = r.0 ++ pieces_in r.1 rest
 
 head_first : (front : List ℕ) (x : ℕ) (back rest : List ℕ) → length (front ++ x ∷ back) ≡ 8
-    → pieces_in (InHead front) (x ∷ back ++ rest) ≡ (begun (frame_head_of (front ++ x ∷ back))).0 ++ pieces_in (begun (frame_head_of (front ++ x ∷ back))).1 rest
+    → pieces_in (InHead front) (x ∷ back ++ rest) ≡ (begun (frame_head_of (front ++ x ∷ back))).0 ++ pieces_in
+    (begun (frame_head_of (front ++ x ∷ back))).1 rest
 unfolding goes_on
-head_first front x [] rest h = one_byte (InHead front) x rest ∙ ap (λ (r : List (Tagged StreamPiece) × FramePlace). goes_on r rest) (head_whole (front ++ x ∷ []) h)
+head_first front x [] rest h = one_byte (InHead front) x rest ∙ ap (λ (r : List (Tagged StreamPiece) × FramePlace). goes_on r rest)
+    (head_whole (front ++ x ∷ []) h)
 head_first front x (y ∷ ys) rest h =
     let e : (front ++ x ∷ []) ++ y ∷ ys ≡ front ++ x ∷ (y ∷ ys) = append_assoc front (x ∷ []) (y ∷ ys) in
     let len = length-append front (x ∷ (y ∷ ys)) in
@@ -53,7 +55,8 @@ four n = refl
 
 said_back : (client n : ℕ) → client < 2 ^ 32 → n < 2 ^ 32 → frame_head_of (frame_head client n) ≡ headed client n
 said_back client n a b =
-    ap (λ l. headed (from_le_bytes w32 l) (from_le_bytes w32 (drop 4 (frame_head client n)))) (take_at (to_le_bytes w32 client) (to_le_bytes w32 n) 4 (four client))
+    ap (λ l. headed (from_le_bytes w32 l) (from_le_bytes w32 (drop 4 (frame_head client n))))
+    (take_at (to_le_bytes w32 client) (to_le_bytes w32 n) 4 (four client))
     ∙ ap (λ l. headed (from_le_bytes w32 (to_le_bytes w32 client)) (from_le_bytes w32 l)) (drop_at (to_le_bytes w32 client) (to_le_bytes w32 n) 4 (four client))
     ∙ ap (λ k. headed k (from_le_bytes w32 (to_le_bytes w32 n))) (from_le_bytes-to_le_bytes_4 client a)
     ∙ ap (λ k. headed client k) (from_le_bytes-to_le_bytes_4 n b)
@@ -61,11 +64,13 @@ said_back client n a b =
 eight : (client n : ℕ) → length (frame_head client n) ≡ 8
 eight client n = length-append (to_le_bytes w32 client) (to_le_bytes w32 n)
 
-head_read : (client n : ℕ) (rest : List ℕ) → client < 2 ^ 32 → n < 2 ^ 32 → pieces_in (InHead []) (frame_head client n ++ rest) ≡ goes_on (begun (headed client n)) rest
+head_read : (client n : ℕ) (rest : List ℕ) → client < 2 ^ 32 → n < 2 ^ 32 → pieces_in (InHead []) (frame_head client n ++ rest) ≡ goes_on
+    (begun (headed client n)) rest
 head_read client n rest a b = at_head (frame_head client n) rest (eight client n) ∙ ap (λ h. goes_on (begun h) rest) (said_back client n a b)
 
 -- ---- a client's bytes
-bytes_read : (client : ℕ) (bytes rest : List ℕ) → 0 < length bytes → pieces_in (Within client (length bytes)) (bytes ++ rest) ≡ tag_all client (pieces bytes) ++ pieces_in (InHead []) rest
+bytes_read : (client : ℕ) (bytes rest : List ℕ) → 0 < length bytes → pieces_in (Within client (length bytes)) (bytes ++ rest) ≡ tag_all client (pieces bytes)
+    ++ pieces_in (InHead []) rest
 unfolding tag_all pieces
 bytes_read client [] rest some = absurd (omega (arith, some))
 bytes_read client (x ∷ []) rest some = one_byte (Within client 1) x rest
@@ -94,7 +99,8 @@ frame_read client bytes rest other some short =
     ∙ ap (λ h. goes_on (begun h) (bytes ++ rest)) h
     ∙ bytes_read client bytes rest some
 
-pub last_read : (client : ℕ) (rest : List ℕ) → client < all_clients → pieces_in (InHead []) (frame_of client [] ++ rest) ≡ Of client Last ∷ pieces_in (InHead []) rest
+pub last_read : (client : ℕ) (rest : List ℕ) → client < all_clients → pieces_in (InHead []) (frame_of client [] ++ rest) ≡ Of client Last ∷ pieces_in
+    (InHead []) rest
 unfolding goes_on
 last_read client rest other =
     let a = not_all client other in
@@ -127,4 +133,5 @@ cuts client front back rest other a b short =
     frame_read client (front ++ back) rest other (omega (arith, len, a)) (omega (arith, len, short))
     ∙ ap (λ l. l ++ pieces_in (InHead []) rest) (ap (tag_all client) (pieces_more front back) ∙ named_more client (pieces front) (pieces back))
     ∙ append_assoc (tag_all client (pieces front)) (tag_all client (pieces back)) (pieces_in (InHead []) rest)
-    ∙ sym (frame_read client front (frame_of client back ++ rest) other a (omega (arith, short)) ∙ ap (λ l. tag_all client (pieces front) ++ l) (frame_read client back rest other b (omega (arith, short))))
+    ∙ sym (frame_read client front (frame_of client back ++ rest) other a (omega (arith, short))
+    ∙ ap (λ l. tag_all client (pieces front) ++ l) (frame_read client back rest other b (omega (arith, short))))

@@ -33,7 +33,8 @@ module _ {Z : Type 0} (reads : Reads Z) where
   one_step at new other p d c rest true e n s = rw (own_named_same c d (reads at p).0 e, s refl, sym n) refl
   one_step at new other p d c rest false e n s = rw (own_named_other c d (reads at p).0 e) refl
 
-  pub each : (states : States Z) (stream : List (Tagged StreamPiece)) (c : ℕ) → own c (asked_in reads states stream) ≡ brought_in reads (states c) (own c stream)
+  pub each : (states : States Z) (stream : List (Tagged StreamPiece)) (c : ℕ) → own c (asked_in reads states stream) ≡ brought_in reads (states c)
+      (own c stream)
   unfolding asked_in own brought_in
   each states [] c = refl
   each states (Of d p ∷ rest) c =
@@ -50,7 +51,8 @@ module _ {Z : Type 0} (reads : Reads Z) where
   pub at_self : (c : ℕ) (at : Z) (states : States Z) → with_state_at c at states c ≡ at
   at_self c at states = let e = eq-eqb c c refl in rw e refl
 
-  pub barrier : (states : States Z) (c : ℕ) (stream : List StreamPiece) → asked_in reads states (tag_all c stream) ≡ tag_all c (brought_in reads (states c) stream)
+  pub barrier : (states : States Z) (c : ℕ) (stream : List StreamPiece) → asked_in reads states (tag_all c stream) ≡ tag_all c
+      (brought_in reads (states c) stream)
   unfolding asked_in brought_in tag_all
   barrier states c [] = refl
   barrier states c (p ∷ ps) =

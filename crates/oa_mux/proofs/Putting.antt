@@ -18,7 +18,8 @@ module _ (client count : ℕ) (head fields : List ℕ) (some : 0 < length head) 
   whole = sym (ap (λ l. frame_head client (length l) ++ l) (framed head some) ∙ ap (λ n. frame_head client n ++ records.spelled (head ++ fields)) long)
 
   -- what stands before the second stretch, and that
-  pub laid_out : (n : ℕ) → n ≡ length head + length fields → ((frame_head client (4 + n) ++ to_le_bytes w32 n) ++ head) ++ fields ≡ spelled_frame (client, head ++ fields)
+  pub laid_out : (n : ℕ) → n ≡ length head + length fields → ((frame_head client (4 + n) ++ to_le_bytes w32 n) ++ head) ++ fields ≡ spelled_frame
+      (client, head ++ fields)
   laid_out n e =
       let all = length-append head fields in
       let same : n ≡ length (head ++ fields) = omega (arith, all, e) in

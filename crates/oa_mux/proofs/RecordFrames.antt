@@ -1,5 +1,6 @@
 -- A frame that brings one whole record of a client that stands between two.
-use Rattle.std.proofs.Common.{◌≡◌, ◌⊎◌, inl, inr, ◌≤◌, ◌<◌, ℕ, ◌+◌, ◌-◌, Bool, true, false, List, [], ◌∷◌, ◌++◌, length, take, drop, Some, take-take, refl, sym, ap, ◌∙◌, subst, arith, true≢false}
+use Rattle.std.proofs.Common.{◌≡◌, ◌⊎◌, inl, inr, ◌≤◌, ◌<◌, ℕ, ◌+◌, ◌-◌, Bool, true, false, List, [], ◌∷◌, ◌++◌, length, take, drop, Some, take-take, refl}
+use Rattle.std.proofs.Common.{sym, ap, ◌∙◌, subst, arith, true≢false}
 use Rattle.std.specs.Prelude.{slice_range, nat_lt, if◌then◌else◌, ◌==◌}
 use Rattle.std.specs.Int.{w32, from_le_bytes}
 use Rattle.std.proofs.Math.Seq.{take-add}
@@ -19,7 +20,8 @@ use Rattle.oa_mux.proofs.Taking.{asks_then, at_head, begins_plain, broken_asks, 
 
 -- ---- a head of a client's bytes says that they are few
 is_short : (all none long : Bool) (client n c m : ℕ)
-    → (if all then (if none then head.Flush else head.Unknown) else if none then head.Last client else if long then head.Unknown else head.Bytes client n) ≡ head.Bytes c m → long ≡ false
+    → (if all then (if none then head.Flush else head.Unknown) else if none then head.Last client else if long then head.Unknown else head.Bytes client n)
+    ≡ head.Bytes c m → long ≡ false
 is_short true true long client n c m e = cc
 is_short true false long client n c m e = cc
 is_short false true long client n c m e = cc
@@ -27,7 +29,8 @@ is_short false false true client n c m e = cc
 is_short false false false client n c m e = refl
 
 is_said : (all none long : Bool) (client n c m : ℕ)
-    → (if all then (if none then head.Flush else head.Unknown) else if none then head.Last client else if long then head.Unknown else head.Bytes client n) ≡ head.Bytes c m → n ≡ m
+    → (if all then (if none then head.Flush else head.Unknown) else if none then head.Last client else if long then head.Unknown else head.Bytes client n)
+    ≡ head.Bytes c m → n ≡ m
 is_said true true long client n c m e = cc
 is_said true false long client n c m e = cc
 is_said false true long client n c m e = cc
@@ -44,10 +47,12 @@ head_short : (bytes : List ℕ) (c m : ℕ) → frame_head_of bytes ≡ head.Byt
 head_short bytes c m e =
     let client : ℕ = from_le_bytes w32 (take 4 bytes) in
     let n : ℕ = from_le_bytes w32 (drop 4 bytes) in
-    few n m (is_said (client == all_clients) (n == 0) (nat_lt max_frame_bytes n) client n c m e) (is_short (client == all_clients) (n == 0) (nat_lt max_frame_bytes n) client n c m e) (cases_lt max_frame_bytes n)
+    few n m (is_said (client == all_clients) (n == 0) (nat_lt max_frame_bytes n) client n c m e)
+    (is_short (client == all_clients) (n == 0) (nat_lt max_frame_bytes n) client n c m e) (cases_lt max_frame_bytes n)
 
 -- ---- the frame, by what is read of it
-pub is_record_frame : (bytes front rest len : List ℕ) (client count n : ℕ) → front ≡ take 8 bytes → rest ≡ drop 8 bytes → len ≡ take 4 rest → head.Bytes client count ≡ frame_head_of front → n ≡ from_le_bytes w32 len
+pub is_record_frame : (bytes front rest len : List ℕ) (client count n : ℕ) → front ≡ take 8 bytes → rest ≡ drop 8 bytes → len ≡ take 4 rest
+    → head.Bytes client count ≡ frame_head_of front → n ≡ from_le_bytes w32 len
     → 0 < n → count ≡ 4 + n → count ≤ length rest → length rest + 8 ≡ length bytes → IsRecordFrame bytes client (8 + count)
 is_record_frame bytes front rest len client count n a b c d e some is inside all =
     let behind : 8 + count - 8 ≡ count = omega arith in
@@ -60,11 +65,17 @@ is_record_frame bytes front rest len client count n a b c d e some is inside all
       some = omega (arith, is, some);
       within = omega (arith, inside, all);
       says = says ∙ ap (head.Bytes client) (sym behind);
-      whole = subst IsWholeRecord (sym here) (record { some = omega (arith, length_said, some); short = omega (arith, length_said, is, short); all = omega (arith, long, length_said, is) });
+      whole =
+          subst IsWholeRecord (sym here) (record {
+            some = omega (arith, length_said, some);
+            short = omega (arith, length_said, is, short);
+            all = omega (arith, long, length_said, is);
+          });
     }
 
 -- ---- what it brings
-module _ (old : SharedState) (bytes : List ℕ) (client count : ℕ) (at : old.place ≡ InHead []) (between : client_state old.clients client ≡ Some (Held [])) (f : IsRecordFrame bytes client count) where
+module _ (old : SharedState) (bytes : List ℕ) (client count : ℕ) (at : old.place ≡ InHead []) (between : client_state old.clients client ≡ Some (Held []))
+    (f : IsRecordFrame bytes client count) where
   abbrev mid : SharedState
   mid = record { place = Within client (count - 8); clients = old.clients }
 
@@ -82,14 +93,16 @@ module _ (old : SharedState) (bytes : List ℕ) (client count : ℕ) (at : old.p
       (subst (λ (h : FrameHead). Begins h mid [] mid) (sym f.says) (begins_plain (head.Bytes client (count - 8)) mid mid [] refl refl refl refl))
 
   record_brings : ClientBrings (client_state old.clients client) part (Body (drop 4 part) ∷ []) (client_state old.clients client)
-  record_brings = let s = f.some in subst (λ z. ClientBrings z part (Body (drop 4 part) ∷ []) z) (sym between) (whole_at [] part (omega (arith, long, s)) f.whole)
+  record_brings = let s = f.some in subst (λ z. ClientBrings z part (Body (drop 4 part) ∷ []) z) (sym between)
+      (whole_at [] part (omega (arith, long, s)) f.whole)
 
   record_taken : Demultiplexes mid part (Of client (Body (drop 4 part)) ∷ []) old
   unfolding tag_all
   record_taken =
       let s = f.some in
       let none : count - 8 - length part ≡ 0 = omega (arith, long) in
-      within_asks mid old client (count - 8) part (Body (drop 4 part) ∷ []) refl (omega (arith, long, s)) (omega (arith, long)) record_brings (λ other apart. refl) (at ∙ ap (place_left client) (sym none))
+      within_asks mid old client (count - 8) part (Body (drop 4 part) ∷ []) refl (omega (arith, long, s)) (omega (arith, long)) record_brings
+      (λ other apart. refl) (at ∙ ap (place_left client) (sym none))
 
   body_is : drop 4 part ≡ slice_range bytes 12 count
   body_is =
@@ -108,12 +121,14 @@ module _ (old : SharedState) (bytes : List ℕ) (client count : ℕ) (at : old.p
     some = f.some;
     within = f.within;
     apart = subst (λ b. Demultiplexes old (take count bytes) (Of client (Body b) ∷ []) old) body_is
-        (subst (λ l. Demultiplexes old l (Of client (Body (drop 4 part)) ∷ []) old) all_is (asks_then old mid old (take 8 bytes) part [] (Of client (Body (drop 4 part)) ∷ []) head_taken record_taken));
+        (subst (λ l. Demultiplexes old l (Of client (Body (drop 4 part)) ∷ []) old) all_is
+        (asks_then old mid old (take 8 bytes) part [] (Of client (Body (drop 4 part)) ∷ []) head_taken record_taken));
   }
 
 -- as the stream is kept
 pub kept_brings : (old : SharedState) (clients : List (ℕ × ClientState)) (broken : Bool) (left number have : ℕ) (front bytes : List ℕ) (client count : ℕ)
-    → record { place = frame_place broken left number have front; clients = clients } ≡ old → broken ≡ false → left ≡ 0 → have ≡ 0 → client_state clients client ≡ Some (Held []) → IsRecordFrame bytes client count → BringsRecord old bytes client count
+    → record { place = frame_place broken left number have front; clients = clients } ≡ old → broken ≡ false → left ≡ 0 → have ≡ 0
+    → client_state clients client ≡ Some (Held []) → IsRecordFrame bytes client count → BringsRecord old bytes client count
 kept_brings old clients broken left number have front bytes client count is well none empty between f =
     brings_record old bytes client count
     (sym (ap (λ (s : SharedState). s.place) is) ∙ at_head broken left number have front well none ∙ ap (λ n. InHead (take n front)) empty)
@@ -126,7 +141,8 @@ some_front streams bytes client count b =
     omega (arith, some, len)
 
 -- behind a head that says nothing it would bring nothing
-pub record_stops : (streams : SharedState) (bytes : List ℕ) (client count : ℕ) → BringsRecord streams bytes client count → StopsAtUnknown streams.place (take count bytes)
+pub record_stops : (streams : SharedState) (bytes : List ℕ) (client count : ℕ) → BringsRecord streams bytes client count
+    → StopsAtUnknown streams.place (take count bytes)
 record_stops streams bytes client count b = by (reads_nothing streams.place) refl
   where
     by : (t : Bool) → reads_nothing streams.place ≡ t → StopsAtUnknown streams.place (take count bytes)

@@ -1,5 +1,6 @@
 -- What the bytes of one client bring, record by record.
-use Rattle.std.proofs.Common.{◌≡◌, ◌⊎◌, ◌≤◌, ◌<◌, ℕ, ◌+◌, true, false, List, [], ◌∷◌, ◌++◌, length, drop, Option, Some, None, refl, sym, ap, ◌∙◌, subst, inl, inr, arith}
+use Rattle.std.proofs.Common.{◌≡◌, ◌⊎◌, ◌≤◌, ◌<◌, ℕ, ◌+◌, true, false, List, [], ◌∷◌, ◌++◌, length, drop, Option, Some, None, refl, sym, ap, ◌∙◌, subst, inl}
+use Rattle.std.proofs.Common.{inr, arith}
 use Rattle.std.specs.Prelude.{nat_lt, ◌==◌}
 use Rattle.std.proofs.lemmas.Bool.{cases_lt, eq-eqb}
 use Rattle.std.proofs.lemmas.List.{append-nil, append_assoc, length-append, take-append-le}
@@ -114,7 +115,8 @@ end_four WriteFault bytes e = absurd e
 
 -- ---- pieces one after another
 module _ {Z : Type 0} (reads : Reads Z) where
-  pub brought_append : (at : Z) (ps qs : List StreamPiece) → brought_in reads at (ps ++ qs) ≡ brought_in reads at ps ++ brought_in reads (after_pieces reads at ps) qs
+  pub brought_append : (at : Z) (ps qs : List StreamPiece) → brought_in reads at (ps ++ qs) ≡ brought_in reads at ps ++ brought_in reads
+      (after_pieces reads at ps) qs
   unfolding brought_in after_pieces
   brought_append at [] qs = refl
   brought_append at (p ∷ ps) qs =
@@ -147,23 +149,28 @@ brings_part front [] p = subst (λ l. ClientBrings (Some (Held front)) [] [] (So
 brings_part front (y ∷ ys) p =
     let q : IsPartRecord ((front ++ y ∷ []) ++ ys) = subst IsPartRecord (sym (regroup front y ys)) p in
     subst (λ l. ClientBrings (Some (Held front)) (y ∷ ys) [] (Some (Held l))) (regroup front y ys)
-    (one_more front y ys [] [] (Some (Held (front ++ y ∷ []))) _ (part (front ++ y ∷ []) (front_part (front ++ y ∷ []) ys q)) (brings_part (front ++ y ∷ []) ys q))
+    (one_more front y ys [] [] (Some (Held (front ++ y ∷ []))) _ (part (front ++ y ∷ []) (front_part (front ++ y ∷ []) ys q))
+    (brings_part (front ++ y ∷ []) ys q))
 
 pub brings_whole : (front : List ℕ) (y : ℕ) (ys : List ℕ) → IsWholeRecord (front ++ y ∷ ys)
     → ClientBrings (Some (Held front)) (y ∷ ys) (Body (drop 4 (front ++ y ∷ ys)) ∷ []) (Some (Held []))
-brings_whole front y [] w = one_more front y [] (Body (drop 4 (front ++ y ∷ [])) ∷ []) [] (Some (Held [])) (Some (Held [])) (whole (front ++ y ∷ []) w) (none_more (Some (Held [])))
+brings_whole front y [] w = one_more front y [] (Body (drop 4 (front ++ y ∷ [])) ∷ []) [] (Some (Held [])) (Some (Held [])) (whole (front ++ y ∷ []) w)
+    (none_more (Some (Held [])))
 brings_whole front y (z ∷ zs) w =
     let e = regroup front y (z ∷ zs) in
     let v : IsWholeRecord ((front ++ y ∷ []) ++ z ∷ zs) = subst IsWholeRecord (sym e) w in
     subst (λ l. ClientBrings (Some (Held front)) (y ∷ (z ∷ zs)) (Body (drop 4 l) ∷ []) (Some (Held []))) e
-    (one_more front y (z ∷ zs) [] (Body (drop 4 ((front ++ y ∷ []) ++ z ∷ zs)) ∷ []) (Some (Held (front ++ y ∷ []))) _ (part (front ++ y ∷ []) (front_whole (front ++ y ∷ []) z zs v))
+    (one_more front y (z ∷ zs) [] (Body (drop 4 ((front ++ y ∷ []) ++ z ∷ zs)) ∷ []) (Some (Held (front ++ y ∷ []))) _
+    (part (front ++ y ∷ []) (front_whole (front ++ y ∷ []) z zs v))
     (brings_whole (front ++ y ∷ []) z zs v))
 
-pub brings_end : (why : End) (front : List ℕ) (y : ℕ) (ys : List ℕ) → IsEnd why (front ++ y ∷ ys) → ClientBrings (Some (Held front)) (y ∷ ys) (Ends why ∷ []) (Some Over)
+pub brings_end : (why : End) (front : List ℕ) (y : ℕ) (ys : List ℕ) → IsEnd why (front ++ y ∷ ys) → ClientBrings (Some (Held front)) (y ∷ ys) (Ends why ∷ [])
+    (Some Over)
 brings_end why front y [] e = one_more front y [] (Ends why ∷ []) [] (Some Over) (Some Over) (stop why (front ++ y ∷ []) e) (none_more (Some Over))
 brings_end why front y (z ∷ zs) e =
     let f : IsEnd why ((front ++ y ∷ []) ++ z ∷ zs) = subst (IsEnd why) (sym (regroup front y (z ∷ zs))) e in
-    one_more front y (z ∷ zs) [] (Ends why ∷ []) (Some (Held (front ++ y ∷ []))) _ (few (front ++ y ∷ []) (front_four (front ++ y ∷ []) z zs (end_four why ((front ++ y ∷ []) ++ z ∷ zs) f)))
+    one_more front y (z ∷ zs) [] (Ends why ∷ []) (Some (Held (front ++ y ∷ []))) _
+    (few (front ++ y ∷ []) (front_four (front ++ y ∷ []) z zs (end_four why ((front ++ y ∷ []) ++ z ∷ zs) f)))
     (brings_end why (front ++ y ∷ []) z zs f)
 
 pub brings_over : (ys : List ℕ) → ClientBrings (Some Over) ys [] (Some Over)
@@ -172,7 +179,8 @@ brings_over [] = record { brought = refl; after = refl }
 brings_over (y ∷ ys) = let b = brings_over ys in record { brought = b.brought; after = b.after }
 
 -- a client that was not there is as one that has sent nothing yet
-pub from_none : (ys : List ℕ) (all : List Brought) (new : Option ClientState) → 0 < length ys → ClientBrings (Some (Held [])) ys all new → ClientBrings None ys all new
+pub from_none : (ys : List ℕ) (all : List Brought) (new : Option ClientState) → 0 < length ys → ClientBrings (Some (Held [])) ys all new
+    → ClientBrings None ys all new
 unfolding brought_in after_pieces pieces records_of
 from_none [] all new some b = absurd (omega (arith, some))
 from_none (y ∷ ys) all new some b = record { brought = b.brought; after = b.after }

@@ -1,5 +1,6 @@
 -- What a client brings is what a session of its own would have read.
-use Rattle.std.proofs.Common.{◌≡◌, ◌⊎◌, ◌≤◌, ◌<◌, ℕ, zero, suc, ◌+◌, List, [], ◌∷◌, ◌++◌, length, take, drop, Option, Some, None, refl, sym, ap, ◌∙◌, inl, inr, arith}
+use Rattle.std.proofs.Common.{◌≡◌, ◌⊎◌, ◌≤◌, ◌<◌, ℕ, zero, suc, ◌+◌, List, [], ◌∷◌, ◌++◌, length, take, drop, Option, Some, None, refl, sym, ap, ◌∙◌, inl}
+use Rattle.std.proofs.Common.{inr, arith}
 use Rattle.std.proofs.Common.{map}
 use Rattle.std.proofs.lemmas.Bool.{cases_lt}
 use Rattle.std.proofs.lemmas.List.{append-nil, append_assoc, length-append, length-drop, length-take-le, take_at, drop_at, take-append-drop}
@@ -20,7 +21,8 @@ use Rattle.oa_mux.proofs.Records.{brings_end, brings_over, brings_part, brings_w
 brought_to_end : Option ClientState → List ℕ → List Brought
 brought_to_end at bytes = brought_in records_of at (pieces bytes ++ Last ∷ [])
 
-after_bytes : (at new : Option ClientState) (xs ys : List ℕ) (all : List Brought) → ClientBrings at xs all new → brought_to_end at (xs ++ ys) ≡ all ++ brought_to_end new ys
+after_bytes : (at new : Option ClientState) (xs ys : List ℕ) (all : List Brought) → ClientBrings at xs all new
+    → brought_to_end at (xs ++ ys) ≡ all ++ brought_to_end new ys
 unfolding brought_to_end
 after_bytes at new xs ys all b =
     ap (brought_in records_of at) (ap (λ l. l ++ Last ∷ []) (pieces_append xs ys) ∙ append_assoc (pieces xs) (pieces ys) (Last ∷ []))
@@ -46,7 +48,8 @@ nothing_yet = Some (Held [])
 -- a part of a record is all
 part_all : (bytes : List ℕ) → IsPartRecord bytes → brought_to_end nothing_yet bytes ≡ ended bytes ∷ []
 unfolding nothing_yet
-part_all bytes p = ap (brought_to_end (Some (Held []))) (sym (append-nil bytes)) ∙ after_bytes (Some (Held [])) (Some (Held bytes)) bytes [] [] (brings_part [] bytes p) ∙ at_last bytes
+part_all bytes p = ap (brought_to_end (Some (Held []))) (sym (append-nil bytes)) ∙ after_bytes (Some (Held [])) (Some (Held bytes)) bytes [] []
+    (brings_part [] bytes p) ∙ at_last bytes
 
 some_cut : (bytes : List ℕ) → 0 < length bytes → ended bytes ≡ Ends Cut
 some_cut [] h = absurd (omega (arith, h))
@@ -56,7 +59,8 @@ some_cut (x ∷ xs) h = refl
 end_first : (why : End) (bytes rest : List ℕ) → IsEnd why bytes → 0 < length bytes → brought_to_end nothing_yet (bytes ++ rest) ≡ Ends why ∷ []
 unfolding nothing_yet
 end_first why [] rest e some = absurd (omega (arith, some))
-end_first why (y ∷ ys) rest e some = after_bytes (Some (Held [])) (Some Over) (y ∷ ys) rest (Ends why ∷ []) (brings_end why [] y ys e) ∙ ap (λ l. Ends why ∷ l) (over_all rest)
+end_first why (y ∷ ys) rest e some = after_bytes (Some (Held [])) (Some Over) (y ∷ ys) rest (Ends why ∷ []) (brings_end why [] y ys e)
+    ∙ ap (λ l. Ends why ∷ l) (over_all rest)
 
 said_first : (head more : List ℕ) (n : ℕ) → SaysLength head n → said (head ++ more) ≡ n
 said_first head more n s = ap (from_le_bytes w32) (take_at head more 4 s.four) ∙ s.says
@@ -103,7 +107,11 @@ one_body bytes body rest n =
     let short = n.short in
     let four = n.says.four in
     let len = length-append n.head body in
-    let w : IsWholeRecord (n.head ++ body) = record { some = omega (arith, says, some); short = omega (arith, says, short); all = omega (arith, says, four, len) } in
+    let w : IsWholeRecord (n.head ++ body) = record {
+      some = omega (arith, says, some);
+      short = omega (arith, says, short);
+      all = omega (arith, says, four, len);
+    } in
     ap (brought_to_end nothing_yet) (n.whole ∙ sym (append_assoc n.head body rest))
     ∙ whole_first (n.head ++ body) rest w
     ∙ ap (λ l. Body l ∷ brought_to_end nothing_yet rest) (drop_at n.head body 4 four)
@@ -168,7 +176,8 @@ headed_some bytes head more n h =
     let len : length bytes ≡ length head + length more = ap length h.whole ∙ length-append head more in
     omega (arith, four, len)
 
-next_of : (bytes head more : List ℕ) (n : ℕ) → Headed bytes head more n → 0 < n → n ≤ max_request_bytes → n ≤ length more → NextRecord bytes (take n more) (drop n more)
+next_of : (bytes head more : List ℕ) (n : ℕ) → Headed bytes head more n → 0 < n → n ≤ max_request_bytes → n ≤ length more
+    → NextRecord bytes (take n more) (drop n more)
 next_of bytes head more n h some short all =
     let len = length-take-le n more all in record {
       head = head;
@@ -181,8 +190,10 @@ next_of bytes head more n h some short all =
 -- where four bytes say a length, and what follows is read
 sized : (bytes : List ℕ) (n : ℕ) → Headed bytes (take 4 bytes) (drop 4 bytes) n → (n < 1) ⊎ (1 ≤ n) → (max_request_bytes < n) ⊎ (n ≤ max_request_bytes)
     → (length (drop 4 bytes) < n) ⊎ (n ≤ length (drop 4 bytes)) → ((rest : List ℕ) → length rest < length bytes → Reading rest) → Reading bytes
-sized bytes n d (inl none) long all next = stopped Closed bytes (drop 4 bytes) (inr (record { head = take 4 bytes; n = n; says = d.says; is = omega (arith, none); whole = d.whole })) closed_fair
-sized bytes n d (inr some) (inl long) all next = stopped TooLong bytes (drop 4 bytes) (record { head = take 4 bytes; n = n; says = d.says; is = long; whole = d.whole }) long_fair
+sized bytes n d (inl none) long all next =
+    stopped Closed bytes (drop 4 bytes) (inr (record { head = take 4 bytes; n = n; says = d.says; is = omega (arith, none); whole = d.whole })) closed_fair
+sized bytes n d (inr some) (inl long) all next =
+    stopped TooLong bytes (drop 4 bytes) (record { head = take 4 bytes; n = n; says = d.says; is = long; whole = d.whole }) long_fair
 sized bytes n d (inr some) (inr short) (inl less) next = stopped Cut bytes [] (record {
   nothing = refl;
   some = headed_some bytes (take 4 bytes) (drop 4 bytes) n d;
@@ -198,12 +209,14 @@ sized bytes n d (inr some) (inr short) (inr all) next =
 four_or_less : (bytes : List ℕ) → (length bytes < 4) ⊎ (4 ≤ length bytes) → ((rest : List ℕ) → length rest < length bytes → Reading rest) → Reading bytes
 four_or_less bytes (inl few) next = short_one bytes few
 four_or_less bytes (inr four) next =
-    let d : Headed bytes (take 4 bytes) (drop 4 bytes) (said bytes) = record { says = record { four = length-take-le 4 bytes four; says = refl }; whole = sym (take-append-drop 4 bytes) } in
+    let d : Headed bytes (take 4 bytes) (drop 4 bytes)
+    (said bytes) = record { says = record { four = length-take-le 4 bytes four; says = refl }; whole = sym (take-append-drop 4 bytes) } in
     sized bytes (said bytes) d (cases_lt (said bytes) 1) (cases_lt max_request_bytes (said bytes)) (cases_lt (length (drop 4 bytes)) (said bytes)) next
 
 reading : (fuel : ℕ) (bytes : List ℕ) → length bytes ≤ fuel → Reading bytes
 reading zero bytes h = short_one bytes (omega (arith, h))
 reading (suc fuel) bytes h = four_or_less bytes (cases_lt (length bytes) 4) (λ rest less. reading fuel rest (omega (arith, h, less)))
 
-pub each_is_read : (bytes : List ℕ) → (bodies : List (List ℕ)) × (why : End) × (rest : List ℕ) × ReadTo records (At why) bodies bytes rest × (why ≡ ReadFault → ⊥)
+pub each_is_read : (bytes : List ℕ) → (bodies : List (List ℕ)) × (why : End) × (rest : List ℕ) × ReadTo records (At why) bodies bytes rest
+    × (why ≡ ReadFault → ⊥)
 each_is_read bytes = let r = reading (length bytes) bytes (omega arith) in (r.bodies, r.why, r.rest, r.read, r.fair)

@@ -1,5 +1,6 @@
 -- What the first bytes of frames bring, as the frames are taken apart.
-use Rattle.std.proofs.Common.{◌≡◌, ◌⊎◌, ◌≤◌, ◌<◌, ℕ, ◌+◌, ◌-◌, Bool, true, false, List, [], ◌∷◌, ◌++◌, length, take, take-take, min, Option, refl, sym, ap, ◌∙◌, subst, inl, inr, arith, eqb, true≢false}
+use Rattle.std.proofs.Common.{◌≡◌, ◌⊎◌, ◌≤◌, ◌<◌, ℕ, ◌+◌, ◌-◌, Bool, true, false, List, [], ◌∷◌, ◌++◌, length, take, take-take, min, Option, refl, sym, ap}
+use Rattle.std.proofs.Common.{◌∙◌, subst, inl, inr, arith, eqb, true≢false}
 use Rattle.std.specs.Prelude.{nat_lt, if◌then◌else◌, ◌==◌}
 use Rattle.std.proofs.lemmas.Bool.{cases_lt, eq-eqb, eqb-true}
 use Rattle.std.proofs.lemmas.List.{append-nil, append_assoc, length-append, length-take-le, take_all}
@@ -121,7 +122,8 @@ in_head_part front (x ∷ xs) h =
 
 in_head_whole : (front : List ℕ) (x : ℕ) (xs : List ℕ) → length (front ++ x ∷ xs) ≡ 8 → both (InHead front) (x ∷ xs) ≡ begun (frame_head_of (front ++ x ∷ xs))
 unfolding both
-in_head_whole front x [] h = both_first (InHead front) x [] ∙ ap (λ (r : List (Tagged StreamPiece) × FramePlace). goes r []) (head_whole (front ++ x ∷ []) h) ∙ goes_none (begun (frame_head_of (front ++ x ∷ [])))
+in_head_whole front x [] h = both_first (InHead front) x [] ∙ ap (λ (r : List (Tagged StreamPiece) × FramePlace). goes r []) (head_whole (front ++ x ∷ []) h)
+    ∙ goes_none (begun (frame_head_of (front ++ x ∷ [])))
 in_head_whole front x (y ∷ ys) h =
     let e : (front ++ x ∷ []) ++ y ∷ ys ≡ front ++ x ∷ (y ∷ ys) = append_assoc front (x ∷ []) (y ∷ ys) in
     let len = length-append front (x ∷ (y ∷ ys)) in
@@ -139,14 +141,16 @@ module _ {Z : Type 0} (reads : Reads Z) where
       by true e = rw e (ap states (sym (eqb-true client other e)))
       by false e = rw e refl
 
-  put_twice : (client other : ℕ) (a b : Z) (states : States Z) → with_state_at client a (with_state_at client b states) other ≡ with_state_at client a states other
+  put_twice : (client other : ℕ) (a b : Z) (states : States Z) → with_state_at client a (with_state_at client b states) other
+      ≡ with_state_at client a states other
   put_twice client other a b states = by (eqb client other) refl
     where
       by : (t : Bool) → eqb client other ≡ t → with_state_at client a (with_state_at client b states) other ≡ with_state_at client a states other
       by true e = rw e refl
       by false e = rw e refl
 
-  named_behind : (states : States Z) (client : ℕ) (ps : List StreamPiece) (other : ℕ) → states_behind reads states (tag_all client ps) other ≡ with_state_at client (after_pieces reads (states client) ps) states other
+  named_behind : (states : States Z) (client : ℕ) (ps : List StreamPiece) (other : ℕ)
+      → states_behind reads states (tag_all client ps) other ≡ with_state_at client (after_pieces reads (states client) ps) states other
   unfolding states_behind tag_all after_pieces
   named_behind states client [] other = same_put client other states
   named_behind states client (p ∷ ps) other =
@@ -155,7 +159,8 @@ module _ {Z : Type 0} (reads : Reads Z) where
       ∙ ap (λ (w : Z). with_state_at client (after_pieces reads w ps) (with_state_at client z states) other) (at_self reads client z states)
       ∙ put_twice client other (after_pieces reads z ps) z states
 
-state_put : (client : ℕ) (old new : List (ℕ × ClientState)) (at : Option ClientState) (other : ℕ) → at ≡ client_state new client → OthersStay client old new → with_state_at client at (client_state old) other ≡ client_state new other
+state_put : (client : ℕ) (old new : List (ℕ × ClientState)) (at : Option ClientState) (other : ℕ) → at ≡ client_state new client → OthersStay client old new
+    → with_state_at client at (client_state old) other ≡ client_state new other
 state_put client old new at other is stay = by (eqb client other) refl
   where
     by : (b : Bool) → eqb client other ≡ b → with_state_at client at (client_state old) other ≡ client_state new other
@@ -163,11 +168,13 @@ state_put client old new at other is stay = by (eqb client other) refl
     by false e = rw e (sym (stay other (λ same. true≢false (sym (eq-eqb client other same) ∙ e))))
 
 -- ---- what is taken
-no_asks : (place : FramePlace) (old new : SharedState) → old.place ≡ place → new.place ≡ place → ((client : ℕ) → client_state old.clients client ≡ client_state new.clients client) → Demultiplexes old [] [] new
+no_asks : (place : FramePlace) (old new : SharedState) → old.place ≡ place → new.place ≡ place
+    → ((client : ℕ) → client_state old.clients client ≡ client_state new.clients client) → Demultiplexes old [] [] new
 unfolding asked_in states_behind pieces_in place_behind
 no_asks place old new a b s = record { brought = refl; place = a ∙ sym b; states = s }
 
-pub nothing_asked : (old new : SharedState) → new.place ≡ old.place → ((client : ℕ) → client_state new.clients client ≡ client_state old.clients client) → Demultiplexes old [] [] new
+pub nothing_asked : (old new : SharedState) → new.place ≡ old.place → ((client : ℕ) → client_state new.clients client ≡ client_state old.clients client)
+    → Demultiplexes old [] [] new
 nothing_asked old new b s = no_asks old.place old new refl b (λ client. sym (s client))
 
 pub broken_asks : (old : SharedState) (bytes : List ℕ) → old.place ≡ Broken → Demultiplexes old bytes [] old
@@ -180,12 +187,15 @@ broken_asks old bytes is =
     }
 
 pub within_asks : (old new : SharedState) (client n : ℕ) (part : List ℕ) (all : List Brought) → old.place ≡ Within client n → 0 < length part → length part ≤ n
-    → ClientBrings (client_state old.clients client) part all (client_state new.clients client) → OthersStay client old.clients new.clients → new.place ≡ place_left client (n - length part)
+    → ClientBrings (client_state old.clients client) part all (client_state new.clients client) → OthersStay client old.clients new.clients
+    → new.place ≡ place_left client (n - length part)
     → Demultiplexes old part (tag_all client all) new
 within_asks old new client n [] all is some short b stay to = absurd (omega (arith, some))
 within_asks old new client n (x ∷ xs) all is some short b stay to =
-    let items : pieces_in old.place (x ∷ xs) ≡ tag_all client (pieces (x ∷ xs)) = ap (λ p. pieces_in p (x ∷ xs)) is ∙ within_items client n (x ∷ xs) short in record {
-      brought = ap (asked_in records_of (client_state old.clients)) items ∙ barrier records_of (client_state old.clients) client (pieces (x ∷ xs)) ∙ ap (tag_all client) b.brought;
+    let items : pieces_in old.place (x ∷ xs) ≡ tag_all client (pieces (x ∷ xs)) = ap (λ p. pieces_in p (x ∷ xs)) is ∙ within_items client n (x ∷ xs) short in
+    record {
+      brought = ap (asked_in records_of (client_state old.clients)) items ∙ barrier records_of (client_state old.clients) client (pieces (x ∷ xs))
+          ∙ ap (tag_all client) b.brought;
       place = ap (λ p. place_behind p (x ∷ xs)) is ∙ within_place client n x xs short ∙ sym to;
       states = λ other.
           ap (λ l. states_behind records_of (client_state old.clients) l other) items
@@ -204,14 +214,16 @@ part_asks old new front bytes is short to same =
       states = λ client. ap (λ l. states_behind records_of (client_state old.clients) l client) none ∙ sym (same client);
     }
 
-pub whole_asks : (old mid new : SharedState) (front bytes : List ℕ) (all : List (Tagged Brought)) → old.place ≡ InHead front → 0 < length bytes → length (front ++ bytes) ≡ 8 → mid.clients ≡ old.clients
+pub whole_asks : (old mid new : SharedState) (front bytes : List ℕ) (all : List (Tagged Brought)) → old.place ≡ InHead front → 0 < length bytes
+    → length (front ++ bytes) ≡ 8 → mid.clients ≡ old.clients
     → Begins (frame_head_of (front ++ bytes)) mid all new → Demultiplexes old bytes all new
 unfolding both
 whole_asks old mid new front [] all is some eight same b = absurd (omega (arith, some))
 whole_asks old mid new front (x ∷ xs) all is some eight same b =
     let r = in_head_whole front x xs eight in
     let items : pieces_in old.place (x ∷ xs) ≡ (begun (frame_head_of (front ++ x ∷ xs))).0 = ap (λ p. pieces_in p (x ∷ xs)) is ∙ taken_items r in record {
-      brought = ap (asked_in records_of (client_state old.clients)) items ∙ ap (λ c. asked_in records_of (client_state c) (begun (frame_head_of (front ++ x ∷ xs))).0) (sym same) ∙ b.brought;
+      brought = ap (asked_in records_of (client_state old.clients)) items
+          ∙ ap (λ c. asked_in records_of (client_state c) (begun (frame_head_of (front ++ x ∷ xs))).0) (sym same) ∙ b.brought;
       place = ap (λ p. place_behind p (x ∷ xs)) is ∙ taken_place r ∙ sym b.place;
       states = λ client.
           ap (λ l. states_behind records_of (client_state old.clients) l client) items
@@ -219,14 +231,17 @@ whole_asks old mid new front (x ∷ xs) all is some eight same b =
           ∙ b.states client;
     }
   where
-    taken_items : both (InHead front) (x ∷ xs) ≡ begun (frame_head_of (front ++ x ∷ xs)) → pieces_in (InHead front) (x ∷ xs) ≡ (begun (frame_head_of (front ++ x ∷ xs))).0
+    taken_items : both (InHead front) (x ∷ xs) ≡ begun (frame_head_of (front ++ x ∷ xs))
+        → pieces_in (InHead front) (x ∷ xs) ≡ (begun (frame_head_of (front ++ x ∷ xs))).0
     taken_items r = ap (λ (b : List (Tagged StreamPiece) × FramePlace). b.0) r
 
-    taken_place : both (InHead front) (x ∷ xs) ≡ begun (frame_head_of (front ++ x ∷ xs)) → place_behind (InHead front) (x ∷ xs) ≡ (begun (frame_head_of (front ++ x ∷ xs))).1
+    taken_place : both (InHead front) (x ∷ xs) ≡ begun (frame_head_of (front ++ x ∷ xs))
+        → place_behind (InHead front) (x ∷ xs) ≡ (begun (frame_head_of (front ++ x ∷ xs))).1
     taken_place r = ap (λ (b : List (Tagged StreamPiece) × FramePlace). b.1) r
 
 -- ---- behind a head
-pub begins_plain : (h : FrameHead) (old new : SharedState) (all : List (Tagged Brought)) → (begun h).0 ≡ [] → all ≡ [] → new.place ≡ (begun h).1 → new.clients ≡ old.clients → Begins h old all new
+pub begins_plain : (h : FrameHead) (old new : SharedState) (all : List (Tagged Brought)) → (begun h).0 ≡ [] → all ≡ [] → new.place ≡ (begun h).1
+    → new.clients ≡ old.clients → Begins h old all new
 unfolding asked_in states_behind
 begins_plain h old new all none is to same = record {
   brought = ap (asked_in records_of (client_state old.clients)) none ∙ sym is;
@@ -238,13 +253,17 @@ pub begins_now : (old new : SharedState) → new.place ≡ InHead [] → new.cli
 unfolding asked_in states_behind
 begins_now old new to same = record { brought = refl; place = to; states = λ client. ap (λ c. client_state c client) (sym same) }
 
-pub begins_last : (client : ℕ) (result : Option End) (old new : SharedState) (all : List (Tagged Brought)) → new.place ≡ InHead [] → all ≡ tag_all client (brought_last result)
-    → EndsWith result (client_state old.clients client) (client_state new.clients client) → OthersStay client old.clients new.clients → Begins (head.Last client) old all new
+pub begins_last : (client : ℕ) (result : Option End) (old new : SharedState) (all : List (Tagged Brought)) → new.place ≡ InHead []
+    → all ≡ tag_all client (brought_last result)
+    → EndsWith result (client_state old.clients client) (client_state new.clients client) → OthersStay client old.clients new.clients
+    → Begins (head.Last client) old all new
 unfolding asked_in states_behind
 begins_last client result old new all to is ends stay = record {
-  brought = append-nil (tag_all client (records_of (client_state old.clients client) Last).0) ∙ ap (λ (r : List Brought × Option ClientState). tag_all client r.0) ends ∙ sym is;
+  brought = append-nil (tag_all client (records_of (client_state old.clients client) Last).0)
+      ∙ ap (λ (r : List Brought × Option ClientState). tag_all client r.0) ends ∙ sym is;
   place = to;
-  states = λ other. state_put client old.clients new.clients (records_of (client_state old.clients client) Last).1 other (ap (λ (r : List Brought × Option ClientState). r.1) ends) stay;
+  states = λ other. state_put client old.clients new.clients (records_of (client_state old.clients client) Last).1 other
+      (ap (λ (r : List Brought × Option ClientState). r.1) ends) stay;
 }
 
 -- ---- what is kept of a place
@@ -256,7 +275,8 @@ kept_head false left client have bytes is = by (left == 0) refl
     by true e = (refl, eqb-true left 0 e)
     by false e = absurd (subst IsHeads (ap (λ b. if b then InHead (take have bytes) else Within client left) e) is)
 
-pub kept_client : (broken : Bool) (left client have : ℕ) (bytes : List ℕ) → IsClients (frame_place broken left client have bytes) → (broken ≡ false) × (0 < left)
+pub kept_client : (broken : Bool) (left client have : ℕ) (bytes : List ℕ) → IsClients (frame_place broken left client have bytes) → (broken ≡ false)
+    × (0 < left)
 kept_client true left client have bytes is = absurd is
 kept_client false left client have bytes is = by (left == 0) refl
   where
@@ -264,12 +284,14 @@ kept_client false left client have bytes is = by (left == 0) refl
     by true e = absurd (subst IsClients (ap (λ b. if b then InHead (take have bytes) else Within client left) e) is)
     by false e = (refl, search (arith, e))
 
-pub at_client : (broken : Bool) (left client have : ℕ) (bytes : List ℕ) → broken ≡ false → 0 < left → frame_place broken left client have bytes ≡ Within client left
+pub at_client : (broken : Bool) (left client have : ℕ) (bytes : List ℕ) → broken ≡ false → 0 < left
+    → frame_place broken left client have bytes ≡ Within client left
 at_client broken left client have bytes e some =
     let a : (left == 0) ≡ false = search (arith, some) in
     rw (e, a) refl
 
-pub at_head : (broken : Bool) (left client have : ℕ) (bytes : List ℕ) → broken ≡ false → left ≡ 0 → frame_place broken left client have bytes ≡ InHead (take have bytes)
+pub at_head : (broken : Bool) (left client have : ℕ) (bytes : List ℕ) → broken ≡ false → left ≡ 0 → frame_place broken left client have bytes ≡ InHead
+    (take have bytes)
 at_head broken left client have bytes e none =
     let a = eq-eqb left 0 none in
     rw (e, a) refl
@@ -278,7 +300,8 @@ pub at_broken : (broken : Bool) (left client have : ℕ) (bytes : List ℕ) → 
 at_broken broken left client have bytes e = rw e refl
 
 -- behind some of the bytes of a client's frame
-pub at_left : (broken : Bool) (left client have : ℕ) (bytes : List ℕ) → broken ≡ false → have ≡ 0 → frame_place broken left client have bytes ≡ place_left client left
+pub at_left : (broken : Bool) (left client have : ℕ) (bytes : List ℕ) → broken ≡ false → have ≡ 0
+    → frame_place broken left client have bytes ≡ place_left client left
 at_left broken left client have bytes e none = rw (e, none) refl
 
 pub kept_open : (broken : Bool) (left client have : ℕ) (bytes : List ℕ) → broken ≡ false → reads_nothing (frame_place broken left client have bytes) ≡ false
@@ -327,13 +350,15 @@ head_stops front (x ∷ (y ∷ ys)) h =
           (head_stops (front ++ x ∷ []) (y ∷ ys) (subst (λ (l : List ℕ). length l ≤ 8) (sym e) h)),
     )
 
-tells_open : (it : DemuxItem) (at : FramePlace) (bytes : List ℕ) → reads_nothing at ≡ false → is_unknown it ≡ reads_nothing (place_behind at bytes) → StopsAtUnknown at bytes → TellsUnknown it at bytes
+tells_open : (it : DemuxItem) (at : FramePlace) (bytes : List ℕ) → reads_nothing at ≡ false → is_unknown it ≡ reads_nothing (place_behind at bytes)
+    → StopsAtUnknown at bytes → TellsUnknown it at bytes
 tells_open it at bytes clear is stops = record {
   told = is ∙ sym (ap (λ (b : Bool). if b then false else reads_nothing (place_behind at bytes)) clear);
   stops = λ o. stops;
 }
 
-tells_known : (it : DemuxItem) (old new : SharedState) (bytes : List ℕ) (all : List (Tagged Brought)) → reads_nothing old.place ≡ false → reads_nothing new.place ≡ false → is_unknown it ≡ false → Demultiplexes old bytes all new
+tells_known : (it : DemuxItem) (old new : SharedState) (bytes : List ℕ) (all : List (Tagged Brought)) → reads_nothing old.place ≡ false
+    → reads_nothing new.place ≡ false → is_unknown it ≡ false → Demultiplexes old bytes all new
     → TellsUnknown it old.place bytes
 tells_known it old new bytes all clear clear' known t =
     let after_pieces = ap reads_nothing t.place ∙ clear' in
@@ -359,7 +384,8 @@ taken_some taken things.Nothing all t h = omega (arith, t, h)
 taken_some taken (things.Body r) all t h = t.0
 taken_some taken (things.Ends why) all t h = t.0
 
-module _ (old : SharedState) (clients : List (ℕ × ClientState)) (broken : Bool) (left client have : ℕ) (bytes : List ℕ) (is : record { place = frame_place broken left client have bytes; clients = clients } ≡ old) where
+module _ (old : SharedState) (clients : List (ℕ × ClientState)) (broken : Bool) (left client have : ℕ) (bytes : List ℕ)
+    (is : record { place = frame_place broken left client have bytes; clients = clients } ≡ old) where
   place_is : frame_place broken left client have bytes ≡ old.place
   place_is = ap (λ (s : SharedState). s.place) is
 
@@ -383,36 +409,49 @@ module _ (old : SharedState) (clients : List (ℕ × ClientState)) (broken : Boo
       let len = length-take-le count more few in
       let len' = length-take-le have bytes (omega (arith, eight, short)) in
       let all = length-append (take have bytes) (take count more) in
-      part_asks old (record { place = frame_place broken left client (have + count) filled; clients = clients }) (take have bytes) (take count more) (head_is h) (omega (arith, all, len, len', short))
-      (at_head broken left client (have + count) filled k.0 k.1 ∙ ap InHead (ap (λ n. take (have + n) filled) (sym len) ∙ fill)) (λ c. ap (λ cs. client_state cs c) clients_are)
+      part_asks old (record { place = frame_place broken left client (have + count) filled; clients = clients }) (take have bytes) (take count more) (head_is h)
+      (omega (arith, all, len, len', short))
+      (at_head broken left client (have + count) filled k.0 k.1 ∙ ap InHead (ap (λ n. take (have + n) filled) (sym len) ∙ fill))
+      (λ c. ap (λ cs. client_state cs c) clients_are)
 
-  pub part_tells : (filled more : List ℕ) (count : ℕ) → IsHeads old.place → Demultiplexes old (take count more) [] (record { place = frame_place broken left client (have + count) filled; clients = clients })
+  pub part_tells : (filled more : List ℕ) (count : ℕ) → IsHeads old.place
+      → Demultiplexes old (take count more) [] (record { place = frame_place broken left client (have + count) filled; clients = clients })
       → TellsUnknown arrival.Nothing old.place (take count more)
   part_tells filled more count h t =
       let k = kept_head broken left client have bytes (subst IsHeads (sym place_is) h) in
-      tells_known arrival.Nothing old (record { place = frame_place broken left client (have + count) filled; clients = clients }) (take count more) [] (heads_open old.place h) (kept_open broken left client (have + count) filled k.0) refl t
+      tells_known arrival.Nothing old (record { place = frame_place broken left client (have + count) filled; clients = clients }) (take count more) []
+      (heads_open old.place h) (kept_open broken left client (have + count) filled k.0) refl t
 
-  pub whole_taken : (filled more : List ℕ) (count : ℕ) (h : FrameHead) (all : List (Tagged Brought)) (mid new : SharedState) → IsHeads old.place → length bytes ≡ 8 → length filled ≡ 8 → have < 8 → count ≤ length more
-      → have + count ≡ 8 → take (have + length (take count more)) filled ≡ take have bytes ++ take count more → h ≡ frame_head_of filled → mid.clients ≡ clients → Begins h mid all new → Demultiplexes old (take count more) all new
+  pub whole_taken : (filled more : List ℕ) (count : ℕ) (h : FrameHead) (all : List (Tagged Brought)) (mid new : SharedState) → IsHeads old.place
+      → length bytes ≡ 8 → length filled ≡ 8 → have < 8 → count ≤ length more
+      → have + count ≡ 8 → take (have + length (take count more)) filled ≡ take have bytes ++ take count more → h ≡ frame_head_of filled → mid.clients ≡ clients
+      → Begins h mid all new → Demultiplexes old (take count more) all new
   whole_taken filled more count h all mid new heads eight eight' under few sum fill is_head same b =
       let len = length-take-le count more few in
       let len' = length-take-le have bytes (omega (arith, eight, under)) in
       let total = length-append (take have bytes) (take count more) in
-      let full : filled ≡ take have bytes ++ take count more = sym (take_all (have + length (take count more)) filled (omega (arith, len, sum, eight'))) ∙ fill in
-      whole_asks old mid new (take have bytes) (take count more) all (head_is heads) (omega (arith, len, sum, under)) (omega (arith, total, len, len', sum)) (same ∙ clients_are)
+      let full : filled ≡ take have bytes ++ take count more = sym (take_all (have + length (take count more)) filled (omega (arith, len, sum, eight')))
+      ∙ fill in
+      whole_asks old mid new (take have bytes) (take count more) all (head_is heads) (omega (arith, len, sum, under)) (omega (arith, total, len, len', sum))
+      (same ∙ clients_are)
       (subst (λ (g : FrameHead). Begins g mid all new) (is_head ∙ ap frame_head_of full) b)
 
-  pub whole_tells : (it : DemuxItem) (more : List ℕ) (count : ℕ) (h : FrameHead) (all all' : List (Tagged Brought)) (mid new : SharedState) → IsHeads old.place → length bytes ≡ 8 → have < 8 → count ≤ length more → have + count ≡ 8
-      → is_unknown it ≡ reads_nothing (begun h).1 → Begins h mid all' new → Demultiplexes old (take count more) all new → TellsUnknown it old.place (take count more)
+  pub whole_tells : (it : DemuxItem) (more : List ℕ) (count : ℕ) (h : FrameHead) (all all' : List (Tagged Brought)) (mid new : SharedState) → IsHeads old.place
+      → length bytes ≡ 8 → have < 8 → count ≤ length more → have + count ≡ 8
+      → is_unknown it ≡ reads_nothing (begun h).1 → Begins h mid all' new → Demultiplexes old (take count more) all new
+      → TellsUnknown it old.place (take count more)
   whole_tells it more count h all all' mid new heads eight under few sum told b t =
       let len = length-take-le count more few in
       let len' = length-take-le have bytes (omega (arith, eight, under)) in
       let total = length-append (take have bytes) (take count more) in
       tells_open it old.place (take count more) (heads_open old.place heads) (told ∙ ap reads_nothing (sym b.place) ∙ ap reads_nothing (sym t.place))
-      (subst (λ (p : FramePlace). StopsAtUnknown p (take count more)) (sym (head_is heads)) (head_stops (take have bytes) (take count more) (omega (arith, total, len, len', sum))))
+      (subst (λ (p : FramePlace). StopsAtUnknown p (take count more)) (sym (head_is heads))
+      (head_stops (take have bytes) (take count more) (omega (arith, total, len, len', sum))))
 
-  pub within_taken : (clients' : List (ℕ × ClientState)) (more : List ℕ) (most taken : ℕ) (what : ClientItem) (all : List (Tagged Brought)) → IsClients old.place → 0 < length more → most ≡ min (length more) left → Takes taken what (length (take most more))
-      → ClientBrings (client_state clients client) (take taken (take most more)) (brought what) (client_state clients' client) → OthersStay client clients clients' → all ≡ tag_all client (brought what)
+  pub within_taken : (clients' : List (ℕ × ClientState)) (more : List ℕ) (most taken : ℕ) (what : ClientItem) (all : List (Tagged Brought))
+      → IsClients old.place → 0 < length more → most ≡ min (length more) left → Takes taken what (length (take most more))
+      → ClientBrings (client_state clients client) (take taken (take most more)) (brought what) (client_state clients' client)
+      → OthersStay client clients clients' → all ≡ tag_all client (brought what)
       → Demultiplexes old (take taken more) all (record { place = frame_place broken (left - taken) client 0 bytes; clients = clients' })
   within_taken clients' more most taken what all cs some m t b stay named_are =
       let k = kept_client broken left client have bytes (subst IsClients (sym place_is) cs) in
@@ -425,22 +464,27 @@ module _ (old : SharedState) (clients : List (ℕ × ClientState)) (broken : Boo
       let low = taken_some taken what (length (take most more)) t (omega (arith, len, first)) in
       let part : take taken (take most more) ≡ take taken more = take_less taken most more (omega (arith, up, len)) in
       let long = length-take-le taken more (omega (arith, up, len, inside)) in
-      let b' = subst (λ cs. ClientBrings (client_state cs client) (take taken more) (brought what) (client_state clients' client)) clients_are (subst (λ l. ClientBrings (client_state clients client) l (brought what) (client_state clients' client)) part b) in
+      let b' = subst (λ cs. ClientBrings (client_state cs client) (take taken more) (brought what) (client_state clients' client)) clients_are
+      (subst (λ l. ClientBrings (client_state clients client) l (brought what) (client_state clients' client)) part b) in
       let stay' = subst (λ cs. OthersStay client cs clients') clients_are stay in
-      subst (λ l. Demultiplexes old (take taken more) l (record { place = frame_place broken (left - taken) client 0 bytes; clients = clients' })) (sym named_are)
+      subst (λ l. Demultiplexes old (take taken more) l (record { place = frame_place broken (left - taken) client 0 bytes; clients = clients' }))
+      (sym named_are)
       (within_asks old (record { place = frame_place broken (left - taken) client 0 bytes; clients = clients' }) client left (take taken more) (brought what)
       (sym place_is ∙ at_client broken left client have bytes k.0 k.1) (omega (arith, long, low)) (omega (arith, long, up, len, fits)) b' stay'
       (at_left broken (left - taken) client 0 bytes k.0 refl ∙ ap (λ n. place_left client (left - n)) (sym long)))
 
-  pub within_tells : (it : DemuxItem) (clients' : List (ℕ × ClientState)) (part : List ℕ) (taken : ℕ) (all : List (Tagged Brought)) → IsClients old.place → is_unknown it ≡ false
+  pub within_tells : (it : DemuxItem) (clients' : List (ℕ × ClientState)) (part : List ℕ) (taken : ℕ) (all : List (Tagged Brought)) → IsClients old.place
+      → is_unknown it ≡ false
       → Demultiplexes old part all (record { place = frame_place broken (left - taken) client 0 bytes; clients = clients' }) → TellsUnknown it old.place part
   within_tells it clients' part taken all cs known t =
       let k = kept_client broken left client have bytes (subst IsClients (sym place_is) cs) in
-      tells_known it old (record { place = frame_place broken (left - taken) client 0 bytes; clients = clients' }) part all (clients_open old.place cs) (kept_open broken (left - taken) client 0 bytes k.0) known t
+      tells_known it old (record { place = frame_place broken (left - taken) client 0 bytes; clients = clients' }) part all (clients_open old.place cs)
+      (kept_open broken (left - taken) client 0 bytes k.0) known t
 
   pub nothing_taken : (clients' : List (ℕ × ClientState)) → client_state clients' client ≡ client_state clients client → OthersStay client clients clients'
       → Demultiplexes old [] [] (record { place = frame_place broken left client have bytes; clients = clients' })
-  nothing_taken clients' same stay = nothing_asked old (record { place = frame_place broken left client have bytes; clients = clients' }) place_is (λ other. by other (eqb client other) refl ∙ ap (λ cs. client_state cs other) clients_are)
+  nothing_taken clients' same stay = nothing_asked old (record { place = frame_place broken left client have bytes; clients = clients' }) place_is
+      (λ other. by other (eqb client other) refl ∙ ap (λ cs. client_state cs other) clients_are)
     where
       by : (other : ℕ) (b : Bool) → eqb client other ≡ b → client_state clients' other ≡ client_state clients other
       by other true e = let is_same = eqb-true client other e in ap (client_state clients') (sym is_same) ∙ same ∙ ap (client_state clients) is_same
@@ -452,15 +496,18 @@ module _ (old : SharedState) (clients : List (ℕ × ClientState)) (broken : Boo
       let k = kept_head broken left client have bytes (subst IsHeads (sym at ∙ sym place_is) tt) in
       let n : 0 < count = subst SaysSome e some in
       subst (λ (g : FrameHead). Begins g old [] (record { place = frame_place broken count number have bytes; clients = clients })) (sym e)
-      (begins_plain (head.Bytes number count) old (record { place = frame_place broken count number have bytes; clients = clients }) [] refl refl (at_client broken count number have bytes k.0 n) clients_are)
+      (begins_plain (head.Bytes number count) old (record { place = frame_place broken count number have bytes; clients = clients }) [] refl refl
+      (at_client broken count number have bytes k.0 n) clients_are)
 
-  pub begun_last : (h : FrameHead) (number : ℕ) (result : Option End) (all : List (Tagged Brought)) (clients' : List (ℕ × ClientState)) → old.place ≡ InHead [] → h ≡ head.Last number → all ≡ tag_all number (brought_last result)
+  pub begun_last : (h : FrameHead) (number : ℕ) (result : Option End) (all : List (Tagged Brought)) (clients' : List (ℕ × ClientState)) → old.place ≡ InHead []
+      → h ≡ head.Last number → all ≡ tag_all number (brought_last result)
       → EndsWith result (client_state clients number) (client_state clients' number) → OthersStay number clients clients'
       → Begins h old all (record { place = frame_place broken left client have bytes; clients = clients' })
   begun_last h number result all clients' at e is_all ends stay =
       subst (λ (g : FrameHead). Begins g old all (record { place = frame_place broken left client have bytes; clients = clients' })) (sym e)
       (begins_last number result old (record { place = frame_place broken left client have bytes; clients = clients' }) all (place_is ∙ at) is_all
-      (subst (λ cs. EndsWith result (client_state cs number) (client_state clients' number)) clients_are ends) (subst (λ cs. OthersStay number cs clients') clients_are stay))
+      (subst (λ cs. EndsWith result (client_state cs number) (client_state clients' number)) clients_are ends)
+      (subst (λ cs. OthersStay number cs clients') clients_are stay))
 
   pub begun_now : (h : FrameHead) → old.place ≡ InHead [] → h ≡ head.Flush → Begins h old (Flush ∷ []) old
   begun_now h at e = subst (λ (g : FrameHead). Begins g old (Flush ∷ []) old) (sym e) (begins_now old old at refl)
@@ -493,7 +540,8 @@ unfolding StopsAtUnknown
 stops_none at = tt
 
 module _ {Z : Type 0} (reads : Reads Z) where
-  asked_append : (states : States Z) (ps qs : List (Tagged StreamPiece)) → asked_in reads states (ps ++ qs) ≡ asked_in reads states ps ++ asked_in reads (states_behind reads states ps) qs
+  asked_append : (states : States Z) (ps qs : List (Tagged StreamPiece)) → asked_in reads states (ps ++ qs) ≡ asked_in reads states ps ++ asked_in reads
+      (states_behind reads states ps) qs
   unfolding asked_in states_behind
   asked_append states [] qs = refl
   asked_append states (Of client p ∷ ps) qs =
@@ -502,13 +550,15 @@ module _ {Z : Type 0} (reads : Reads Z) where
       (asked_in reads (states_behind reads (with_state_at client (reads (states client) p).1 states) ps) qs))
   asked_append states (Flush ∷ ps) qs = ap (λ l. Flush ∷ l) (asked_append states ps qs)
 
-  behind_append : (states : States Z) (ps qs : List (Tagged StreamPiece)) (c : ℕ) → states_behind reads states (ps ++ qs) c ≡ states_behind reads (states_behind reads states ps) qs c
+  behind_append : (states : States Z) (ps qs : List (Tagged StreamPiece)) (c : ℕ) → states_behind reads states (ps ++ qs) c ≡ states_behind reads
+      (states_behind reads states ps) qs c
   unfolding states_behind
   behind_append states [] qs c = refl
   behind_append states (Of client p ∷ ps) qs c = behind_append (with_state_at client (reads (states client) p).1 states) ps qs c
   behind_append states (Flush ∷ ps) qs c = behind_append states ps qs c
 
-  put_alike : (client : ℕ) (a b : Z) (one two : States Z) → a ≡ b → ((c : ℕ) → one c ≡ two c) → (c : ℕ) → with_state_at client a one c ≡ with_state_at client b two c
+  put_alike : (client : ℕ) (a b : Z) (one two : States Z) → a ≡ b → ((c : ℕ) → one c ≡ two c) → (c : ℕ)
+      → with_state_at client a one c ≡ with_state_at client b two c
   put_alike client a b one two e same c = by (eqb client c) refl
     where
       by : (t : Bool) → eqb client c ≡ t → with_state_at client a one c ≡ with_state_at client b two c
@@ -523,24 +573,30 @@ module _ {Z : Type 0} (reads : Reads Z) where
       let e = same client in
       ap (λ (z : Z). tag_all client (reads z p).0 ++ asked_in reads (with_state_at client (reads (one client) p).1 one) ps) e
       ∙ ap (λ l. tag_all client (reads (two client) p).0 ++ l)
-      (asked_alike (with_state_at client (reads (one client) p).1 one) (with_state_at client (reads (two client) p).1 two) ps (put_alike client _ _ one two (ap (λ (z : Z). (reads z p).1) e) same))
+      (asked_alike (with_state_at client (reads (one client) p).1 one) (with_state_at client (reads (two client) p).1 two) ps
+      (put_alike client _ _ one two (ap (λ (z : Z). (reads z p).1) e) same))
   asked_alike one two (Flush ∷ ps) same = ap (λ l. Flush ∷ l) (asked_alike one two ps same)
 
-  behind_alike : (one two : States Z) (ps : List (Tagged StreamPiece)) → ((c : ℕ) → one c ≡ two c) → (c : ℕ) → states_behind reads one ps c ≡ states_behind reads two ps c
+  behind_alike : (one two : States Z) (ps : List (Tagged StreamPiece)) → ((c : ℕ) → one c ≡ two c) → (c : ℕ)
+      → states_behind reads one ps c ≡ states_behind reads two ps c
   unfolding states_behind
   behind_alike one two [] same c = same c
   behind_alike one two (Of client p ∷ ps) same c =
-      behind_alike (with_state_at client (reads (one client) p).1 one) (with_state_at client (reads (two client) p).1 two) ps (put_alike client _ _ one two (ap (λ (z : Z). (reads z p).1) (same client)) same) c
+      behind_alike (with_state_at client (reads (one client) p).1 one) (with_state_at client (reads (two client) p).1 two) ps
+      (put_alike client _ _ one two (ap (λ (z : Z). (reads z p).1) (same client)) same) c
   behind_alike one two (Flush ∷ ps) same c = behind_alike one two ps same c
 
-pub asks_then : (old mid new : SharedState) (xs ys : List ℕ) (before after : List (Tagged Brought)) → Demultiplexes old xs before mid → Demultiplexes mid ys after new → Demultiplexes old (xs ++ ys) (before ++ after) new
+pub asks_then : (old mid new : SharedState) (xs ys : List ℕ) (before after : List (Tagged Brought)) → Demultiplexes old xs before mid
+    → Demultiplexes mid ys after new → Demultiplexes old (xs ++ ys) (before ++ after) new
 asks_then old mid new xs ys before after a b =
     let start = client_state old.clients in
-    let items : pieces_in old.place (xs ++ ys) ≡ pieces_in old.place xs ++ pieces_in mid.place ys = items_append old.place xs ys ∙ ap (λ p. pieces_in old.place xs ++ pieces_in p ys) a.place in record {
+    let items : pieces_in old.place (xs ++ ys) ≡ pieces_in old.place xs ++ pieces_in mid.place ys = items_append old.place xs ys
+    ∙ ap (λ p. pieces_in old.place xs ++ pieces_in p ys) a.place in record {
       brought = ap (asked_in records_of start) items
           ∙ asked_append records_of start (pieces_in old.place xs) (pieces_in mid.place ys)
           ∙ ap (λ l. l ++ asked_in records_of (states_behind records_of start (pieces_in old.place xs)) (pieces_in mid.place ys)) a.brought
-          ∙ ap (λ l. before ++ l) (asked_alike records_of (states_behind records_of start (pieces_in old.place xs)) (client_state mid.clients) (pieces_in mid.place ys) a.states ∙ b.brought);
+          ∙ ap (λ l. before ++ l) (asked_alike records_of (states_behind records_of start (pieces_in old.place xs)) (client_state mid.clients)
+          (pieces_in mid.place ys) a.states ∙ b.brought);
       place = place_append old.place xs ys ∙ ap (λ p. place_behind p ys) a.place ∙ b.place;
       states = λ c.
           ap (λ l. states_behind records_of start l c) items

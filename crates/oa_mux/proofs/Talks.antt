@@ -1,5 +1,6 @@
 -- A session of many clients, part by part.
-use Rattle.std.proofs.Common.{◌≡◌, ◌⊎◌, inl, inr, ℕ, ◌+◌, ◌<◌, ◌≤◌, Bool, true, false, List, [], ◌∷◌, ◌++◌, length, take, Option, Some, None, Result, Ok, Err, IsErr, refl, sym, ap, ◌∙◌, subst, arith}
+use Rattle.std.proofs.Common.{◌≡◌, ◌⊎◌, inl, inr, ℕ, ◌+◌, ◌<◌, ◌≤◌, Bool, true, false, List, [], ◌∷◌, ◌++◌, length, take, Option, Some, None, Result, Ok, Err}
+use Rattle.std.proofs.Common.{IsErr, refl, sym, ap, ◌∙◌, subst, arith}
 use Rattle.std.proofs.lemmas.Bool.{false≢true}
 use Rattle.std.specs.Prelude.{if◌then◌else◌}
 use Rattle.std.proofs.lemmas.List.{append-nil, append_assoc, length-append, length-take-le}
@@ -39,7 +40,8 @@ use Rattle.oa_mux.proofs.Tellings.{as_ends, loses_then, told_nothing, told_quiet
 pub parted_append : (barrier : List ℕ → Bool) (ps qs : List (Tagged Brought)) → parted barrier (ps ++ qs) ≡ parted barrier ps ++ parted barrier qs
 unfolding parted
 parted_append barrier [] qs = refl
-parted_append barrier (a ∷ ps) qs = ap (λ l. parting barrier a ++ a ∷ l) (parted_append barrier ps qs) ∙ sym (append_assoc (parting barrier a) (a ∷ parted barrier ps) (parted barrier qs))
+parted_append barrier (a ∷ ps) qs = ap (λ l. parting barrier a ++ a ∷ l) (parted_append barrier ps qs)
+    ∙ sym (append_assoc (parting barrier a) (a ∷ parted barrier ps) (parted barrier qs))
 
 pub parted_none : (barrier : List ℕ → Bool) → parted barrier [] ≡ []
 unfolding parted
@@ -49,7 +51,8 @@ parted_none barrier = refl
 pub later_then : (m n a b c : ℕ) → b ≡ later m a → c ≡ later n b → c ≡ later (m + n) a
 later_then m n a b c e f = omega (arith, e, f)
 
-pub stops_on : (from mid : SharedState) (xs ys : List ℕ) (asked : List (Tagged Brought)) → Demultiplexes from xs asked mid → StopsAtUnknown from.place xs → StopsAtUnknown mid.place ys → StopsAtUnknown from.place (xs ++ ys)
+pub stops_on : (from mid : SharedState) (xs ys : List ℕ) (asked : List (Tagged Brought)) → Demultiplexes from xs asked mid → StopsAtUnknown from.place xs
+    → StopsAtUnknown mid.place ys → StopsAtUnknown from.place (xs ++ ys)
 stops_on from mid xs ys asked t a b = stops_then from.place xs ys a (subst (λ p. StopsAtUnknown p ys) (sym t.place) b)
 
 pub end_later : (why : SessionEnd) (place : FramePlace) (used used' : ℕ) (i : Input) → used ≤ used' → IsEndOf why place used i → IsEndOf why place used' i
@@ -62,13 +65,25 @@ end_later over.ReadFault place used used' i h (inr f) = inr (omega (arith, h, f)
 end_later over.WriteFault place used used' i h e = absurd e
 
 module _ {S : Type 0} (barrier : List ℕ → Bool) (turn : SharedTurn S) where
-  abbrev pub talks_start : (from : SharedState) (i : Input) (o : Output) (state : S) → Demultiplexes from [] [] from → o.broken ≡ false → TalksOn barrier turn from from i i o o state state
-  talks_start from i o state t h = record { taken = []; asked = []; calls = 0; read = Consumes-nil i.left; apart = t; stops = stops_none from.place; clock = none i.calls; steady = λ s. s; told = subst (λ l. HasTold turn l o o state state) (sym (parted_none barrier)) (told_nothing turn o state h) }
+  abbrev pub talks_start : (from : SharedState) (i : Input) (o : Output) (state : S) → Demultiplexes from [] [] from → o.broken ≡ false
+      → TalksOn barrier turn from from i i o o state state
+  talks_start from i o state t h = record {
+    taken = [];
+    asked = [];
+    calls = 0;
+    read = Consumes-nil i.left;
+    apart = t;
+    stops = stops_none from.place;
+    clock = none i.calls;
+    steady = λ s. s;
+    told = subst (λ l. HasTold turn l o o state state) (sym (parted_none barrier)) (told_nothing turn o state h);
+  }
     where
       none : (n : ℕ) → n ≡ later 0 n
       none n = omega arith
 
-  abbrev pub talks_then : (from mid to : SharedState) (i j k : Input) (o p q : Output) (old between new : S) → TalksOn barrier turn from mid i j o p old between → TalksOn barrier turn mid to j k p q between new → TalksOn barrier turn from to i k o q old new
+  abbrev pub talks_then : (from mid to : SharedState) (i j k : Input) (o p q : Output) (old between new : S) → TalksOn barrier turn from mid i j o p old between
+      → TalksOn barrier turn mid to j k p q between new → TalksOn barrier turn from to i k o q old new
   talks_then from mid to i j k o p q old between new a b = record {
     taken = a.taken ++ b.taken;
     asked = a.asked ++ b.asked;
@@ -78,10 +93,12 @@ module _ {S : Type 0} (barrier : List ℕ → Bool) (turn : SharedTurn S) where
     stops = stops_on from mid a.taken b.taken a.asked a.apart a.stops b.stops;
     clock = later_then a.calls b.calls i.calls j.calls k.calls a.clock b.clock;
     steady = λ s. b.steady (a.steady s);
-    told = subst (λ l. HasTold turn l o q old new) (sym (parted_append barrier a.asked b.asked)) (told_then turn (parted barrier a.asked) (parted barrier b.asked) o p q old between new a.told b.told);
+    told = subst (λ l. HasTold turn l o q old new) (sym (parted_append barrier a.asked b.asked))
+        (told_then turn (parted barrier a.asked) (parted barrier b.asked) o p q old between new a.told b.told);
   }
 
-  pub serves_then : (from mid : SharedState) (i j k : Input) (o p q : Output) (old between new : S) (why : SessionEnd) (a : TalksOn barrier turn from mid i j o p old between) (b : ServesClients barrier turn mid j k p q between new why)
+  pub serves_then : (from mid : SharedState) (i j k : Input) (o p q : Output) (old between new : S) (why : SessionEnd)
+      (a : TalksOn barrier turn from mid i j o p old between) (b : ServesClients barrier turn mid j k p q between new why)
       → b.calls ≡ 0 → (i.steady ≡ true → a.calls ≤ length a.taken + 1) → ServesClients barrier turn from i k o q old new why
   serves_then from mid i j k o p q old between new why a b none pace = record {
     taken = a.taken ++ b.taken;
@@ -100,12 +117,18 @@ module _ {S : Type 0} (barrier : List ℕ → Bool) (turn : SharedTurn S) where
       long : length (a.taken ++ b.taken) ≡ length a.taken + length b.taken
       long = length-append a.taken b.taken
 
-      by : TellsAll turn (parted barrier b.asked) why b.streams (b.calls + length b.taken) k p q between new ⊎ FailsToTell turn (parted barrier b.asked) why b.streams.clients p q between new
-          → TellsAll turn (parted barrier (a.asked ++ b.asked)) why b.streams (a.calls + b.calls + length (a.taken ++ b.taken)) k o q old new ⊎ FailsToTell turn (parted barrier (a.asked ++ b.asked)) why b.streams.clients o q old new
+      by : TellsAll turn (parted barrier b.asked) why b.streams (b.calls + length b.taken) k p q between new ⊎ FailsToTell turn
+          (parted barrier b.asked) why b.streams.clients p q between new
+          → TellsAll turn (parted barrier (a.asked ++ b.asked)) why b.streams (a.calls + b.calls + length (a.taken ++ b.taken)) k o q old new ⊎ FailsToTell turn
+          (parted barrier (a.asked ++ b.asked)) why b.streams.clients o q old new
       by (inl c) = inl (record {
         ended = end_later why b.streams.place (b.calls + length b.taken) (a.calls + b.calls + length (a.taken ++ b.taken)) k (omega (arith, long)) c.ended;
-        told = subst (λ l. HasTold turn l o q old new) (sym (append_assoc (parted barrier a.asked) (parted barrier b.asked) (ends_at why b.streams.clients ++ Flush ∷ [])) ∙ ap (λ l. l ++ (ends_at why b.streams.clients ++ Flush ∷ [])) (sym (parted_append barrier a.asked b.asked)))
-            (told_then turn (parted barrier a.asked) (parted barrier b.asked ++ (ends_at why b.streams.clients ++ Flush ∷ [])) o p q old between new a.told c.told);
+        told =
+            subst (λ l. HasTold turn l o q old new) (sym
+            (append_assoc (parted barrier a.asked) (parted barrier b.asked) (ends_at why b.streams.clients ++ Flush ∷ []))
+            ∙ ap (λ l. l ++ (ends_at why b.streams.clients ++ Flush ∷ [])) (sym (parted_append barrier a.asked b.asked)))
+            (told_then turn (parted barrier a.asked) (parted barrier b.asked ++ (ends_at why b.streams.clients ++ Flush ∷ [])) o p q old between new a.told
+            c.told);
         rise = c.rise;
         handed_on = c.handed_on;
       })
@@ -115,7 +138,8 @@ module _ {S : Type 0} (barrier : List ℕ → Bool) (turn : SharedTurn S) where
         others = c.others;
         are = c.are;
         rise = c.rise;
-        loses = subst (λ l. LosesWriter turn l c.ends o q old new) (sym (parted_append barrier a.asked b.asked)) (loses_then turn (parted barrier a.asked) (parted barrier b.asked) c.ends o p q old between new a.told c.loses);
+        loses = subst (λ l. LosesWriter turn l c.ends o q old new) (sym (parted_append barrier a.asked b.asked))
+            (loses_then turn (parted barrier a.asked) (parted barrier b.asked) c.ends o p q old between new a.told c.loses);
       })
 
 -- ---- what came
@@ -127,16 +151,19 @@ pub parted_end : (barrier : List ℕ → Bool) (client : ℕ) (why : End) → pa
 unfolding parted
 parted_end barrier client why = refl
 
-parted_body : (barrier : List ℕ → Bool) (client : ℕ) (body : List ℕ) → parted barrier (Of client (Body body) ∷ []) ≡ (if barrier body then Flush ∷ [] else []) ++ Of client (Body body) ∷ []
+parted_body : (barrier : List ℕ → Bool) (client : ℕ) (body : List ℕ) → parted barrier (Of client (Body body) ∷ []) ≡ (if barrier body then Flush ∷ [] else [])
+    ++ Of client (Body body) ∷ []
 unfolding parted
 parted_body barrier client body = refl
 
 -- a body that comes alone stands behind a *now*
-pub parted_alone : (barrier : List ℕ → Bool) (client : ℕ) (body : List ℕ) → barrier body ≡ true → parted barrier (Of client (Body body) ∷ []) ≡ Flush ∷ Of client (Body body) ∷ []
+pub parted_alone : (barrier : List ℕ → Bool) (client : ℕ) (body : List ℕ) → barrier body ≡ true
+    → parted barrier (Of client (Body body) ∷ []) ≡ Flush ∷ Of client (Body body) ∷ []
 parted_alone barrier client body is = parted_body barrier client body ∙ ap (λ (b : Bool). (if b then Flush ∷ [] else []) ++ Of client (Body body) ∷ []) is
 
 -- before any other none is made
-pub parted_together : (barrier : List ℕ → Bool) (client : ℕ) (body : List ℕ) → barrier body ≡ false → parted barrier (Of client (Body body) ∷ []) ≡ Of client (Body body) ∷ []
+pub parted_together : (barrier : List ℕ → Bool) (client : ℕ) (body : List ℕ) → barrier body ≡ false → parted barrier (Of client (Body body) ∷ []) ≡ Of client
+    (Body body) ∷ []
 parted_together barrier client body is = parted_body barrier client body ∙ ap (λ (b : Bool). (if b then Flush ∷ [] else []) ++ Of client (Body body) ∷ []) is
 
 module _ {S : Type 0} (barrier : List ℕ → Bool) (turn : SharedTurn S) where
@@ -169,7 +196,8 @@ module _ {S : Type 0} (barrier : List ℕ → Bool) (turn : SharedTurn S) where
   one_call = omega arith
 
   -- what is read ahead was taken, and answered
-  abbrev talks_taken : (from to : SharedState) (i j : Input) (o p : Output) (old new : S) (bytes : List ℕ) (asked : List (Tagged Brought)) → TakesAhead bytes i j → Demultiplexes from bytes asked to → StopsAtUnknown from.place bytes
+  abbrev talks_taken : (from to : SharedState) (i j : Input) (o p : Output) (old new : S) (bytes : List ℕ) (asked : List (Tagged Brought))
+      → TakesAhead bytes i j → Demultiplexes from bytes asked to → StopsAtUnknown from.place bytes
       → HasTold turn (parted barrier asked) o p old new → TalksOn barrier turn from to i j o p old new
   talks_taken from to i j o p old new bytes asked t a stop h = record {
     taken = bytes;
@@ -183,7 +211,8 @@ module _ {S : Type 0} (barrier : List ℕ → Bool) (turn : SharedTurn S) where
     told = h;
   }
 
-  pub goes_taken : (from to : SharedState) (front front' : List ℕ) (i j : Input) (o p : Output) (old new : S) (bytes : List ℕ) (asked : List (Tagged Brought)) → i.faulted ≡ false → 0 < length bytes → TakesAhead bytes i j → Demultiplexes from bytes asked to
+  pub goes_taken : (from to : SharedState) (front front' : List ℕ) (i j : Input) (o p : Output) (old new : S) (bytes : List ℕ) (asked : List (Tagged Brought))
+      → i.faulted ≡ false → 0 < length bytes → TakesAhead bytes i j → Demultiplexes from bytes asked to
       → StopsAtUnknown from.place bytes → HasTold turn (parted barrier asked) o p old new → MovesOn barrier turn from to front front' i j o p old new
   goes_taken from to front front' i j o p old new bytes asked well some t a stop h = record {
     talks = talks_taken from to i j o p old new bytes asked t a stop h;
@@ -193,7 +222,8 @@ module _ {S : Type 0} (barrier : List ℕ → Bool) (turn : SharedTurn S) where
     quiet = λ called. absurd (omega (arith, called));
   }
 
-  is_lost : (from to : SharedState) (i j : Input) (o p : Output) (old new : S) (bytes : List ℕ) (asked : List (Tagged Brought)) → i.faulted ≡ false → Consumes i.left j.left bytes → j.calls ≡ i.calls → j.faulted ≡ i.faulted → Demultiplexes from bytes asked to
+  is_lost : (from to : SharedState) (i j : Input) (o p : Output) (old new : S) (bytes : List ℕ) (asked : List (Tagged Brought)) → i.faulted ≡ false
+      → Consumes i.left j.left bytes → j.calls ≡ i.calls → j.faulted ≡ i.faulted → Demultiplexes from bytes asked to
       → StopsAtUnknown from.place bytes → LosesWriter turn (parted barrier asked) [] o p old new → IsUnwritten barrier turn from i j o p old new
   is_lost from to i j o p old new bytes asked well read clock fault a stop h = record {
     serves = record {
@@ -212,32 +242,49 @@ module _ {S : Type 0} (barrier : List ℕ → Bool) (turn : SharedTurn S) where
     uncalled = refl;
   }
 
-  pub loses_taken : (from to : SharedState) (i j : Input) (o p : Output) (old new : S) (bytes : List ℕ) (asked : List (Tagged Brought)) → i.faulted ≡ false → TakesAhead bytes i j → Demultiplexes from bytes asked to → StopsAtUnknown from.place bytes
+  pub loses_taken : (from to : SharedState) (i j : Input) (o p : Output) (old new : S) (bytes : List ℕ) (asked : List (Tagged Brought)) → i.faulted ≡ false
+      → TakesAhead bytes i j → Demultiplexes from bytes asked to → StopsAtUnknown from.place bytes
       → LosesWriter turn (parted barrier asked) [] o p old new → IsUnwritten barrier turn from i j o p old new
   loses_taken from to i j o p old new bytes asked well t a stop h = is_lost from to i j o p old new bytes asked well t.taken t.clock t.fault a stop h
 
   -- nothing was taken
-  pub loses_before : (from : SharedState) (i : Input) (o p : Output) (old new : S) → i.faulted ≡ false → LosesWriter turn [] [] o p old new → IsUnwritten barrier turn from i i o p old new
+  pub loses_before : (from : SharedState) (i : Input) (o p : Output) (old new : S) → i.faulted ≡ false → LosesWriter turn [] [] o p old new
+      → IsUnwritten barrier turn from i i o p old new
   loses_before from i o p old new well h =
-      is_lost from from i i o p old new [] [] well (Consumes-nil i.left) refl refl (stays from) (stops_none from.place) (subst (λ l. LosesWriter turn l [] o p old new) (sym (parted_none barrier)) h)
+      is_lost from from i i o p old new [] [] well (Consumes-nil i.left) refl refl (stays from) (stops_none from.place)
+      (subst (λ l. LosesWriter turn l [] o p old new) (sym (parted_none barrier)) h)
 
-  over_here : (why : SessionEnd) (from to : SharedState) (front : List ℕ) (i : Input) (o : Output) (state : S) → o.broken ≡ false → i.faulted ≡ false → Demultiplexes from [] [] to → IsEndOf why to.place 0 i → IsLastPart barrier turn why from to front i i o o state state
+  over_here : (why : SessionEnd) (from to : SharedState) (front : List ℕ) (i : Input) (o : Output) (state : S) → o.broken ≡ false → i.faulted ≡ false
+      → Demultiplexes from [] [] to → IsEndOf why to.place 0 i → IsLastPart barrier turn why from to front i i o o state state
   over_here why from to front i o state h well t e = record {
-    talks = record { taken = []; asked = []; calls = 0; read = Consumes-nil i.left; apart = t; stops = stops_none from.place; clock = no_call i.calls; steady = λ s. s; told = subst (λ l. HasTold turn l o o state state) (sym (parted_none barrier)) (told_nothing turn o state h) };
+    talks = record {
+      taken = [];
+      asked = [];
+      calls = 0;
+      read = Consumes-nil i.left;
+      apart = t;
+      stops = stops_none from.place;
+      clock = no_call i.calls;
+      steady = λ s. s;
+      told = subst (λ l. HasTold turn l o o state state) (sym (parted_none barrier)) (told_nothing turn o state h);
+    };
     ended = e;
     sound = λ s. well;
     paced = λ s. none_called front;
   }
 
-  pub over_memory : (from to : SharedState) (front : List ℕ) (i : Input) (o : Output) (state : S) → o.broken ≡ false → i.faulted ≡ false → Demultiplexes from [] [] to → IsClients from.place → IsLastPart barrier turn over.Memory from to front i i o o state state
+  pub over_memory : (from to : SharedState) (front : List ℕ) (i : Input) (o : Output) (state : S) → o.broken ≡ false → i.faulted ≡ false
+      → Demultiplexes from [] [] to → IsClients from.place → IsLastPart barrier turn over.Memory from to front i i o o state state
   unfolding place_behind
   over_memory from to front i o state h well t c = over_here over.Memory from to front i o state h well t (subst IsClients t.place c)
 
-  pub over_unknown : (from : SharedState) (front : List ℕ) (i : Input) (o : Output) (state : S) → o.broken ≡ false → i.faulted ≡ false → reads_nothing from.place ≡ true → IsLastPart barrier turn over.Unknown from from front i i o o state state
+  pub over_unknown : (from : SharedState) (front : List ℕ) (i : Input) (o : Output) (state : S) → o.broken ≡ false → i.faulted ≡ false
+      → reads_nothing from.place ≡ true → IsLastPart barrier turn over.Unknown from from front i i o o state state
   over_unknown from front i o state h well e = over_here over.Unknown from from front i o state h well (stays from) e
 
   -- ---- waits
-  abbrev waited : (more : More) (from : SharedState) (i j : Input) (o p : Output) (state : S) (front : List ℕ) → Writes o p [] → Waits more i j front → TalksOn barrier turn from from i j o p state state
+  abbrev waited : (more : More) (from : SharedState) (i j : Input) (o p : Output) (state : S) (front : List ℕ) → Writes o p [] → Waits more i j front
+      → TalksOn barrier turn from from i j o p state state
   waited more from i j o p state front w m = record {
     taken = [];
     asked = [];
@@ -259,7 +306,8 @@ module _ {S : Type 0} (barrier : List ℕ → Bool) (turn : SharedTurn S) where
   brings_some m i j front (inl e) w s = some_ahead front (subst (λ (x : More). ahead.Brings x j.left front) e w.brings)
   brings_some m i j front (inr e) w s = absurd (subst ahead.IsSure e (w.on s))
 
-  pub goes_waited : (m : More) (from : SharedState) (front front' : List ℕ) (i j : Input) (o p : Output) (state : S) → front ≡ [] → (m ≡ more.Some) ⊎ (m ≡ more.Again) → Writes o p [] → IsHandedOn p → Waits m i j front'
+  pub goes_waited : (m : More) (from : SharedState) (front front' : List ℕ) (i j : Input) (o p : Output) (state : S) → front ≡ []
+      → (m ≡ more.Some) ⊎ (m ≡ more.Again) → Writes o p [] → IsHandedOn p → Waits m i j front'
       → MovesOn barrier turn from from front front' i j o p state state
   goes_waited m from front front' i j o p state none is w on waits = record {
     quiet = λ _. on;
@@ -278,7 +326,8 @@ module _ {S : Type 0} (barrier : List ℕ → Bool) (turn : SharedTurn S) where
   input_over (Within client n) i e = (refl, e)
   input_over Broken i e = refl
 
-  pub over_waited : (from : SharedState) (front front' : List ℕ) (i j : Input) (o p : Output) (state : S) (why : SessionEnd) → front ≡ [] → why ≡ input_end from.place → Writes o p [] → Waits more.End i j front'
+  pub over_waited : (from : SharedState) (front front' : List ℕ) (i j : Input) (o p : Output) (state : S) (why : SessionEnd) → front ≡ []
+      → why ≡ input_end from.place → Writes o p [] → Waits more.End i j front'
       → IsLastPart barrier turn why from from front i j o p state state
   over_waited from front front' i j o p state why none is w m = record {
     talks = waited more.End from i j o p state front' w m;
@@ -287,7 +336,8 @@ module _ {S : Type 0} (barrier : List ℕ → Bool) (turn : SharedTurn S) where
     paced = λ s. one_wait front none;
   }
 
-  pub over_fault : (from : SharedState) (front front' : List ℕ) (i j : Input) (o p : Output) (state : S) → front ≡ [] → Writes o p [] → Waits more.Fault i j front' → IsLastPart barrier turn over.ReadFault from from front i j o p state state
+  pub over_fault : (from : SharedState) (front front' : List ℕ) (i j : Input) (o p : Output) (state : S) → front ≡ [] → Writes o p []
+      → Waits more.Fault i j front' → IsLastPart barrier turn over.ReadFault from from front i j o p state state
   over_fault from front front' i j o p state none w m = record {
     talks = waited more.Fault from i j o p state front' w m;
     ended = inl m.fault;
@@ -296,8 +346,10 @@ module _ {S : Type 0} (barrier : List ℕ → Bool) (turn : SharedTurn S) where
   }
 
   -- ---- what was brought
-  pub none_came : (a : DemuxItem) (o : Output) (state : S) → (a ≡ things.Nothing) ⊎ (a ≡ things.Unknown) → o.broken ≡ false → HasTold turn (parted barrier (arrived a)) o o state state
-  none_came a o state is h = subst (λ l. HasTold turn l o o state state) (sym (ap (parted barrier) (none is) ∙ parted_none barrier)) (told_nothing turn o state h)
+  pub none_came : (a : DemuxItem) (o : Output) (state : S) → (a ≡ things.Nothing) ⊎ (a ≡ things.Unknown) → o.broken ≡ false
+      → HasTold turn (parted barrier (arrived a)) o o state state
+  none_came a o state is h = subst (λ l. HasTold turn l o o state state) (sym (ap (parted barrier) (none is) ∙ parted_none barrier))
+      (told_nothing turn o state h)
     where
       none : (a ≡ things.Nothing) ⊎ (a ≡ things.Unknown) → arrived a ≡ []
       none (inl e) = ap arrived e
@@ -312,17 +364,21 @@ module _ {S : Type 0} (barrier : List ℕ → Bool) (turn : SharedTurn S) where
   pub told_as : (asks came : List (Tagged Brought)) (o p : Output) (old new : S) → came ≡ asks → HasTold turn asks o p old new → HasTold turn came o p old new
   told_as asks came o p old new e h = subst (λ l. HasTold turn l o p old new) (sym e) h
 
-  pub lost_as : (asks came : List (Tagged Brought)) (o p : Output) (old new : S) → came ≡ asks → LosesWriter turn asks [] o p old new → LosesWriter turn came [] o p old new
+  pub lost_as : (asks came : List (Tagged Brought)) (o p : Output) (old new : S) → came ≡ asks → LosesWriter turn asks [] o p old new
+      → LosesWriter turn came [] o p old new
   lost_as asks came o p old new e h = subst (λ l. LosesWriter turn l [] o p old new) (sym e) h
 
-  pub lost_then : (l : Loss) (asks : List (Tagged Brought)) (o p : Output) (old new : S) → l ≡ loss.Answered → AnswersAsked turn (Err l) asks o p old new → LosesWriter turn asks [] o p old new
+  pub lost_then : (l : Loss) (asks : List (Tagged Brought)) (o p : Output) (old new : S) → l ≡ loss.Answered → AnswersAsked turn (Err l) asks o p old new
+      → LosesWriter turn asks [] o p old new
   lost_then l asks o p old new is a = subst (λ (x : Loss). AnswersAsked turn (Err x) asks o p old new) is a
 
-  pub lost_before : (l : Loss) (asks : List (Tagged Brought)) (o p : Output) (old new : S) → l ≡ loss.Undone → AnswersAsked turn (Err l) asks o p old new → LosesWriter turn [] [] o p old new
+  pub lost_before : (l : Loss) (asks : List (Tagged Brought)) (o p : Output) (old new : S) → l ≡ loss.Undone → AnswersAsked turn (Err l) asks o p old new
+      → LosesWriter turn [] [] o p old new
   lost_before l asks o p old new is a = subst (λ (x : Loss). AnswersAsked turn (Err x) asks o p old new) is a
 
   -- ---- the ends
-  one_end : (client : ℕ) (why : Option End) (state : ClientState) (clients clients' : List (ℕ × ClientState)) → clients ≡ (client, state) ∷ clients' → EndsWith why (Some state) None
+  one_end : (client : ℕ) (why : Option End) (state : ClientState) (clients clients' : List (ℕ × ClientState)) → clients ≡ (client, state) ∷ clients'
+      → EndsWith why (Some state) None
       → ends_in clients ≡ tag_all client (brought_last why) ++ ends_in clients'
   unfolding ends_in
   one_end client why state clients clients' is e = ap ends_in is ∙ ap (λ (r : List Brought × Option ClientState). tag_all client r.0 ++ ends_in clients') e
@@ -335,23 +391,28 @@ module _ {S : Type 0} (barrier : List ℕ → Bool) (turn : SharedTurn S) where
   unfolding tag_all
   none_named client = refl
 
-  one_less : (client : ℕ) (state : ClientState) (clients clients' : List (ℕ × ClientState)) → clients ≡ (client, state) ∷ clients' → length clients ≡ length clients' + 1
+  one_less : (client : ℕ) (state : ClientState) (clients clients' : List (ℕ × ClientState)) → clients ≡ (client, state) ∷ clients'
+      → length clients ≡ length clients' + 1
   one_less client state clients clients' is = let e = ap length is in omega (arith, e)
 
-  ends_one : (result : Result (Unit {0}) Unwritten) (ask : Tagged Brought) (o p : Output) (old new : S) → AnswersSingle turn result ask o p old new → AnswersEnds turn result (ask ∷ []) (ask ∷ []) o p old new
+  ends_one : (result : Result (Unit {0}) Unwritten) (ask : Tagged Brought) (o p : Output) (old new : S) → AnswersSingle turn result ask o p old new
+      → AnswersEnds turn result (ask ∷ []) (ask ∷ []) o p old new
   ends_one (Ok u) ask o p old new a = a
   ends_one (Err f) ask o p old new a = record { ends = ask ∷ []; others = []; are = refl; loses = as_ends turn (ask ∷ []) o p old new a }
 
-  pub ends_next : (result : Result (Unit {0}) Unwritten) (client : ℕ) (last : Option End) (why : End) (clients clients' : List (ℕ × ClientState)) (o p : Output) (old new : S) → last ≡ Some why → EndsLowest (Some (client, last)) clients clients'
+  pub ends_next : (result : Result (Unit {0}) Unwritten) (client : ℕ) (last : Option End) (why : End) (clients clients' : List (ℕ × ClientState)) (o p : Output)
+      (old new : S) → last ≡ Some why → EndsLowest (Some (client, last)) clients clients'
       → AnswersSingle turn result (Of client (Ends why)) o p old new → EndsNext turn result clients clients' o p old new
-  ends_next result client last why clients clients' o p old new is l a = let e = subst (λ (x : Option End). EndsLowest (Some (client, x)) clients clients') is l in record {
-    ends = Of client (Ends why) ∷ [];
-    are = one_end client (Some why) e.0 clients clients' e.1 e.2 ∙ ap (λ l. l ++ ends_in clients') (some_named client why);
-    one = one_less client e.0 clients clients' e.1;
-    answers = ends_one result (Of client (Ends why)) o p old new a;
-  }
+  ends_next result client last why clients clients' o p old new is l a = let e =
+      subst (λ (x : Option End). EndsLowest (Some (client, x)) clients clients') is l in record {
+        ends = Of client (Ends why) ∷ [];
+        are = one_end client (Some why) e.0 clients clients' e.1 e.2 ∙ ap (λ l. l ++ ends_in clients') (some_named client why);
+        one = one_less client e.0 clients clients' e.1;
+        answers = ends_one result (Of client (Ends why)) o p old new a;
+      }
 
-  pub ends_none : (client : ℕ) (last : Option End) (clients clients' : List (ℕ × ClientState)) (o : Output) (state : S) → last ≡ None → EndsLowest (Some (client, last)) clients clients' → o.broken ≡ false → EndsNext turn (Ok tt) clients clients' o o state state
+  pub ends_none : (client : ℕ) (last : Option End) (clients clients' : List (ℕ × ClientState)) (o : Output) (state : S) → last ≡ None
+      → EndsLowest (Some (client, last)) clients clients' → o.broken ≡ false → EndsNext turn (Ok tt) clients clients' o o state state
   ends_none client last clients clients' o state is l h = let e = subst (λ (x : Option End). EndsLowest (Some (client, x)) clients clients') is l in record {
     ends = [];
     are = one_end client None e.0 clients clients' e.1 e.2 ∙ ap (λ l. l ++ ends_in clients') (none_named client);
@@ -368,10 +429,12 @@ module _ {S : Type 0} (barrier : List ℕ → Bool) (turn : SharedTurn S) where
   pub ends_start : (clients : List (ℕ × ClientState)) (o : Output) (state : S) → o.broken ≡ false → EndsSoFar clients clients o o state state
   ends_start clients o state h = record { ends = []; are = refl; told = told_nothing turn o state h }
 
-  ends_apart : (all mid : List (ℕ × ClientState)) (new : List (ℕ × ClientState)) (ends more : List (Tagged Brought)) → ends_in all ≡ ends ++ ends_in mid → ends_in mid ≡ more ++ ends_in new → ends_in all ≡ (ends ++ more) ++ ends_in new
+  ends_apart : (all mid : List (ℕ × ClientState)) (new : List (ℕ × ClientState)) (ends more : List (Tagged Brought)) → ends_in all ≡ ends ++ ends_in mid
+      → ends_in mid ≡ more ++ ends_in new → ends_in all ≡ (ends ++ more) ++ ends_in new
   ends_apart all mid new ends more a b = a ∙ ap (λ l. ends ++ l) b ∙ sym (append_assoc ends more (ends_in new))
 
-  pub ends_more : (u : Unit {0}) (clients mid clients' : List (ℕ × ClientState)) (o p q : Output) (old between new : S) → EndsSoFar clients mid o p old between → EndsNext turn (Ok u) mid clients' p q between new
+  pub ends_more : (u : Unit {0}) (clients mid clients' : List (ℕ × ClientState)) (o p q : Output) (old between new : S) → EndsSoFar clients mid o p old between
+      → EndsNext turn (Ok u) mid clients' p q between new
       → EndsSoFar clients clients' o q old new
   ends_more u clients mid clients' o p q old between new a b = record {
     ends = a.ends ++ b.ends;
@@ -379,7 +442,8 @@ module _ {S : Type 0} (barrier : List ℕ → Bool) (turn : SharedTurn S) where
     told = told_then turn a.ends b.ends o p q old between new a.told b.answers;
   }
 
-  pub ends_lost : (result : Result (Unit {0}) Unwritten) (fault : Unwritten) (clients mid clients' : List (ℕ × ClientState)) (o p q : Output) (old between new : S) → IsErr result → EndsSoFar clients mid o p old between
+  pub ends_lost : (result : Result (Unit {0}) Unwritten) (fault : Unwritten) (clients mid clients' : List (ℕ × ClientState)) (o p q : Output)
+      (old between new : S) → IsErr result → EndsSoFar clients mid o p old between
       → EndsNext turn (Err fault) mid clients' p q between new → AnswersEnds turn result (ends_in clients) (ends_in clients) o q old new
   ends_lost (Ok u) fault clients mid clients' o p q old between new is a b = absurd (false≢true is)
   ends_lost (Err f) fault clients mid clients' o p q old between new is a b =
@@ -393,12 +457,14 @@ module _ {S : Type 0} (barrier : List ℕ → Bool) (turn : SharedTurn S) where
         loses = ends_lose a.ends l.ends o p q old between new a.told l.loses;
       }
     where
-      ends_lose : (ps qs : List (Tagged Brought)) (o p q : Output) (old between new : S) → HasTold turn ps o p old between → LosesWriter turn [] qs p q between new → LosesWriter turn [] (ps ++ qs) o q old new
+      ends_lose : (ps qs : List (Tagged Brought)) (o p q : Output) (old between new : S) → HasTold turn ps o p old between
+          → LosesWriter turn [] qs p q between new → LosesWriter turn [] (ps ++ qs) o q old new
       ends_lose ps qs o p q old between new h w =
           let all = loses_then turn ps [] qs o p q old between new h w in record {
             given = all.given;
             unheard = all.unheard;
-            run = subst (λ l. AllTurned turn old l (all.given ++ all.unheard) new) (ap (λ l. l ++ (qs ++ Flush ∷ [])) (append-nil ps) ∙ sym (append_assoc ps qs (Flush ∷ []))) all.run;
+            run = subst (λ l. AllTurned turn old l (all.given ++ all.unheard) new)
+                (ap (λ l. l ++ (qs ++ Flush ∷ [])) (append-nil ps) ∙ sym (append_assoc ps qs (Flush ∷ []))) all.run;
             one = all.one;
             torn = all.torn;
             few = all.few;
@@ -409,14 +475,17 @@ module _ {S : Type 0} (barrier : List ℕ → Bool) (turn : SharedTurn S) where
   unfolding ends_in
   no_ends = refl
 
-  pub ends_all : (clients clients' : List (ℕ × ClientState)) (o p : Output) (old new : S) → length clients' ≡ 0 → EndsSoFar clients clients' o p old new → HasTold turn (ends_in clients) o p old new
+  pub ends_all : (clients clients' : List (ℕ × ClientState)) (o p : Output) (old new : S) → length clients' ≡ 0 → EndsSoFar clients clients' o p old new
+      → HasTold turn (ends_in clients) o p old new
   ends_all clients [] o p old new none a = subst (λ l. HasTold turn l o p old new) (sym (a.are ∙ ap (λ l. a.ends ++ l) no_ends ∙ append-nil a.ends)) a.told
   ends_all clients (x ∷ xs) o p old new none a = absurd (omega (arith, none))
 
-  pub none_end : (why : SessionEnd) (clients : List (ℕ × ClientState)) (o : Output) (state : S) → ends_at why clients ≡ [] → o.broken ≡ false → HasTold turn (ends_at why clients) o o state state
+  pub none_end : (why : SessionEnd) (clients : List (ℕ × ClientState)) (o : Output) (state : S) → ends_at why clients ≡ [] → o.broken ≡ false
+      → HasTold turn (ends_at why clients) o o state state
   none_end why clients o state is h = subst (λ l. HasTold turn l o o state state) (sym is) (told_nothing turn o state h)
 
-  pub none_at : (why : SessionEnd) (clients : List (ℕ × ClientState)) → (why ≡ over.Memory) ⊎ ((why ≡ over.ReadFault) ⊎ (why ≡ over.WriteFault)) → ends_at why clients ≡ []
+  pub none_at : (why : SessionEnd) (clients : List (ℕ × ClientState)) → (why ≡ over.Memory) ⊎ ((why ≡ over.ReadFault) ⊎ (why ≡ over.WriteFault))
+      → ends_at why clients ≡ []
   none_at why clients (inl e) = ap (λ (x : SessionEnd). ends_at x clients) e
   none_at why clients (inr (inl e)) = ap (λ (x : SessionEnd). ends_at x clients) e
   none_at why clients (inr (inr e)) = ap (λ (x : SessionEnd). ends_at x clients) e
@@ -438,11 +507,13 @@ module _ {S : Type 0} (barrier : List ℕ → Bool) (turn : SharedTurn S) where
   ends_first over.ReadFault clients = refl
   ends_first over.WriteFault clients = refl
 
-  pub closes_well : (why : SessionEnd) (clients : List (ℕ × ClientState)) (o p q : Output) (old between new : S) → HasTold turn (ends_at why clients) o p old between → HasTold turn (Flush ∷ []) p q between new × IsHandedOn q
+  pub closes_well : (why : SessionEnd) (clients : List (ℕ × ClientState)) (o p q : Output) (old between new : S)
+      → HasTold turn (ends_at why clients) o p old between → HasTold turn (Flush ∷ []) p q between new × IsHandedOn q
       → ClosesAll turn why why clients o q old new
   closes_well why clients o p q old between new a b = inl (refl, told_then turn (ends_at why clients) (Flush ∷ []) o p q old between new a b.0, b.1)
 
-  pub closes_lost : (why : SessionEnd) (clients : List (ℕ × ClientState)) (o p q : Output) (old between new : S) → HasTold turn (ends_at why clients) o p old between → LosesWriter turn [] [] p q between new
+  pub closes_lost : (why : SessionEnd) (clients : List (ℕ × ClientState)) (o p q : Output) (old between new : S)
+      → HasTold turn (ends_at why clients) o p old between → LosesWriter turn [] [] p q between new
       → ClosesAll turn over.WriteFault why clients o q old new
   closes_lost why clients o p q old between new a b = inr (
     refl,
@@ -450,12 +521,16 @@ module _ {S : Type 0} (barrier : List ℕ → Bool) (turn : SharedTurn S) where
       ends = ends_at why clients;
       others = others_at why clients;
       are = ends_first why clients;
-      loses = as_ends turn (ends_at why clients) o q old new (subst (λ l. LosesWriter turn l [] o q old new) (append-nil (ends_at why clients)) (loses_then turn (ends_at why clients) [] [] o p q old between new a b));
+      loses =
+          as_ends turn (ends_at why clients) o q old new
+          (subst (λ l. LosesWriter turn l [] o q old new) (append-nil (ends_at why clients))
+          (loses_then turn (ends_at why clients) [] [] o p q old between new a b));
     },
   )
 
   -- ---- the whole session
-  pub over_closes : (result why : SessionEnd) (from to : SharedState) (i j : Input) (o p q : Output) (old between new : S) → IsLastPart barrier turn why from to [] i j o p old between → ClosesAll turn result why to.clients p q between new → Rises to.clients
+  pub over_closes : (result why : SessionEnd) (from to : SharedState) (i j : Input) (o p q : Output) (old between new : S)
+      → IsLastPart barrier turn why from to [] i j o p old between → ClosesAll turn result why to.clients p q between new → Rises to.clients
       → ServesClients barrier turn from i j o q old new result
   over_closes result why from to i j o p q old between new a c rise = record {
     taken = a.talks.taken;
@@ -472,9 +547,11 @@ module _ {S : Type 0} (barrier : List ℕ → Bool) (turn : SharedTurn S) where
   }
     where
       by : ClosesAll turn result why to.clients p q between new
-          → TellsAll turn (parted barrier a.talks.asked) result to (a.talks.calls + length a.talks.taken) j o q old new ⊎ FailsToTell turn (parted barrier a.talks.asked) result to.clients o q old new
+          → TellsAll turn (parted barrier a.talks.asked) result to (a.talks.calls + length a.talks.taken) j o q old new ⊎ FailsToTell turn
+          (parted barrier a.talks.asked) result to.clients o q old new
       by (inl d) = inl (record {
-        ended = subst (λ (e : SessionEnd). IsEndOf e to.place (a.talks.calls + length a.talks.taken) j) (sym d.0) (end_later why to.place 0 (a.talks.calls + length a.talks.taken) j (omega arith) a.ended);
+        ended = subst (λ (e : SessionEnd). IsEndOf e to.place (a.talks.calls + length a.talks.taken) j) (sym d.0)
+            (end_later why to.place 0 (a.talks.calls + length a.talks.taken) j (omega arith) a.ended);
         told = subst (λ (e : SessionEnd). HasTold turn (parted barrier a.talks.asked ++ (ends_at e to.clients ++ Flush ∷ [])) o q old new) (sym d.0)
             (told_then turn (parted barrier a.talks.asked) (ends_at why to.clients ++ Flush ∷ []) o p q old between new a.talks.told d.1);
         rise = rise;
@@ -486,7 +563,8 @@ module _ {S : Type 0} (barrier : List ℕ → Bool) (turn : SharedTurn S) where
         others = d.1.others;
         are = d.1.are;
         rise = λ some. rise;
-        loses = subst (λ l. LosesWriter turn l d.1.ends o q old new) (append-nil (parted barrier a.talks.asked)) (loses_then turn (parted barrier a.talks.asked) [] d.1.ends o p q old between new a.talks.told d.1.loses);
+        loses = subst (λ l. LosesWriter turn l d.1.ends o q old new) (append-nil (parted barrier a.talks.asked))
+            (loses_then turn (parted barrier a.talks.asked) [] d.1.ends o p q old between new a.talks.told d.1.loses);
       })
 
   -- so many bytes and calls of the reader so far
@@ -495,14 +573,17 @@ module _ {S : Type 0} (barrier : List ℕ → Bool) (turn : SharedTurn S) where
     pub paced : i.steady ≡ true → talks.calls ≤ length talks.taken + one_ahead front
     pub used : count ≤ talks.calls + length talks.taken
 
-  pub far_start : (from to : SharedState) (front : List ℕ) (i : Input) (o : Output) (state : S) → to ≡ from → o.broken ≡ false → SharedSoFar from to front i i o o state state 0
+  pub far_start : (from to : SharedState) (front : List ℕ) (i : Input) (o : Output) (state : S) → to ≡ from → o.broken ≡ false
+      → SharedSoFar from to front i i o o state state 0
   far_start from to front i o state is h =
-      subst (λ (s : SharedState). SharedSoFar from s front i i o o state state 0) (sym is) (record { talks = talks_start barrier turn from i o state (stays from) h; paced = λ s. omega arith; used = omega arith })
+      subst (λ (s : SharedState). SharedSoFar from s front i i o o state state 0) (sym is)
+      (record { talks = talks_start barrier turn from i o state (stays from) h; paced = λ s. omega arith; used = omega arith })
 
   far_long : (xs ys : List ℕ) (m n count : ℕ) → count ≤ m + length xs → 0 < n + length ys → count + 1 ≤ m + n + length (xs ++ ys)
   far_long xs ys m n count h k = let l = length-append xs ys in omega (arith, h, k, l)
 
-  pub far_more : (from mid to : SharedState) (front front' : List ℕ) (i j k : Input) (o p q : Output) (old between new : S) (count : ℕ) → SharedSoFar from mid front i j o p old between count
+  pub far_more : (from mid to : SharedState) (front front' : List ℕ) (i j k : Input) (o p q : Output) (old between new : S) (count : ℕ)
+      → SharedSoFar from mid front i j o p old between count
       → MovesOn barrier turn mid to front front' j k p q between new → SharedSoFar from to front' i k o q old new (count + 1)
   far_more from mid to front front' i j k o p q old between new count a b = record {
     talks = talks_then barrier turn from mid to i j k o p q old between new a.talks b.talks;
@@ -510,7 +591,8 @@ module _ {S : Type 0} (barrier : List ℕ → Bool) (turn : SharedTurn S) where
     used = far_long a.talks.taken b.talks.taken a.talks.calls b.talks.calls count a.used b.some;
   }
 
-  pub far_over : (from mid to : SharedState) (front : List ℕ) (i j k : Input) (o p q : Output) (old between new : S) (count : ℕ) (why : SessionEnd) → SharedSoFar from mid front i j o p old between count
+  pub far_over : (from mid to : SharedState) (front : List ℕ) (i j k : Input) (o p q : Output) (old between new : S) (count : ℕ) (why : SessionEnd)
+      → SharedSoFar from mid front i j o p old between count
       → IsLastPart barrier turn why mid to front j k p q between new → IsLastPart barrier turn why from to [] i k o q old new
   far_over from mid to front i j k o p q old between new count why a b = record {
     talks = talks_then barrier turn from mid to i j k o p q old between new a.talks b.talks;
@@ -522,13 +604,16 @@ module _ {S : Type 0} (barrier : List ℕ → Bool) (turn : SharedTurn S) where
   at_most : (front : List ℕ) (m n : ℕ) → m ≤ n + one_ahead front → m ≤ n + 1
   at_most front m n h = let few = few_ahead front in omega (arith, h, few)
 
-  pub far_lost : (from mid : SharedState) (front : List ℕ) (i j k : Input) (o p q : Output) (old between new : S) (count : ℕ) → SharedSoFar from mid front i j o p old between count → IsUnwritten barrier turn mid j k p q between new
+  pub far_lost : (from mid : SharedState) (front : List ℕ) (i j k : Input) (o p q : Output) (old between new : S) (count : ℕ)
+      → SharedSoFar from mid front i j o p old between count → IsUnwritten barrier turn mid j k p q between new
       → ServesClients barrier turn from i k o q old new over.WriteFault
   far_lost from mid front i j k o p q old between new count a b =
-      serves_then barrier turn from mid i j k o p q old between new over.WriteFault a.talks b.serves b.uncalled (λ s. at_most front a.talks.calls (length a.talks.taken) (a.paced s))
+      serves_then barrier turn from mid i j k o p q old between new over.WriteFault a.talks b.serves b.uncalled
+      (λ s. at_most front a.talks.calls (length a.talks.taken) (a.paced s))
 
   -- as many as may be
-  pub far_used : (result : SessionEnd) (from to : SharedState) (front : List ℕ) (i j : Input) (o p q : Output) (old between new : S) (count : ℕ) → max_records ≤ count → j.faulted ≡ false → SharedSoFar from to front i j o p old between count
+  pub far_used : (result : SessionEnd) (from to : SharedState) (front : List ℕ) (i j : Input) (o p q : Output) (old between new : S) (count : ℕ)
+      → max_records ≤ count → j.faulted ≡ false → SharedSoFar from to front i j o p old between count
       → ClosesAll turn result over.ReadFault to.clients p q between new → Rises to.clients → ServesClients barrier turn from i j o q old new result
   far_used result from to front i j o p q old between new count all well a c rise = record {
     taken = a.talks.taken;
@@ -548,7 +633,8 @@ module _ {S : Type 0} (barrier : List ℕ → Bool) (turn : SharedTurn S) where
       many = let u = a.used in omega (arith, all, u)
 
       by : ClosesAll turn result over.ReadFault to.clients p q between new
-          → TellsAll turn (parted barrier a.talks.asked) result to (a.talks.calls + length a.talks.taken) j o q old new ⊎ FailsToTell turn (parted barrier a.talks.asked) result to.clients o q old new
+          → TellsAll turn (parted barrier a.talks.asked) result to (a.talks.calls + length a.talks.taken) j o q old new ⊎ FailsToTell turn
+          (parted barrier a.talks.asked) result to.clients o q old new
       by (inl d) = inl (record {
         ended = subst (λ (e : SessionEnd). IsEndOf e to.place (a.talks.calls + length a.talks.taken) j) (sym d.0) (inr many);
         told = subst (λ (e : SessionEnd). HasTold turn (parted barrier a.talks.asked ++ (ends_at e to.clients ++ Flush ∷ [])) o q old new) (sym d.0)
@@ -562,5 +648,6 @@ module _ {S : Type 0} (barrier : List ℕ → Bool) (turn : SharedTurn S) where
         others = d.1.others;
         are = d.1.are;
         rise = λ some. rise;
-        loses = subst (λ l. LosesWriter turn l d.1.ends o q old new) (append-nil (parted barrier a.talks.asked)) (loses_then turn (parted barrier a.talks.asked) [] d.1.ends o p q old between new a.talks.told d.1.loses);
+        loses = subst (λ l. LosesWriter turn l d.1.ends o q old new) (append-nil (parted barrier a.talks.asked))
+            (loses_then turn (parted barrier a.talks.asked) [] d.1.ends o p q old between new a.talks.told d.1.loses);
       })

@@ -14,7 +14,8 @@ cond_append : {X : Type 0} (b : Bool) (xs ys back : List X) → cond b (xs ++ ba
 cond_append true xs ys back = refl
 cond_append false xs ys back = refl
 
-match_append : {X : Type 0} (o : Ordering) (xs ys zs back : List X) → match_ordering o (xs ++ back) (ys ++ back) (zs ++ back) ≡ match_ordering o xs ys zs ++ back
+match_append : {X : Type 0} (o : Ordering) (xs ys zs back : List X) → match_ordering o (xs ++ back) (ys ++ back) (zs ++ back) ≡ match_ordering o xs ys zs
+    ++ back
 match_append Less xs ys zs back = refl
 match_append Equal xs ys zs back = refl
 match_append Greater xs ys zs back = refl
@@ -33,7 +34,8 @@ module _ {K X : Type 0} (cmp : K → K → Ordering) (key : K) where
   remove_front [] es below = refl
   remove_front (f ∷ front) es below = rw below.0 (ap (λ r. f ∷ r) (remove_front front es below.1))
 
-  set_front : (front es : List (K × X)) (w : X) → AllBelow cmp key front → set_value (is_at (cmp key)) (front ++ es) w ≡ front ++ set_value (is_at (cmp key)) es w
+  set_front : (front es : List (K × X)) (w : X) → AllBelow cmp key front → set_value (is_at (cmp key)) (front ++ es) w ≡ front ++ set_value
+      (is_at (cmp key)) es w
   set_front [] es w below = refl
   set_front (f ∷ front) es w below = rw below.0 (ap (λ r. f ∷ r) (set_front front es w below.1))
 
@@ -80,25 +82,29 @@ module _ {K X : Type 0} (cmp : K → K → Ordering) (key : K) where
     pub same_in : (new : List (K × X)) → new ≡ row_of parts i → concat_rows (set parts i new) ≡ concat_rows parts
     same_in new is = in_all new (row_of parts i) (concat_rows parts) is (joined_at parts i lt)
 
-    pub insert_in : (new : List (K × X)) (v : X) → new ≡ insert_entry cmp (row_of parts i) key v → concat_rows (set parts i new) ≡ insert_entry cmp (concat_rows parts) key v
+    pub insert_in : (new : List (K × X)) (v : X) → new ≡ insert_entry cmp (row_of parts i) key v → concat_rows (set parts i new) ≡ insert_entry cmp
+        (concat_rows parts) key v
     insert_in new v is =
         in_all new (insert_entry cmp (row_of parts i) key v) (insert_entry cmp (concat_rows parts) key v) is
         (ap (λ es. insert_entry cmp es key v) (joined_at parts i lt)
         ∙ (insert_front front (row_of parts i ++ back) v of.below ∙ ap (λ es. front ++ es) (insert_back back of.above (row_of parts i) v)))
 
-    pub remove_in : (new : List (K × X)) → new ≡ remove_entry (is_at (cmp key)) (row_of parts i) → concat_rows (set parts i new) ≡ remove_entry (is_at (cmp key)) (concat_rows parts)
+    pub remove_in : (new : List (K × X)) → new ≡ remove_entry (is_at (cmp key)) (row_of parts i)
+        → concat_rows (set parts i new) ≡ remove_entry (is_at (cmp key)) (concat_rows parts)
     remove_in new is =
         in_all new (remove_entry (is_at (cmp key)) (row_of parts i)) (remove_entry (is_at (cmp key)) (concat_rows parts)) is
         (ap (remove_entry (is_at (cmp key))) (joined_at parts i lt)
         ∙ (remove_front front (row_of parts i ++ back) of.below ∙ ap (λ es. front ++ es) (remove_back back of.above (row_of parts i))))
 
-    pub set_in : (new : List (K × X)) (w : X) → new ≡ set_value (is_at (cmp key)) (row_of parts i) w → concat_rows (set parts i new) ≡ set_value (is_at (cmp key)) (concat_rows parts) w
+    pub set_in : (new : List (K × X)) (w : X) → new ≡ set_value (is_at (cmp key)) (row_of parts i) w
+        → concat_rows (set parts i new) ≡ set_value (is_at (cmp key)) (concat_rows parts) w
     set_in new w is =
         in_all new (set_value (is_at (cmp key)) (row_of parts i) w) (set_value (is_at (cmp key)) (concat_rows parts) w) is
         (ap (λ es. set_value (is_at (cmp key)) es w) (joined_at parts i lt)
         ∙ (set_front front (row_of parts i ++ back) w of.below ∙ ap (λ es. front ++ es) (set_back back of.above (row_of parts i) w)))
 
     -- and no part is empty behind a value that was set
-    pub filled_in : AreFilled parts → (read new : List (K × X)) (w : X) → read ≡ row_of parts i → new ≡ set_value (is_at (cmp key)) read w → AreFilled (set parts i new)
+    pub filled_in : AreFilled parts → (read new : List (K × X)) (w : X) → read ≡ row_of parts i → new ≡ set_value (is_at (cmp key)) read w
+        → AreFilled (set parts i new)
     filled_in filled read new w same is =
         filled_set parts i new lt (omega (arith, ap length is, length-set_value (is_at (cmp key)) read w, ap length same, filled_row parts i lt filled)) filled

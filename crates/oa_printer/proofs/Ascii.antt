@@ -29,7 +29,8 @@ use Rattle.oa_idl.specs.promise.Grammar.{entry_grow, no_entry}
 use Rattle.oa_idl.specs.promise.MethodValues.{MethodValue}
 use Rattle.oa_idl.specs.promise.Words.{is_escaped, is_printable}
 use Rattle.oa_idl.specs.promise.Trees.{TreeValue}
-use Rattle.oa_printer.specs.Printable.{AreEntries, IsDefault, IsId, IsItem, IsLiteral, IsMethod, IsName, IsNameText, IsPrintable, IsPrintableParameter, IsProperty, IsVersion}
+use Rattle.oa_printer.specs.Printable.{AreEntries, IsDefault, IsId, IsItem, IsLiteral, IsMethod, IsName, IsNameText, IsPrintable, IsPrintableParameter}
+use Rattle.oa_printer.specs.Printable.{IsProperty, IsVersion}
 use Rattle.oa_printer.specs.promise.Canonical.{canonical, character_text, coclass_text, default_text, digits_text}
 use Rattle.oa_printer.specs.promise.Canonical.{entry_text, entry_word_text, further_text, guid_text, has_marks, id_text}
 use Rattle.oa_printer.specs.promise.Canonical.{interface_line, interface_text, item_text, kind_text, list_text}
@@ -131,7 +132,8 @@ type_low t = low (type_text t) refl
 value_type_low : (t : ValueType) → IsAscii (value_type_text t)
 unfolding value_type_text
 value_type_low (values.One t) = type_low t
-value_type_low (values.Array t) = IsAscii-append (codes "SAFEARRAY(") _ (low (codes "SAFEARRAY(") refl) (IsAscii-append (type_text t) _ (type_low t) (low (codes ")") refl))
+value_type_low (values.Array t) = IsAscii-append (codes "SAFEARRAY(") _ (low (codes "SAFEARRAY(") refl)
+    (IsAscii-append (type_text t) _ (type_low t) (low (codes ")") refl))
 
 result_low : (t : Option ValueType) → IsAscii (result_text t)
 unfolding result_text
@@ -155,7 +157,8 @@ character_low b is = escaped_low b (is_escaped b) (printable_low b is)
 literal_low : (v : Literal) → IsLiteral v → IsAscii (literal_text v)
 unfolding literal_text
 literal_low (literals.Number i) is = signed i is
-literal_low (literals.Text cs) is = IsAscii-append (codes "\"") _ (low (codes "\"") refl) (IsAscii-append (flat_map character_text cs) _ (each character_text (λ b. is_printable b ≡ true) character_low cs is) (low (codes "\"") refl))
+literal_low (literals.Text cs) is = IsAscii-append (codes "\"") _ (low (codes "\"") refl)
+    (IsAscii-append (flat_map character_text cs) _ (each character_text (λ b. is_printable b ≡ true) character_low cs is) (low (codes "\"") refl))
 literal_low (literals.Bool true) is = low (codes "TRUE") refl
 literal_low (literals.Bool false) is = low (codes "FALSE") refl
 
@@ -168,7 +171,8 @@ mark_low before false text t = IsAscii-nil
 default_low : (before : Bool) (d : Option Literal) → IsDefault d → IsAscii (default_text before d)
 unfolding default_text
 default_low before None is = IsAscii-nil
-default_low before (Some v) is = three (mark_text before true (codes "defaultvalue(")) (literal_text v) (codes ")") (mark_low before true (codes "defaultvalue(") (low (codes "defaultvalue(") refl)) (literal_low v is) (low (codes ")") refl)
+default_low before (Some v) is = three (mark_text before true (codes "defaultvalue(")) (literal_text v) (codes ")")
+    (mark_low before true (codes "defaultvalue(") (low (codes "defaultvalue(") refl)) (literal_low v is) (low (codes ")") refl)
 
 end_low : (b : Bool) → IsAscii (if b then codes "] " else [])
 end_low true = low (codes "] ") refl
@@ -177,8 +181,10 @@ end_low false = IsAscii-nil
 parameter_low : (p : Parameter) → IsPrintableParameter p → IsAscii (parameter_text p)
 unfolding parameter_text parameter_marks
 parameter_low p is =
-    let marks = three (mark_text false p.is_in (codes "in") ++ mark_text p.is_in p.is_optional (codes "optional")) (default_text (p.is_in || p.is_optional) p.default) (if has_marks p then codes "] " else [])
-    (IsAscii-append (mark_text false p.is_in (codes "in")) (mark_text p.is_in p.is_optional (codes "optional")) (mark_low false p.is_in (codes "in") (low (codes "in") refl))
+    let marks = three (mark_text false p.is_in (codes "in") ++ mark_text p.is_in p.is_optional (codes "optional"))
+    (default_text (p.is_in || p.is_optional) p.default) (if has_marks p then codes "] " else [])
+    (IsAscii-append (mark_text false p.is_in (codes "in")) (mark_text p.is_in p.is_optional (codes "optional"))
+    (mark_low false p.is_in (codes "in") (low (codes "in") refl))
     (mark_low p.is_in p.is_optional (codes "optional") (low (codes "optional") refl)))
     (default_low (p.is_in || p.is_optional) p.default is.0) (end_low (has_marks p)) in
     IsAscii-append (parameter_marks p) _ marks (named_text_low (value_type_text p.value_type) p.name (value_type_low p.value_type) (a_name p.name is.2))
@@ -204,7 +210,8 @@ readonly_low false = low (codes ")] ") refl
 
 property_low : (p : Property) → IsProperty p → IsAscii (property_text p)
 unfolding property_text
-property_low p is = three (id_text p.id (readonly_text p.readonly)) (named_text (value_type_text p.value_type) p.name) (codes ";\n") (id_low p.id (readonly_text p.readonly) is.0 (readonly_low p.readonly))
+property_low p is = three (id_text p.id (readonly_text p.readonly)) (named_text (value_type_text p.value_type) p.name) (codes ";\n")
+    (id_low p.id (readonly_text p.readonly) is.0 (readonly_low p.readonly))
     (named_text_low (value_type_text p.value_type) p.name (value_type_low p.value_type) (a_name p.name is.2)) (low (codes ";\n") refl)
 
 kind_low : (k : MethodKind) → IsAscii (kind_text k)
@@ -218,7 +225,8 @@ list_low ps is = IsAscii-append (codes "(") _ (low (codes "(") refl) (IsAscii-ap
 
 method_low : (m : MethodValue) → IsMethod m → IsAscii (method_text m)
 unfolding method_text
-method_low m is = three (id_text m.id (kind_text m.kind)) (named_text (result_text m.value_type) m.name) (list_text m.parameters) (id_low m.id (kind_text m.kind) is.0 (kind_low m.kind))
+method_low m is = three (id_text m.id (kind_text m.kind)) (named_text (result_text m.value_type) m.name) (list_text m.parameters)
+    (id_low m.id (kind_text m.kind) is.0 (kind_low m.kind))
     (named_text_low (result_text m.value_type) m.name (result_low m.value_type) (a_name m.name is.2)) (list_low m.parameters is.3)
 
 entry_word_low : (b : Bool) → IsAscii (entry_word_text b)
@@ -241,16 +249,20 @@ guid_low g = IsAscii-append (codes "[uuid(") _ (low (codes "[uuid(") refl) (IsAs
 
 title_low : (guid word name : List ℕ) → IsAscii word → IsAscii name → IsAscii (title_text guid word name)
 unfolding title_text
-title_low guid word name w n = three (guid_text guid ++ word) name (codes " {\n") (IsAscii-append (guid_text guid) word (guid_low guid) w) n (low (codes " {\n") refl)
+title_low guid word name w n = three (guid_text guid ++ word) name (codes " {\n") (IsAscii-append (guid_text guid) word (guid_low guid) w) n
+    (low (codes " {\n") refl)
 
 item_low : (i : Item) → IsItem i → IsAscii (item_text i)
 unfolding item_text interface_text interface_line properties_text properties_line methods_text coclass_text
 item_low (items.Interface d) is = three (title_text d.guid (codes "]\ndispinterface ") d.name) (properties_text d.properties) (methods_text d.methods)
     (title_low d.guid (codes "]\ndispinterface ") d.name (low (codes "]\ndispinterface ") refl) (a_name d.name is.1))
-    (IsAscii-append (codes "properties:\n") (flat_map property_text d.properties) (low (codes "properties:\n") refl) (each property_text IsProperty property_low d.properties is.2))
-    (three (codes "methods:\n") (flat_map method_text d.methods) (codes "}\n") (low (codes "methods:\n") refl) (each method_text IsMethod method_low d.methods is.3) (low (codes "}\n") refl))
+    (IsAscii-append (codes "properties:\n") (flat_map property_text d.properties) (low (codes "properties:\n") refl)
+    (each property_text IsProperty property_low d.properties is.2))
+    (three (codes "methods:\n") (flat_map method_text d.methods) (codes "}\n") (low (codes "methods:\n") refl)
+    (each method_text IsMethod method_low d.methods is.3) (low (codes "}\n") refl))
 item_low (items.Coclass c) is = three (title_text c.guid (codes "]\ncoclass ") c.name) (flat_map entry_text c.entries) (codes "}\n")
-    (title_low c.guid (codes "]\ncoclass ") c.name (low (codes "]\ncoclass ") refl) (a_name c.name is.1)) (entries_low no_entry c.entries is.2) (low (codes "}\n") refl)
+    (title_low c.guid (codes "]\ncoclass ") c.name (low (codes "]\ncoclass ") refl) (a_name c.name is.1)) (entries_low no_entry c.entries is.2)
+    (low (codes "}\n") refl)
 
 version_low : (v : Version) → IsVersion v → IsAscii (version_text v)
 unfolding version_text
@@ -261,7 +273,8 @@ version_low v is = three ((codes ", version(" ++ decimal v.major) ++ codes ".") 
 pub canonical_low : (t : TreeValue) → IsPrintable t → IsAscii (canonical t)
 unfolding canonical
 canonical_low t is = three (title_text t.guid (version_text t.version) t.name) (flat_map item_text t.items) (codes "}\n")
-    (title_low t.guid (version_text t.version) t.name (version_low t.version is.version) (a_name t.name is.name)) (each item_text IsItem item_low t.items is.items) (low (codes "}\n") refl)
+    (title_low t.guid (version_text t.version) t.name (version_low t.version is.version) (a_name t.name is.name))
+    (each item_text IsItem item_low t.items is.items) (low (codes "}\n") refl)
 
 pub canonical_is_utf8 : (t : TreeValue) → IsPrintable t → IsUtf8 (canonical t)
 canonical_is_utf8 t is = IsUtf8-from_ascii (canonical t) (canonical_low t is)

@@ -37,7 +37,8 @@ pub decimal_is : (n : ℕ) → n < 2 ^ 96 → IsNumber n (decimal n)
 decimal_is n small = let h = decimal_is_IsNumeral_wide n (omega (arith, small)) in record { some = h.0.0; digits = are_digits (decimal n) h.0.1; value = h.1 }
 
 digit_of_is : (d : ℕ) → 48 ≤ d → d ≤ 57 → digit_of d ≡ digit_value d
-digit_of_is d lo hi = by_test (nat_le d 57) (λ (e : nat_le d 57 ≡ true). rw e (omega (arith, digit_value_digit d (lo, hi)))) (λ (e : nat_le d 57 ≡ false). absurd (omega (arith, hi, leb-false d 57 e)))
+digit_of_is d lo hi = by_test (nat_le d 57) (λ (e : nat_le d 57 ≡ true). rw e (omega (arith, digit_value_digit d (lo, hi))))
+    (λ (e : nat_le d 57 ≡ false). absurd (omega (arith, hi, leb-false d 57 e)))
 
 number_after : (n : ℕ) (ds : List ℕ) → AreDigits ds → number_from 10 n ds ≡ digits_value_after 10 n ds
 unfolding number_from
@@ -47,14 +48,18 @@ number_after n (d ∷ ds) h = ap (λ (k : ℕ). number_from 10 k ds) (omega (ari
 no_hexadecimal : (ds : List ℕ) → AreDigits ds → is_hexadecimal ds ≡ false
 no_hexadecimal [] h = refl
 no_hexadecimal (d ∷ []) h = by_test (d == 48) (λ (e : (d == 48) ≡ true). rw e refl) (λ (e : (d == 48) ≡ false). rw e refl)
-no_hexadecimal (d ∷ c ∷ ds) h = by_test (d == 48) (λ (e : (d == 48) ≡ true). rw e (is_not c 120 (λ k. omega (arith, k, h.2.1)))) (λ (e : (d == 48) ≡ false). rw e refl)
+no_hexadecimal (d ∷ c ∷ ds) h = by_test (d == 48) (λ (e : (d == 48) ≡ true). rw e (is_not c 120 (λ k. omega (arith, k, h.2.1))))
+    (λ (e : (d == 48) ≡ false). rw e refl)
 
 pub number_is : (n : ℕ) (ds : List ℕ) → n < 2 ^ 96 → IsNumber n ds → (is_hexadecimal ds ≡ false) × (number_of ds ≡ Some n)
 unfolding number_of
 number_is n ds small h =
     let decimal : is_hexadecimal ds ≡ false = no_hexadecimal ds h.digits in
-    let value : value_of ds ≡ n = rw decimal (number_after 0 ds h.digits ∙ h.value) in
-    (decimal, by_test (nat_lt n (2 ^ 96)) (λ (e : nat_lt n (2 ^ 96) ≡ true). rw (value, e) refl) (λ (e : nat_lt n (2 ^ 96) ≡ false). absurd (omega (arith, small, ltb-false n (2 ^ 96) e))))
+    let value : value_of ds ≡ n = rw decimal (number_after 0 ds h.digits ∙ h.value) in (
+      decimal,
+      by_test (nat_lt n (2 ^ 96)) (λ (e : nat_lt n (2 ^ 96) ≡ true). rw (value, e) refl)
+          (λ (e : nat_lt n (2 ^ 96) ≡ false). absurd (omega (arith, small, ltb-false n (2 ^ 96) e))),
+    )
 
 -- ---- GUIDs
 
@@ -65,7 +70,14 @@ hex_digit_is : (d : ℕ) → d < 16 → is_in classes.Hexadecimal (hex_digit low
 unfolding is_in
 hex_digit_is d small = by_test (nat_lt d 10)
     (λ (e : nat_lt d 10 ≡ true). rw (e, within 48 57 (48 + d) (omega arith) (omega (arith, ltb-true d 10 e))) refl)
-    (λ (e : nat_lt d 10 ≡ false). let ge = ltb-false d 10 e in rw (e, within 97 102 (97 + d - 10) (omega (arith, ge)) (omega (arith, ge, small)), outside 48 57 (97 + d - 10) (λ p q. omega (arith, ge, q)), outside 65 70 (97 + d - 10) (λ p q. omega (arith, ge, q))) refl)
+    (λ (e : nat_lt d 10 ≡ false). let ge = ltb-false d 10 e in
+    rw (
+      e,
+      within 97 102 (97 + d - 10) (omega (arith, ge)) (omega (arith, ge, small)),
+      outside 48 57 (97 + d - 10) (λ p q. omega (arith, ge, q)),
+      outside 65 70
+          (97 + d - 10) (λ p q. omega (arith, ge, q)),
+    ) refl)
 
 digits_hex : (g ks : List ℕ) (b : ℕ) (bs : List ℕ) → is_in classes.Hexadecimal b ≡ false
     → run (is_in classes.Hexadecimal) (digits_at g ks ++ b ∷ bs) ≡ length ks
@@ -91,11 +103,13 @@ equal_4 n e = rw e refl
 
 group_8 : (g : List ℕ) (a b c d e f i j : ℕ) (bs : List ℕ) → group 8 (digits_at g (a ∷ b ∷ c ∷ d ∷ e ∷ f ∷ i ∷ j ∷ []) ++ 45 ∷ bs) ≡ true
 unfolding group
-group_8 g a b c d e f i j bs = all_three (equal_8 _ (digits_hex g (a ∷ b ∷ c ∷ d ∷ e ∷ f ∷ i ∷ j ∷ []) 45 bs hyphen_stops)) (less 8 (length (digits_at g (a ∷ b ∷ c ∷ d ∷ e ∷ f ∷ i ∷ j ∷ []) ++ 45 ∷ bs)) (omega arith)) refl
+group_8 g a b c d e f i j bs = all_three (equal_8 _ (digits_hex g (a ∷ b ∷ c ∷ d ∷ e ∷ f ∷ i ∷ j ∷ []) 45 bs hyphen_stops))
+    (less 8 (length (digits_at g (a ∷ b ∷ c ∷ d ∷ e ∷ f ∷ i ∷ j ∷ []) ++ 45 ∷ bs)) (omega arith)) refl
 
 group_4 : (g : List ℕ) (a b c d : ℕ) (bs : List ℕ) → group 4 (digits_at g (a ∷ b ∷ c ∷ d ∷ []) ++ 45 ∷ bs) ≡ true
 unfolding group
-group_4 g a b c d bs = all_three (equal_4 _ (digits_hex g (a ∷ b ∷ c ∷ d ∷ []) 45 bs hyphen_stops)) (less 4 (length (digits_at g (a ∷ b ∷ c ∷ d ∷ []) ++ 45 ∷ bs)) (omega arith)) refl
+group_4 g a b c d bs = all_three (equal_4 _ (digits_hex g (a ∷ b ∷ c ∷ d ∷ []) 45 bs hyphen_stops))
+    (less 4 (length (digits_at g (a ∷ b ∷ c ∷ d ∷ []) ++ 45 ∷ bs)) (omega arith)) refl
 
 abbrev first_digits : List ℕ
 first_digits = 0 ∷ 1 ∷ 2 ∷ 3 ∷ 4 ∷ 5 ∷ 6 ∷ 7 ∷ []
@@ -104,7 +118,10 @@ abbrev last_digits : List ℕ
 last_digits = 20 ∷ 21 ∷ 22 ∷ 23 ∷ 24 ∷ 25 ∷ 26 ∷ 27 ∷ 28 ∷ 29 ∷ 30 ∷ 31 ∷ []
 
 -- the groups of a printed GUID
-printed_guid : (g bs : List ℕ) → digits_text g ++ bs ≡ digits_at g first_digits ++ 45 ∷ (digits_at g (8 ∷ 9 ∷ 10 ∷ 11 ∷ []) ++ 45 ∷ (digits_at g (12 ∷ 13 ∷ 14 ∷ 15 ∷ []) ++ 45 ∷ (digits_at g (16 ∷ 17 ∷ 18 ∷ 19 ∷ []) ++ 45 ∷ (digits_at g last_digits ++ bs))))
+printed_guid : (g bs : List ℕ)
+    → digits_text g ++ bs ≡ digits_at g first_digits ++ 45
+    ∷ (digits_at g (8 ∷ 9 ∷ 10 ∷ 11 ∷ []) ++ 45
+    ∷ (digits_at g (12 ∷ 13 ∷ 14 ∷ 15 ∷ []) ++ 45 ∷ (digits_at g (16 ∷ 17 ∷ 18 ∷ 19 ∷ []) ++ 45 ∷ (digits_at g last_digits ++ bs))))
 unfolding digits_text by_index
 printed_guid g bs = refl
 
@@ -117,7 +134,8 @@ twelve n e = rw e refl
 printed_is_guid : (g : List ℕ) (b : ℕ) (bs : List ℕ) → is_in classes.Hexadecimal b ≡ false → is_guid (digits_text g ++ b ∷ bs) ≡ true
 unfolding is_guid
 printed_is_guid g b bs stop = subst (λ (xs : List ℕ). is_guid xs ≡ true) (sym (printed_guid g (b ∷ bs)))
-    (all_five (group_8 g 0 1 2 3 4 5 6 7 (digits_at g (8 ∷ 9 ∷ 10 ∷ 11 ∷ []) ++ 45 ∷ (digits_at g (12 ∷ 13 ∷ 14 ∷ 15 ∷ []) ++ 45 ∷ (digits_at g (16 ∷ 17 ∷ 18 ∷ 19 ∷ []) ++ 45 ∷ (digits_at g last_digits ++ b ∷ bs)))))
+    (all_five (group_8 g 0 1 2 3 4 5 6 7 (digits_at g (8 ∷ 9 ∷ 10 ∷ 11 ∷ []) ++ 45
+    ∷ (digits_at g (12 ∷ 13 ∷ 14 ∷ 15 ∷ []) ++ 45 ∷ (digits_at g (16 ∷ 17 ∷ 18 ∷ 19 ∷ []) ++ 45 ∷ (digits_at g last_digits ++ b ∷ bs)))))
     (group_4 g 8 9 10 11 (digits_at g (12 ∷ 13 ∷ 14 ∷ 15 ∷ []) ++ 45 ∷ (digits_at g (16 ∷ 17 ∷ 18 ∷ 19 ∷ []) ++ 45 ∷ (digits_at g last_digits ++ b ∷ bs))))
     (group_4 g 12 13 14 15 (digits_at g (16 ∷ 17 ∷ 18 ∷ 19 ∷ []) ++ 45 ∷ (digits_at g last_digits ++ b ∷ bs)))
     (group_4 g 16 17 18 19 (digits_at g last_digits ++ b ∷ bs))

@@ -69,16 +69,19 @@ and_false false b h = refl
 -- A test of ranges, as an order of numbers.
 in_range : (lo hi b : ℕ) → is_in_range lo hi b ≡ true → (lo ≤ b) × (b ≤ hi)
 in_range lo hi b e = by_test (nat_le lo b)
-    (λ (x : nat_le lo b ≡ true). by_test (nat_le b hi) (λ (y : nat_le b hi ≡ true). (leb-true lo b x, leb-true b hi y)) (λ (y : nat_le b hi ≡ false). absurd (clash e (rw (x, y) refl))))
+    (λ (x : nat_le lo b ≡ true). by_test (nat_le b hi) (λ (y : nat_le b hi ≡ true). (leb-true lo b x, leb-true b hi y))
+    (λ (y : nat_le b hi ≡ false). absurd (clash e (rw (x, y) refl))))
     (λ (x : nat_le lo b ≡ false). absurd (clash e (rw x refl)))
 
 pub within : (lo hi b : ℕ) → lo ≤ b → b ≤ hi → is_in_range lo hi b ≡ true
 within lo hi b x y = by_test (nat_le lo b)
-    (λ (p : nat_le lo b ≡ true). by_test (nat_le b hi) (λ (q : nat_le b hi ≡ true). rw (p, q) refl) (λ (q : nat_le b hi ≡ false). absurd (omega (arith, y, leb-false b hi q))))
+    (λ (p : nat_le lo b ≡ true). by_test (nat_le b hi) (λ (q : nat_le b hi ≡ true). rw (p, q) refl)
+    (λ (q : nat_le b hi ≡ false). absurd (omega (arith, y, leb-false b hi q))))
     (λ (p : nat_le lo b ≡ false). absurd (omega (arith, x, leb-false lo b p)))
 
 pub outside : (lo hi b : ℕ) → ((lo ≤ b) → (b ≤ hi) → ⊥) → is_in_range lo hi b ≡ false
-outside lo hi b h = by_test (is_in_range lo hi b) (λ (e : is_in_range lo hi b ≡ true). absurd (h (in_range lo hi b e).0 (in_range lo hi b e).1)) (λ (e : is_in_range lo hi b ≡ false). e)
+outside lo hi b h = by_test (is_in_range lo hi b) (λ (e : is_in_range lo hi b ≡ true). absurd (h (in_range lo hi b e).0 (in_range lo hi b e).1))
+    (λ (e : is_in_range lo hi b ≡ false). e)
 
 digit_named : (b : ℕ) → 48 ≤ b → b ≤ 57 → is_in classes.Named b ≡ true
 unfolding is_in
@@ -90,7 +93,9 @@ hex_named b e = by_test (is_in_range 48 57 b) (λ (x : is_in_range 48 57 b ≡ t
     (λ (x : is_in_range 48 57 b ≡ false). by_test (is_in_range 65 70 b)
     (λ (y : is_in_range 65 70 b ≡ true). rw (x, within 65 90 b (in_range 65 70 b y).0 (omega (arith, (in_range 65 70 b y).1))) refl)
     (λ (y : is_in_range 65 70 b ≡ false). by_test (is_in_range 97 102 b)
-    (λ (z : is_in_range 97 102 b ≡ true). rw (x, within 97 122 b (in_range 97 102 b z).0 (omega (arith, (in_range 97 102 b z).1)), outside 65 90 b (λ p q. omega (arith, q, (in_range 97 102 b z).0))) refl)
+    (λ (z : is_in_range 97 102 b ≡ true). rw
+    (x, within 97 122 b (in_range 97 102 b z).0 (omega (arith, (in_range 97 102 b z).1)), outside 65 90 b (λ p q. omega (arith, q, (in_range 97 102 b z).0)))
+    refl)
     (λ (z : is_in_range 97 102 b ≡ false). absurd (clash e (rw (x, y, z) refl)))))
 
 pub is_not : (b n : ℕ) → (b ≡ n → ⊥) → (b == n) ≡ false
@@ -128,7 +133,8 @@ not_hyphen (x ∷ xs) b bs e ends = by_test (is_in classes.Named x)
 no_group : (bs : List ℕ) → (get_or bs (run (is_in classes.Hexadecimal) bs) 0 == 45) ≡ false → group 8 bs ≡ false
 unfolding group
 no_group bs h = and_false (run (is_in classes.Hexadecimal) bs == 8) (nat_lt 8 (length bs) && get_or bs 8 0 == 45)
-    (λ is. and_false (nat_lt 8 (length bs)) (get_or bs 8 0 == 45) (λ _. subst (λ (n : ℕ). (get_or bs n 0 == 45) ≡ false) (eqb-true (run (is_in classes.Hexadecimal) bs) 8 is) h))
+    (λ is. and_false (nat_lt 8 (length bs)) (get_or bs 8 0 == 45)
+    (λ _. subst (λ (n : ℕ). (get_or bs n 0 == 45) ≡ false) (eqb-true (run (is_in classes.Hexadecimal) bs) 8 is) h))
 
 no_guid : (bs : List ℕ) → (get_or bs (run (is_in classes.Hexadecimal) bs) 0 == 45) ≡ false → is_guid bs ≡ false
 unfolding is_guid
@@ -139,9 +145,11 @@ no_guid bs h = rw (no_group bs h) refl
 letter_named : (b : ℕ) → is_in classes.Letter b ≡ true → is_in classes.Named b ≡ true
 unfolding is_in
 letter_named b e = by_test (is_in_range 65 90 b)
-    (λ (x : is_in_range 65 90 b ≡ true). by_test (is_in_range 48 57 b) (λ (y : is_in_range 48 57 b ≡ true). rw (y) refl) (λ (y : is_in_range 48 57 b ≡ false). rw (y, x) refl))
+    (λ (x : is_in_range 65 90 b ≡ true). by_test (is_in_range 48 57 b) (λ (y : is_in_range 48 57 b ≡ true). rw (y) refl)
+    (λ (y : is_in_range 48 57 b ≡ false). rw (y, x) refl))
     (λ (x : is_in_range 65 90 b ≡ false). by_test (is_in_range 97 122 b)
-    (λ (y : is_in_range 97 122 b ≡ true). by_test (is_in_range 48 57 b) (λ (z : is_in_range 48 57 b ≡ true). rw z refl) (λ (z : is_in_range 48 57 b ≡ false). rw (z, x, y) refl))
+    (λ (y : is_in_range 97 122 b ≡ true). by_test (is_in_range 48 57 b) (λ (z : is_in_range 48 57 b ≡ true). rw z refl)
+    (λ (z : is_in_range 48 57 b ≡ false). rw (z, x, y) refl))
     (λ (y : is_in_range 97 122 b ≡ false). by_test (is_in_range 48 57 b) (λ (z : is_in_range 48 57 b ≡ true). rw z refl) (λ (z : is_in_range 48 57 b ≡ false).
     by_test (b == 95) (λ (u : (b == 95) ≡ true). rw (z, x, y, u) refl) (λ (u : (b == 95) ≡ false). absurd (clash e (rw (x, y, u) refl))))))
 
@@ -153,7 +161,8 @@ pub name_front : (c : ℕ) (cs : List ℕ) (b : ℕ) (bs : List ℕ) → IsNameT
     → front (c ∷ (cs ++ b ∷ bs)) ≡ Word kinds.Name (1 + length cs)
 unfolding front
 name_front c cs b bs is ends =
-    rw (no_guid (c ∷ (cs ++ b ∷ bs)) (not_hyphen (c ∷ cs) b bs (name_run c cs is) ends), is.0) (ap (λ (n : ℕ). Word kinds.Name (1 + n)) (run_append (is_in classes.Named) cs b bs is.1 ends.0))
+    rw (no_guid (c ∷ (cs ++ b ∷ bs)) (not_hyphen (c ∷ cs) b bs (name_run c cs is) ends), is.0)
+    (ap (λ (n : ℕ). Word kinds.Name (1 + n)) (run_append (is_in classes.Named) cs b bs is.1 ends.0))
 
 -- ---- a decimal number
 
@@ -178,7 +187,8 @@ digits_named (d ∷ ds) h = rw (digit_named d h.0 h.1) (ap suc (digits_named ds 
 
 no_letter : (d : ℕ) → 48 ≤ d → d ≤ 57 → is_in classes.Letter d ≡ false
 unfolding is_in
-no_letter d lo hi = rw (outside 65 90 d (λ p q. omega (arith, p, hi)), outside 97 122 d (λ p q. omega (arith, p, hi)), is_not d 95 (λ e. omega (arith, e, hi))) refl
+no_letter d lo hi = rw (outside 65 90 d (λ p q. omega (arith, p, hi)), outside 97 122 d (λ p q. omega (arith, p, hi)), is_not d 95 (λ e. omega (arith, e, hi)))
+    refl
 
 named_no_x : (b : ℕ) → is_in classes.Named b ≡ false → (b == 120) ≡ false
 unfolding is_in
@@ -189,7 +199,8 @@ unfolding is_in
 digit_is_named b is = rw is refl
 
 ends_no_digit : (b : ℕ) → is_in classes.Named b ≡ false → is_in classes.Digit b ≡ false
-ends_no_digit b e = by_test (is_in classes.Digit b) (λ (is : is_in classes.Digit b ≡ true). absurd (clash (digit_is_named b is) e)) (λ (is : is_in classes.Digit b ≡ false). is)
+ends_no_digit b e = by_test (is_in classes.Digit b) (λ (is : is_in classes.Digit b ≡ true). absurd (clash (digit_is_named b is) e))
+    (λ (is : is_in classes.Digit b ≡ false). is)
 
 second_no_x : (ds : List ℕ) (b : ℕ) (bs : List ℕ) → AreDigits ds → EndsWord (b ∷ bs) → (get_or (ds ++ b ∷ bs) 0 0 == 120) ≡ false
 second_no_x [] b bs h ends = named_no_x b ends.0
@@ -199,5 +210,11 @@ pub number_front : (d : ℕ) (ds : List ℕ) (b : ℕ) (bs : List ℕ) → AreDi
     → front (d ∷ (ds ++ b ∷ bs)) ≡ Word kinds.Number (1 + length ds)
 unfolding front
 number_front d ds b bs h ends =
-    rw (no_guid (d ∷ (ds ++ b ∷ bs)) (not_hyphen (d ∷ ds) b bs (digits_named (d ∷ ds) h) ends), no_letter d h.0 h.1, and_false (d == 48) (get_or (ds ++ b ∷ bs) 0 0 == 120) (λ _. second_no_x ds b bs h.2 ends), is_digit d h.0 h.1)
+    rw (
+      no_guid (d ∷ (ds ++ b ∷ bs)) (not_hyphen (d ∷ ds) b bs (digits_named (d ∷ ds) h) ends),
+      no_letter d h.0 h.1,
+      and_false (d == 48)
+          (get_or (ds ++ b ∷ bs) 0 0 == 120) (λ _. second_no_x ds b bs h.2 ends),
+      is_digit d h.0 h.1,
+    )
     (ap (λ (n : ℕ). Word kinds.Number (1 + n)) (run_append (is_in classes.Digit) ds b bs (digits_run ds h.2) (ends_no_digit b ends.0)))

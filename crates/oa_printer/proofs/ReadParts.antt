@@ -96,7 +96,8 @@ gap_piece bs (Some n) = tt
 front_piece : (bs : List ℕ) → OfPiece bs (front bs)
 unfolding front
 front_piece bs = if_either (OfPiece bs) (is_guid bs) _ _ (λ _. tt) (λ _. if_either (OfPiece bs) (is_in classes.Letter (get_or bs 0 0)) _ _ (name_piece bs)
-    (λ _. if_either (OfPiece bs) (get_or bs 0 0 == 48 && get_or bs 1 0 == 120) _ _ (λ _. if_either (OfPiece bs) (run (is_in classes.Hexadecimal) (drop 2 bs) == 0) _ _ (λ _. tt) (λ _. tt))
+    (λ _. if_either (OfPiece bs) (get_or bs 0 0 == 48 && get_or bs 1 0 == 120) _ _
+    (λ _. if_either (OfPiece bs) (run (is_in classes.Hexadecimal) (drop 2 bs) == 0) _ _ (λ _. tt) (λ _. tt))
     (λ _. if_either (OfPiece bs) (is_in classes.Digit (get_or bs 0 0)) _ _ (λ _. tt)
     (λ _. if_either (OfPiece bs) (get_or bs 0 0 == 34) _ _ (λ _. text_piece bs (end_from Quote false (drop 1 bs)))
     (λ _. if_either (OfPiece bs) (is_in classes.Mark (get_or bs 0 0)) _ _ (λ _. tt)
@@ -174,7 +175,8 @@ minus_in zero h = omega arith
 minus_in (suc n) h = omega (arith, h)
 
 signed_in : (n : ℕ) → n < 4294967296 → InWord (cast_signed w32 n)
-signed_in n h = if_either InWord (nat_lt n 2147483648) (pos n) (negsuc (4294967296 - suc n)) (λ e. ltb-true n 2147483648 e) (λ e. omega (arith, ltb-false n 2147483648 e, h))
+signed_in n h = if_either InWord (nat_lt n 2147483648) (pos n) (negsuc (4294967296 - suc n)) (λ e. ltb-true n 2147483648 e)
+    (λ e. omega (arith, ltb-false n 2147483648 e, h))
 
 number_in : (negative hexadecimal : Bool) (n : ℕ) → IfInWord (id_number negative hexadecimal n)
 number_in true hexadecimal n = if_either IfInWord (nat_le n 2147483648) _ _ (λ e. minus_in n (leb-true n 2147483648 e)) (λ _. tt)
@@ -194,7 +196,8 @@ id_from_is negative hexadecimal (Some n) i e = usable_is (id_number negative hex
 
 pub id_read : (negative : Bool) (i : ℤ) (w : forms.Word) → id_of negative w ≡ Some i → IsId i
 unfolding id_of
-id_read negative i w e = id_from_is negative (is_hexadecimal w.text) (number_of w.text) i (chosen (same_kind w.kind kinds.Number) (id_from negative (is_hexadecimal w.text) (number_of w.text)) i e).1
+id_read negative i w e = id_from_is negative (is_hexadecimal w.text) (number_of w.text) i
+    (chosen (same_kind w.kind kinds.Number) (id_from negative (is_hexadecimal w.text) (number_of w.text)) i e).1
 
 signed_is : (negative : Bool) (n : ℕ) → n < 2 ^ 96 → IsLiteral (literals.Number (signed_number negative n))
 signed_is true zero h = omega arith
@@ -204,7 +207,8 @@ signed_is false n h = h
 amount_from_is : (negative : Bool) (o : Option ℕ) (i : ℤ) → ((n : ℕ) → o ≡ Some n → n < 2 ^ 96) → amount_from negative o ≡ Some i
     → IsLiteral (literals.Number i)
 amount_from_is negative None i h e = no_some i e
-amount_from_is negative (Some n) i h e = subst (λ (j : ℤ). IsLiteral (literals.Number j)) (some_is (signed_number negative n) i e) (signed_is negative n (h n refl))
+amount_from_is negative (Some n) i h e = subst (λ (j : ℤ). IsLiteral (literals.Number j)) (some_is (signed_number negative n) i e)
+    (signed_is negative n (h n refl))
 
 number_small : (text : List ℕ) (n : ℕ) → number_of text ≡ Some n → n < 2 ^ 96
 unfolding number_of
@@ -212,7 +216,8 @@ number_small text n e = (below_is (2 ^ 96) (value_of text) n e).1
 
 pub amount_read : (negative : Bool) (i : ℤ) (w : forms.Word) → amount_of negative w ≡ Some i → IsLiteral (literals.Number i)
 unfolding amount_of
-amount_read negative i w e = amount_from_is negative (number_of w.text) i (number_small w.text) (chosen (same_kind w.kind kinds.Number) (amount_from negative (number_of w.text)) i e).1
+amount_read negative i w e = amount_from_is negative (number_of w.text) i (number_small w.text)
+    (chosen (same_kind w.kind kinds.Number) (amount_from negative (number_of w.text)) i e).1
 
 part_from_is : (o : Option ℕ) (n : ℕ) → part_from true o ≡ Some n → n < 65536
 part_from_is None n e = no_some n e
@@ -228,14 +233,24 @@ value_small : (c : ℕ) → is_hex_digit c ≡ true → uuids.value_of c < 16
 value_small c e = grind (arith, nat_tests, e)
 
 hex_at : (hex : List ℕ) (k : ℕ) → list_all is_hex_digit hex ≡ true → k < length hex → is_hex_digit (slice_index hex k) ≡ true
-hex_at hex k all lt = by_test (is_hex_digit (slice_index hex k)) (λ (e : is_hex_digit (slice_index hex k) ≡ true). e) (λ (e : is_hex_digit (slice_index hex k) ≡ false). absurd (clash all (list_all_at is_hex_digit hex k 0 lt e)))
+hex_at hex k all lt = by_test (is_hex_digit (slice_index hex k)) (λ (e : is_hex_digit (slice_index hex k) ≡ true). e)
+    (λ (e : is_hex_digit (slice_index hex k) ≡ false). absurd (clash all (list_all_at is_hex_digit hex k 0 lt e)))
 
 simple_guid : (hex : List ℕ) → list_all is_hex_digit hex ≡ true → length hex ≡ 32 → IsGuid (by_index 16 (byte_of_digits hex))
-simple_guid hex all len = (by_index_length 16 (byte_of_digits hex), All-from_get_or (λ b. b < 256) (by_index 16 (byte_of_digits hex)) 0 (λ i lt. byte_small i (omega (arith, lt, by_index_length 16 (byte_of_digits hex)))))
+simple_guid hex all len = (
+  by_index_length 16 (byte_of_digits hex),
+  All-from_get_or (λ b. b < 256) (by_index 16 (byte_of_digits hex)) 0
+      (λ i lt. byte_small i (omega (arith, lt, by_index_length 16 (byte_of_digits hex)))),
+)
   where
     byte_small : (i : ℕ) → i < 16 → get_or (by_index 16 (byte_of_digits hex)) i 0 < 256
     byte_small i lt = rw (by_index_at 16 (byte_of_digits hex) i 0 lt)
-        (omega (arith, value_small (slice_index hex (2 * i)) (hex_at hex (2 * i) all (omega (arith, lt, len))), value_small (slice_index hex (2 * i + 1)) (hex_at hex (2 * i + 1) all (omega (arith, lt, len)))))
+        (omega (
+          arith,
+          value_small (slice_index hex (2 * i)) (hex_at hex (2 * i) all (omega (arith, lt, len))),
+          value_small (slice_index hex (2 * i + 1))
+              (hex_at hex (2 * i + 1) all (omega (arith, lt, len))),
+        ))
 
 simple_read : (hex g : List ℕ) → parsed_simple hex ≡ Some g → IsGuid g
 simple_read hex g e =
@@ -263,14 +278,19 @@ IfHasWord (Some t) = HasWord t
 
 plain_has : (text : List ℕ) → IfHasWord (plain_type text)
 unfolding plain_type
-plain_has text = if_either IfHasWord (bytes_eq text (codes "char")) _ _ (λ _. tt) (λ _. if_either IfHasWord (bytes_eq text (codes "short")) _ _ (λ _. tt) (λ _. if_either IfHasWord (bytes_eq text (codes "long")) _ _ (λ _. tt)
-    (λ _. if_either IfHasWord (bytes_eq text (codes "int")) _ _ (λ _. tt) (λ _. if_either IfHasWord (bytes_eq text (codes "hyper")) _ _ (λ _. tt) (λ _. if_either IfHasWord (bytes_eq text (codes "CURRENCY")) _ _ (λ _. tt)
-    (λ _. if_either IfHasWord (bytes_eq text (codes "VARIANT_BOOL")) _ _ (λ _. tt) (λ _. if_either IfHasWord (bytes_eq text (codes "SCODE")) _ _ (λ _. tt) (λ _. if_either IfHasWord (bytes_eq text (codes "DECIMAL")) _ _ (λ _. tt)
-    (λ _. if_either IfHasWord (bytes_eq text (codes "BSTR")) _ _ (λ _. tt) (λ _. if_either IfHasWord (bytes_eq text (codes "VARIANT")) _ _ (λ _. tt) (λ _. tt)))))))))))
+plain_has text = if_either IfHasWord (bytes_eq text (codes "char")) _ _ (λ _. tt)
+    (λ _. if_either IfHasWord (bytes_eq text (codes "short")) _ _ (λ _. tt) (λ _. if_either IfHasWord (bytes_eq text (codes "long")) _ _ (λ _. tt)
+    (λ _. if_either IfHasWord (bytes_eq text (codes "int")) _ _ (λ _. tt)
+    (λ _. if_either IfHasWord (bytes_eq text (codes "hyper")) _ _ (λ _. tt) (λ _. if_either IfHasWord (bytes_eq text (codes "CURRENCY")) _ _ (λ _. tt)
+    (λ _. if_either IfHasWord (bytes_eq text (codes "VARIANT_BOOL")) _ _ (λ _. tt)
+    (λ _. if_either IfHasWord (bytes_eq text (codes "SCODE")) _ _ (λ _. tt) (λ _. if_either IfHasWord (bytes_eq text (codes "DECIMAL")) _ _ (λ _. tt)
+    (λ _. if_either IfHasWord (bytes_eq text (codes "BSTR")) _ _ (λ _. tt)
+    (λ _. if_either IfHasWord (bytes_eq text (codes "VARIANT")) _ _ (λ _. tt) (λ _. tt)))))))))))
 
 unsigned_has : (text : List ℕ) → IfHasWord (unsigned_type text)
 unfolding unsigned_type
-unsigned_has text = if_either IfHasWord (bytes_eq text (codes "char")) _ _ (λ _. tt) (λ _. if_either IfHasWord (bytes_eq text (codes "short")) _ _ (λ _. tt) (λ _. if_either IfHasWord (bytes_eq text (codes "long")) _ _ (λ _. tt)
+unsigned_has text = if_either IfHasWord (bytes_eq text (codes "char")) _ _ (λ _. tt)
+    (λ _. if_either IfHasWord (bytes_eq text (codes "short")) _ _ (λ _. tt) (λ _. if_either IfHasWord (bytes_eq text (codes "long")) _ _ (λ _. tt)
     (λ _. if_either IfHasWord (bytes_eq text (codes "int")) _ _ (λ _. tt) (λ _. if_either IfHasWord (bytes_eq text (codes "hyper")) _ _ (λ _. tt) (λ _. tt)))))
 
 type_has : (unsigned : Bool) (text : List ℕ) → IfHasWord (type_named unsigned text)
@@ -296,7 +316,8 @@ if_cell_is false (Some u) t h e = subst (IsType false) (some_is u t e) (plain_is
 
 pub type_read : (in_array unsigned : Bool) (t : VarType) (w : forms.Word) → word_type in_array unsigned w ≡ Some t → IsType in_array t
 unfolding word_type
-type_read in_array unsigned t w e = if_cell_is in_array (type_named unsigned w.text) t (type_has unsigned w.text) (chosen (same_kind w.kind kinds.Name) (if_cell in_array (type_named unsigned w.text)) t e).1
+type_read in_array unsigned t w e = if_cell_is in_array (type_named unsigned w.text) t (type_has unsigned w.text)
+    (chosen (same_kind w.kind kinds.Name) (if_cell in_array (type_named unsigned w.text)) t e).1
 
 -- ---- strings
 
@@ -317,7 +338,8 @@ escaped_printable b e = grind (arith, nat_tests, e)
 characters_printed : (marked : Bool) (bs : List ℕ) → IfPrinted (characters_from marked bs)
 unfolding characters_from
 characters_printed marked [] = tt
-characters_printed true (b ∷ bs) = if_either IfPrinted (is_escaped b) _ _ (λ e. with_one b (characters_from false bs) (escaped_printable b e) (characters_printed false bs)) (λ _. tt)
+characters_printed true (b ∷ bs) =
+    if_either IfPrinted (is_escaped b) _ _ (λ e. with_one b (characters_from false bs) (escaped_printable b e) (characters_printed false bs)) (λ _. tt)
 characters_printed false (b ∷ bs) = if_either IfPrinted (b == 34) _ _ (λ _. tt) (λ _. if_either IfPrinted (b == 92) _ _ (λ _. characters_printed true bs)
     (λ _. if_either IfPrinted (is_printable b) _ _ (λ e. with_one b (characters_from false bs) e (characters_printed false bs)) (λ _. tt)))
 
@@ -327,4 +349,5 @@ printed_is (Some ds) cs h e = subst Printed (some_is ds cs e) h
 
 pub characters_read : (cs : List ℕ) (w : forms.Word) → characters_of w ≡ Some cs → AllByRecursion (λ b. is_printable b ≡ true) cs
 unfolding characters_of
-characters_read cs w e = printed_is (characters_from false (drop 1 w.text)) cs (characters_printed false (drop 1 w.text)) (chosen (same_kind w.kind kinds.Text) (characters_from false (drop 1 w.text)) cs e).1
+characters_read cs w e = printed_is (characters_from false (drop 1 w.text)) cs (characters_printed false (drop 1 w.text))
+    (chosen (same_kind w.kind kinds.Text) (characters_from false (drop 1 w.text)) cs e).1

@@ -80,7 +80,8 @@ gathered_read : {S A B : Type 0} (attribute : A → List Word → Type 0) (may_c
     → (s : S) (xs : List A) (ws : List Word) → P s
     → listed (next_attribute attribute may_come) grow nowhere (last_attribute finish) s xs b ws → Q b
 gathered_read attribute may_come grow finish P Q b step end s [] ws h f = end s h f.0
-gathered_read attribute may_come grow finish P Q b step end s (x ∷ xs) ws h f = gathered_read attribute may_come grow finish P Q b step end (grow s x) xs f.second.back (step s x f.first.1.back h f.first.1.second) f.second.second
+gathered_read attribute may_come grow finish P Q b step end s (x ∷ xs) ws h f = gathered_read attribute may_come grow finish P Q b step end
+    (grow s x) xs f.second.back (step s x f.first.1.back h f.first.1.second) f.second.second
 
 attributes_read : {S A B : Type 0} (attribute : A → List Word → Type 0) (may_come : S → A → Bool) (grow : S → A → S)
     (finish : S → Option B) (P : S → Type 0) (Q : B → Type 0) (b : B)
@@ -129,12 +130,15 @@ head_end counts b false h k e = no_some b e
 
 pub head_read : (counts : Bool) (b : HeadValues) (ws : List Word) → head counts b ws → HeadIf counts b
 unfolding head
-head_read counts b ws f = attributes_read (head_attribute counts) head_may head_grow head_finish (λ (s : HeadSeen). HeadIf counts s.head) (HeadIf counts) b (head_step counts) (λ s h e. head_end counts b s.uuid s.head h e) no_head ws (zeros_are, no_version counts) f
+head_read counts b ws f = attributes_read (head_attribute counts) head_may head_grow head_finish (λ (s : HeadSeen). HeadIf counts s.head) (HeadIf counts) b
+    (head_step counts) (λ s h e. head_end counts b s.uuid s.head h e) no_head ws (zeros_are, no_version counts) f
 
 -- ---- types and numbers
 
 type_word_read : (in_array : Bool) (t : VarType) (ws : List Word) → type_word in_array t ws → IsType in_array t
-type_word_read in_array t ws f = ⊎_elim (λ (k : (symbol (codes "unsigned") ▸ one (word_type in_array true) t) ws). type_read in_array true t k.second.word k.second.is) (λ (k : one (word_type in_array false) t ws). type_read in_array false t k.word k.is) f
+type_word_read in_array t ws f =
+    ⊎_elim (λ (k : (symbol (codes "unsigned") ▸ one (word_type in_array true) t) ws). type_read in_array true t k.second.word k.second.is)
+    (λ (k : one (word_type in_array false) t ws). type_read in_array false t k.word k.is) f
 
 value_type_read : (t : ValueType) (ws : List Word) → value_type t ws → IsValueType t
 unfolding value_type
@@ -142,11 +146,13 @@ value_type_read (values.One t) ws f = type_word_read false t ws f
 value_type_read (values.Array t) ws f = type_word_read true t f.second.second.front f.second.second.first
 
 id_form_read : (i : ℤ) (ws : List Word) → id_form i ws → IsId i
-id_form_read i ws f = ⊎_elim (λ (k : (symbol (codes "-") ▸ one (id_of true) i) ws). id_read true i k.second.word k.second.is) (λ (k : one (id_of false) i ws). id_read false i k.word k.is) f
+id_form_read i ws f = ⊎_elim (λ (k : (symbol (codes "-") ▸ one (id_of true) i) ws). id_read true i k.second.word k.second.is)
+    (λ (k : one (id_of false) i ws). id_read false i k.word k.is) f
 
 literal_read : (v : Literal) (ws : List Word) → literal v ws → IsLiteral v
 unfolding literal
-literal_read (literals.Number i) ws f = ⊎_elim (λ (k : (symbol (codes "-") ▸ one (amount_of true) i) ws). amount_read true i k.second.word k.second.is) (λ (k : one (amount_of false) i ws). amount_read false i k.word k.is) f
+literal_read (literals.Number i) ws f = ⊎_elim (λ (k : (symbol (codes "-") ▸ one (amount_of true) i) ws). amount_read true i k.second.word k.second.is)
+    (λ (k : one (amount_of false) i ws). amount_read false i k.word k.is) f
 literal_read (literals.Text cs) ws f = characters_read cs f.word f.is
 literal_read (literals.Bool b) ws f = tt
 
@@ -168,13 +174,17 @@ property_end b (Some i) readonly h e = subst (λ (p : PropertyHead). IsId p.id) 
 
 property_head_read : (b : PropertyHead) (ws : List Word) → property_head b ws → IsId b.id
 unfolding property_head
-property_head_read b ws f = attributes_read property_attribute property_may property_grow property_finish (λ (s : PropertySeen). IdIf s.id) (λ (p : PropertyHead). IsId p.id) b property_step (λ s h e. property_end b s.id s.readonly h e) no_property ws tt f
+property_head_read b ws f = attributes_read property_attribute property_may property_grow property_finish (λ (s : PropertySeen). IdIf s.id)
+    (λ (p : PropertyHead). IsId p.id) b property_step (λ s h e. property_end b s.id s.readonly h e) no_property ws tt f
 
 property_read : (p : Property) (ws : List Word) → property p ws → AllFine ws → IsProperty p
 property_read p ws f h =
     let rest = second_fine ws f h in
-    let name = second_fine f.back f.second rest in
-    (property_head_read (record { id = p.id; readonly = p.readonly }) f.front f.first, value_type_read p.value_type f.second.front f.second.first, name_read p.name f.second.second.front f.second.second.first (first_fine f.second.back f.second.second name))
+    let name = second_fine f.back f.second rest in (
+      property_head_read (record { id = p.id; readonly = p.readonly }) f.front f.first,
+      value_type_read p.value_type f.second.front f.second.first,
+      name_read p.name f.second.second.front f.second.second.first (first_fine f.second.back f.second.second name),
+    )
 
 -- ---- parameters
 
@@ -186,16 +196,21 @@ parameter_step s (HasDefault v) ws h f = literal_read v f.second.second.front f.
 
 parameter_head_read : (b : ParameterSeen) (ws : List Word) → parameter_head b ws → IsDefault b.default
 unfolding parameter_head
-parameter_head_read b ws f = attributes_read parameter_attribute parameter_may parameter_grow parameter_finish (λ (s : ParameterSeen). IsDefault s.default) (λ (s : ParameterSeen). IsDefault s.default) b parameter_step (λ s h e. subst (λ (p : ParameterSeen). IsDefault p.default) (some_is s b e) h) no_parameter ws tt f
+parameter_head_read b ws f = attributes_read parameter_attribute parameter_may parameter_grow parameter_finish (λ (s : ParameterSeen). IsDefault s.default)
+    (λ (s : ParameterSeen). IsDefault s.default) b parameter_step (λ s h e. subst (λ (p : ParameterSeen). IsDefault p.default) (some_is s b e) h) no_parameter
+    ws tt f
 
 typed_read : (p : Parameter) (ws : List Word) → typed p ws → AllFine ws → IsValueType p.value_type × IsName p.name
-typed_read p ws f h = (value_type_read p.value_type f.front f.first, name_read p.name f.second.front f.second.first (first_fine f.back f.second (second_fine ws f h)))
+typed_read p ws f h =
+    (value_type_read p.value_type f.front f.first, name_read p.name f.second.front f.second.first (first_fine f.back f.second (second_fine ws f h)))
 
 parameter_read : (p : Parameter) (ws : List Word) → parameter p ws → AllFine ws → IsPrintableParameter p
 unfolding parameter
 parameter_read p ws f h = ⊎_elim
-    (λ (k : (parameter_head (head_of_parameter p) ▸ typed p) ws). let t = typed_read p k.back k.second (second_fine ws k h) in (parameter_head_read (head_of_parameter p) k.front k.first, t.0, t.1))
-    (λ (k : where_is (head_of_parameter p ≡ no_parameter) (typed p) ws). let t = typed_read p ws k.1 h in (subst (λ (s : ParameterSeen). IsDefault s.default) (sym k.0) tt, t.0, t.1)) f
+    (λ (k : (parameter_head (head_of_parameter p) ▸ typed p) ws). let t = typed_read p k.back k.second (second_fine ws k h) in
+    (parameter_head_read (head_of_parameter p) k.front k.first, t.0, t.1))
+    (λ (k : where_is (head_of_parameter p ≡ no_parameter) (typed p) ws). let t = typed_read p ws k.1 h in
+    (subst (λ (s : ParameterSeen). IsDefault s.default) (sym k.0) tt, t.0, t.1)) f
 
 separated_read : (first : Bool) (p : Parameter) (ws : List Word) → separated first p ws → AllFine ws → IsPrintableParameter p
 separated_read true p ws f h = parameter_read p ws f h
@@ -234,7 +249,8 @@ method_end b (Some i) k h e = subst (λ (p : MethodHead). IsId p.id) (some_is (r
 
 method_head_read : (b : MethodHead) (ws : List Word) → method_head b ws → IsId b.id
 unfolding method_head
-method_head_read b ws f = attributes_read method_attribute method_may method_grow method_finish (λ (s : MethodSeen). IdIf s.id) (λ (p : MethodHead). IsId p.id) b method_step (λ s h e. method_end b s.id s.kind h e) no_method ws tt f
+method_head_read b ws f = attributes_read method_attribute method_may method_grow method_finish (λ (s : MethodSeen). IdIf s.id)
+    (λ (p : MethodHead). IsId p.id) b method_step (λ s h e. method_end b s.id s.kind h e) no_method ws tt f
 
 result_read : (k : MethodKind) (t : Option ValueType) (ws : List Word) → result_type k t ws → IsResult k t
 unfolding result_type
@@ -249,7 +265,8 @@ method_read m ws f h =
     let name = item_body.second in
     let b = second_fine name.back name.second (second_fine item_body.back name a) in
     let list = name.second.second in
-    let all = list_read next_parameter one_more nowhere (last_parameter m.kind) IsPrintableParameter (Unit {0}) tt (λ n p vs g k. separated_read (n == 0) p vs g k) (λ n vs g k. tt) 0 m.parameters list.front list.first (first_fine name.second.back list b) in (
+    let all = list_read next_parameter one_more nowhere (last_parameter m.kind) IsPrintableParameter (Unit {0}) tt
+    (λ n p vs g k. separated_read (n == 0) p vs g k) (λ n vs g k. tt) 0 m.parameters list.front list.first (first_fine name.second.back list b) in (
       method_head_read (record { id = m.id; kind = m.kind }) f.front f.first,
       result_read m.kind m.value_type item_body.front item_body.first,
       name_read m.name name.front name.first (first_fine item_body.back name a),
@@ -261,42 +278,57 @@ method_read m ws f h =
 
 methods_read : (n : ℕ) (ms : List MethodValue) (ws : List Word) → methods n ms ws → AllFine ws → AllByRecursion IsMethod ms
 methods_read n ms ws f h = ⊎_elim
-    (λ (k : (symbol (codes "methods") ▸ symbol (codes ":") ▸ listed (λ (k : ℕ). method) one_more nowhere closing n ms tt) ws). (list_read (λ (k : ℕ). method) one_more nowhere closing IsMethod (Unit {0}) tt (λ n m vs g l. method_read m vs g l) (λ n vs g l. tt) n ms k.second.back k.second.second (second_fine k.back k.second (second_fine ws k h))).0)
+    (λ (k : (symbol (codes "methods") ▸ symbol (codes ":") ▸ listed (λ (k : ℕ). method) one_more nowhere closing n ms tt) ws).
+    (list_read (λ (k : ℕ). method) one_more nowhere closing IsMethod (Unit {0}) tt (λ n m vs g l. method_read m vs g l)
+    (λ n vs g l. tt) n ms k.second.back k.second.second (second_fine k.back k.second (second_fine ws k h))).0)
     (λ (k : where_is (ms ≡ []) (symbol (codes "}")) ws). subst (AllByRecursion IsMethod) (sym k.0) tt) f
 
 members_read : (ps : List Property) (ms : List MethodValue) (ws : List Word) → members ps ms ws → AllFine ws
     → AllByRecursion IsProperty ps × AllByRecursion IsMethod ms
 members_read ps ms ws f h = ⊎_elim
-    (λ (k : (symbol (codes "properties") ▸ symbol (codes ":") ▸ listed (λ (n : ℕ). property) one_more nowhere methods 0 ps ms) ws). list_read (λ (n : ℕ). property) one_more nowhere methods IsProperty (AllByRecursion IsMethod ms) ms (λ n p vs g l. property_read p vs g l) (λ n vs g l. methods_read n ms vs g l) 0 ps k.second.back k.second.second (second_fine k.back k.second (second_fine ws k h)))
+    (λ (k : (symbol (codes "properties") ▸ symbol (codes ":") ▸ listed (λ (n : ℕ). property) one_more nowhere methods 0 ps ms) ws). list_read
+    (λ (n : ℕ). property) one_more nowhere methods IsProperty (AllByRecursion IsMethod ms) ms (λ n p vs g l. property_read p vs g l)
+    (λ n vs g l. methods_read n ms vs g l) 0 ps k.second.back k.second.second (second_fine k.back k.second (second_fine ws k h)))
     (λ (k : where_is (ps ≡ []) (methods 0 ms) ws). (subst (AllByRecursion IsProperty) (sym k.0) tt, methods_read 0 ms ws k.1 h)) f
 
 named_read : (e : Entry) (ws : List Word) → named e ws → AllFine ws → IsName e.interface
 named_read e ws f h = name_read e.interface f.second.front f.second.first (first_fine f.back f.second (second_fine ws f h))
 
 entry_read : (d : Bool) (e : Entry) (ws : List Word) → entry_by d e ws → AllFine ws → IsName e.interface
-entry_read true e ws f h = let a = second_fine ws f h in let b = second_fine f.back f.second a in named_read e f.second.second.back f.second.second.second (second_fine f.second.back f.second.second b)
+entry_read true e ws f h = let a = second_fine ws f h in let b = second_fine f.back f.second a in named_read e f.second.second.back f.second.second.second
+    (second_fine f.second.back f.second.second b)
 entry_read false e ws f h = named_read e ws f h
 
 entries_read : (s : EntriesSeen) (es : List Entry) (ws : List Word) → listed entry entry_grow nowhere last_entry s es tt ws → AllFine ws
     → AreEntries s es
 entries_read s [] ws f h = f.0
-entries_read s (e ∷ es) ws f h = (f.first.0, entry_read e.is_default e f.front f.first.1 (first_fine ws f h), entries_read (entry_grow s e) es f.second.back f.second.second (second_fine f.back f.second (second_fine ws f h)))
+entries_read s (e ∷ es) ws f h = (
+  f.first.0,
+  entry_read e.is_default e f.front f.first.1 (first_fine ws f h),
+  entries_read (entry_grow s e) es f.second.back f.second.second
+      (second_fine f.back f.second (second_fine ws f h)),
+)
 
 body_read : (x : Item) (g : List ℕ) (ws : List Word) → item_body x ws → AllFine ws → IsGuid (guid_of_item x) → IsItem x
 body_read (items.Interface d) g ws f h k =
     let a = second_fine ws f h in
     let b = second_fine f.back f.second a in
     let c = second_fine f.second.back f.second.second b in
-    let all = members_read d.properties d.methods f.second.second.second.front f.second.second.second.first (first_fine f.second.second.back f.second.second.second c) in
+    let all = members_read d.properties d.methods f.second.second.second.front f.second.second.second.first
+    (first_fine f.second.second.back f.second.second.second c) in
     (k, name_read d.name f.second.front f.second.first (first_fine f.back f.second a), all.0, all.1)
 body_read (items.Coclass c) g ws f h k =
     let a = second_fine ws f h in
     let b = second_fine f.back f.second a in
-    let d = second_fine f.second.back f.second.second b in
-    (k, name_read c.name f.second.front f.second.first (first_fine f.back f.second a), entries_read no_entry c.entries f.second.second.second.front f.second.second.second.first (first_fine f.second.second.back f.second.second.second d))
+    let d = second_fine f.second.back f.second.second b in (
+      k,
+      name_read c.name f.second.front f.second.first (first_fine f.back f.second a),
+      entries_read no_entry c.entries f.second.second.second.front f.second.second.second.first (first_fine f.second.second.back f.second.second.second d),
+    )
 
 item_read : (x : Item) (ws : List Word) → item x ws → AllFine ws → IsItem x
-item_read x ws f h = let g = f.form in body_read x (guid_of_item x) g.back g.second.1 (second_fine ws g h) (subst IsGuid g.second.0 (head_read false f.value g.front g.first).0)
+item_read x ws f h = let g = f.form in body_read x (guid_of_item x) g.back g.second.1 (second_fine ws g h)
+    (subst IsGuid g.second.0 (head_read false f.value g.front g.first).0)
 
 -- ---- a library
 
@@ -318,7 +350,8 @@ elements_read : (xs : List Item) (ws : List Word) → library_contents xs ws →
 unfolding library_contents
 elements_read xs ws f h =
     let g = f.form in
-    let all = list_read (λ (s : ItemsSeen). element) elements_grow semicolon_after closing IsContent (Unit {0}) tt element_read (λ s vs k l. tt) no_items f.value g.front g.first (first_fine ws g h) in
+    let all = list_read (λ (s : ItemsSeen). element) elements_grow semicolon_after closing IsContent (Unit {0}) tt element_read
+    (λ s vs k l. tt) no_items f.value g.front g.first (first_fine ws g h) in
     subst (AllByRecursion IsItem) (sym g.second.fact) (contents_read f.value all.0)
 
 pub is_printable_tree : (text : List ℕ) (t : TreeValue) → IsTree text t → IsPrintable t
@@ -334,7 +367,8 @@ is_printable_tree text t is =
       guid = head.0;
       version = head.1;
       name = name_read t.name f.second.second.front f.second.second.first (first_fine f.second.back f.second.second b);
-      items = elements_read t.items f.second.second.second.second.front f.second.second.second.second.first (first_fine f.second.second.second.back f.second.second.second.second d);
+      items = elements_read t.items f.second.second.second.second.front f.second.second.second.second.first
+          (first_fine f.second.second.second.back f.second.second.second.second d);
       short = is.kept limits.Name;
       interfaces = is.kept limits.Interfaces;
       coclasses = is.kept limits.Coclasses;

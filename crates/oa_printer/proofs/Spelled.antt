@@ -40,7 +40,8 @@ pub ◌▹◌ : {F G : List forms.Word → Type 0} {x y z : List ℕ} → Spells
 
 -- The same bytes, written otherwise.
 pub at : {F : List forms.Word → Type 0} {x y z : List ℕ} → x ≡ y → Spells F y z → Spells F x z
-at {F} {x} {y} {z} e f ws h = let r = f ws h in record { words = r.words; form = r.form; has = subst (λ (bs : List ℕ). HasWords bs (r.words ++ ws)) (sym e) r.has }
+at {F} {x} {y} {z} e f ws h = let r = f ws h in
+    record { words = r.words; form = r.form; has = subst (λ (bs : List ℕ). HasWords bs (r.words ++ ws)) (sym e) r.has }
 
 -- The same words, by another form.
 pub said : {F G : List forms.Word → Type 0} {x y : List ℕ} → ((ws : List forms.Word) → F ws → G ws) → Spells F x y → Spells G x y
@@ -125,7 +126,9 @@ one_plus n = omega arith
 pub named_word : {F : List forms.Word → Type 0} (text : List ℕ) (b : ℕ) (x : List ℕ) → IsNameText text → EndsWord (b ∷ x)
     → F (word kinds.Name text ∷ []) → Spells F (text ++ b ∷ x) (b ∷ x)
 named_word {F} [] b x is ends f = absurd is
-named_word {F} (c ∷ cs) b x is ends f = one_word kinds.Name (suc (length cs)) (c ∷ (cs ++ b ∷ x)) (b ∷ x) (c ∷ cs) (omega arith) (name_front c cs b x is ends ∙ ap (λ (n : ℕ). Word kinds.Name n) (one_plus (length cs))) (ap (λ (t : List ℕ). c ∷ t) (take-append_seam cs (b ∷ x))) (drop-append_seam cs (b ∷ x)) f
+named_word {F} (c ∷ cs) b x is ends f = one_word kinds.Name (suc (length cs)) (c ∷ (cs ++ b ∷ x)) (b ∷ x) (c ∷ cs) (omega arith)
+    (name_front c cs b x is ends ∙ ap (λ (n : ℕ). Word kinds.Name n) (one_plus (length cs))) (ap (λ (t : List ℕ). c ∷ t) (take-append_seam cs (b ∷ x)))
+    (drop-append_seam cs (b ∷ x)) f
 
 pub sign_word : (s : List ℕ) (text : List ℕ) (b : ℕ) (x : List ℕ) → IsNameText text → EndsWord (b ∷ x)
     → passes s (word kinds.Name text) ≡ true → Spells (symbol s) (text ++ b ∷ x) (b ∷ x)
@@ -153,14 +156,16 @@ pub all_spelled : {S A B : Type 0} (F : A → List forms.Word → Type 0) (grow 
     → (s : S) (all : List A) → AllByRecursion P all → Spells (listed (λ s. F) grow apart E s all b) (flat_map text all ++ y) z
 all_spelled F grow apart E text P b y z each ends s [] h = ends s
 all_spelled F grow apart E text P b y z each ends s (a ∷ all) h =
-    at (append_assoc (text a) (flat_map text all) y) (each a (flat_map text all ++ y) h.0 ▹ (left_out ▹ all_spelled F grow apart E text P b y z each ends (grow s a) all h.1))
+    at (append_assoc (text a) (flat_map text all) y)
+    (each a (flat_map text all ++ y) h.0 ▹ (left_out ▹ all_spelled F grow apart E text P b y z each ends (grow s a) all h.1))
 
 -- ---- attributes
 
 pub last_spelled : {S A B : Type 0} {attribute : A → List forms.Word → Type 0} {may_come : S → A → Bool} {grow : S → A → S} {finish : S
     → Option B} (s : S) (b : B) {x : List ℕ} → finish s ≡ Some b
     → Spells (gathered (next_attribute attribute may_come) grow nowhere (last_attribute finish) s b) (93 ∷ x) x
-last_spelled {attribute = attribute} {may_come = may_come} {grow = grow} {finish = finish} s b e ws h = let r = close_mark ws h in record { words = r.words; form = record { all = []; form = (e, r.form) }; has = r.has }
+last_spelled {attribute = attribute} {may_come = may_come} {grow = grow} {finish = finish} s b e ws h = let r = close_mark ws h in
+    record { words = r.words; form = record { all = []; form = (e, r.form) }; has = r.has }
 
 pub next_spelled : {S A B : Type 0} {attribute : A → List forms.Word → Type 0} {may_come : S → A → Bool} {grow : S → A → S} {finish : S
     → Option B} (s : S) (b : B) (a : A) {x y z : List ℕ} → may_come s a ≡ true → Spells (attribute a) x y
@@ -171,7 +176,16 @@ next_spelled s b a may f g ws h =
     let r = ((comma_mark ▹ f) ▹ left_out {F = this (nowhere a)}) (rest.words ++ ws) rest.has in
     record {
       words = r.words ++ rest.words;
-      form = record { all = a ∷ rest.form.all; form = record { front = r.form.front; back = r.form.back ++ rest.words; parts = append_parts r.words r.form.front r.form.back rest.words r.form.parts; first = (may, r.form.first); second = record { front = r.form.back; back = rest.words; parts = refl; first = r.form.second; second = rest.form.form } } };
+      form = record {
+        all = a ∷ rest.form.all;
+        form = record {
+          front = r.form.front;
+          back = r.form.back ++ rest.words;
+          parts = append_parts r.words r.form.front r.form.back rest.words r.form.parts;
+          first = (may, r.form.first);
+          second = record { front = r.form.back; back = rest.words; parts = refl; first = r.form.second; second = rest.form.form };
+        };
+      };
       has = subst (HasWords _) (sym (append_assoc r.words rest.words ws)) r.has;
     }
   where

@@ -29,7 +29,8 @@ module _ (body : List ℕ) where
   unfolding slot_at
   slot_there n p aligned h = by (padding n p) (nat_lt (length (drop p body)) (padding n p + n)) aligned (there n p (padding n p) body aligned h)
     where
-      by : (g : ℕ) (b : Bool) → g ≡ 0 → b ≡ false → if◌then◌else◌ {A = Option (List ℕ × Cursor)} b None (Some (take n (drop g (drop p body)), moved (g + n) (place_of p body))) ≡ Some (take n (drop p body), place_of (p + n) body)
+      by : (g : ℕ) (b : Bool) → g ≡ 0 → b ≡ false → if◌then◌else◌ {A = Option (List ℕ × Cursor)} b None
+          (Some (take n (drop g (drop p body)), moved (g + n) (place_of p body))) ≡ Some (take n (drop p body), place_of (p + n) body)
       by g true aligned isnt = absurd (true≢false isnt)
       by g false aligned isnt = let n_is : g + n ≡ n = omega (arith, aligned) in rw (n_is, aligned, drop-drop n p body) refl
 
@@ -37,7 +38,8 @@ module _ (body : List ℕ) where
   unfolding steps unit_at
   unit_there n p aligned h = ap (λ (o : Option (List ℕ × Cursor)). and_then o (λ slot s. Some (little_number n slot, s))) (slot_there n p aligned h)
 
-  dispid_there : (p : ℕ) → padding 4 p ≡ 0 → p + 4 ≤ length body → dispid_at (place_of p body) ≡ Some (cast_signed w32 (body_number 4 p body), place_of (p + 4) body)
+  dispid_there : (p : ℕ) → padding 4 p ≡ 0 → p + 4 ≤ length body
+      → dispid_at (place_of p body) ≡ Some (cast_signed w32 (body_number 4 p body), place_of (p + 4) body)
   unfolding steps dispid_at
   dispid_there p aligned h = ap (λ (o : Option (ℕ × Cursor)). and_then o (λ n s. Some (cast_signed w32 n, s))) (unit_there 4 p aligned h)
 
@@ -45,7 +47,8 @@ module _ (body : List ℕ) where
   unfolding bytes_at
   bytes_there n p h = by (nat_lt (length (drop p body)) n) (let e = length-drop p body in grind (arith, nat_tests, e, h))
     where
-      by : (b : Bool) → b ≡ false → if◌then◌else◌ {A = Option (List ℕ × Cursor)} b None (Some (take n (drop p body), moved n (place_of p body))) ≡ Some (take n (drop p body), place_of (p + n) body)
+      by : (b : Bool) → b ≡ false → if◌then◌else◌ {A = Option (List ℕ × Cursor)} b None (Some (take n (drop p body), moved n (place_of p body))) ≡ Some
+          (take n (drop p body), place_of (p + n) body)
       by true isnt = absurd (true≢false isnt)
       by false isnt = rw (drop-drop n p body) refl
 
@@ -72,7 +75,8 @@ module _ (body : List ℕ) where
     unfolding steps call_at lists_behind
     call_there = rw (head_there, unit_there 4 56 refl (omega (arith, h)), unit_there 4 60 refl (omega (arith, h))) refl
 
-    laid : body_number 2 4 body ≡ 4 → layout_at (place_of 0 body) ≡ and_then (lists_behind body (place_of 64 body)) (λ call s. Some (Layout.CallBody by_call.Invoke call, s))
+    laid : body_number 2 4 body ≡ 4 → layout_at (place_of 0 body) ≡ and_then (lists_behind body (place_of 64 body))
+        (λ call s. Some (Layout.CallBody by_call.Invoke call, s))
     unfolding steps layout_at layout_by_opcode fields_at
     laid invoke =
         rw (unit_there 4 0 refl (omega (arith, h)), unit_there 2 4 refl (omega (arith, h)), unit_there 2 6 refl (omega (arith, h)), invoke, call_there)
@@ -83,7 +87,8 @@ same_inside x y e = cc
 
 -- an INVOKE whose lists are read to its end
 pub call_laid : (body front : List ℕ) (r s t : Cursor) (call : CallParts) → 64 ≤ length body → body_number 2 4 body ≡ 4 → r ≡ at 0 body
-    → bytes_at 64 r ≡ Some (front, s) → lists_behind body s ≡ Some (call, t) → (length t.rest == 0) ≡ true → whole layout_at body ≡ Some (Layout.CallBody by_call.Invoke call)
+    → bytes_at 64 r ≡ Some (front, s) → lists_behind body s ≡ Some (call, t) → (length t.rest == 0) ≡ true
+    → whole layout_at body ≡ Some (Layout.CallBody by_call.Invoke call)
 call_laid body front r s t call h invoke start moves read none =
     let first : Some (front, s) ≡ Some (take 64 body, place_of 64 body) = sym moves ∙ ap (bytes_at 64) start ∙ bytes_there body 64 0 h in
     let behind : s ≡ place_of 64 body = ap (λ (p : List ℕ × Cursor). p.1) (same_inside (front, s) (take 64 body, place_of 64 body) first) in

@@ -28,7 +28,8 @@ some_opcode k = Some k
 pub same_opcode : (k j : Opcode) → some_opcode k ≡ Some j → k ≡ j
 same_opcode k j e = cc
 
-tried : (n m : ℕ) (j : Opcode) (other : Option Opcode) (k : Opcode) → opcode_number j ≡ m → cond (eqb n m) (Some j) other ≡ Some k → (other ≡ Some k → opcode_number k ≡ n) → opcode_number k ≡ n
+tried : (n m : ℕ) (j : Opcode) (other : Option Opcode) (k : Opcode) → opcode_number j ≡ m → cond (eqb n m) (Some j) other ≡ Some k
+    → (other ≡ Some k → opcode_number k ≡ n) → opcode_number k ≡ n
 tried n m j other k is e next = by_test (eqb n m) refl e
   where
     by_test : (b : Bool) → eqb n m ≡ b → cond b (Some j) other ≡ Some k → opcode_number k ≡ n

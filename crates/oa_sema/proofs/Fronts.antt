@@ -1,5 +1,6 @@
 -- The first place that passes a test, by a search from the front.
-use Rattle.std.proofs.Common.{◌≡◌, ◌+◌, ◌≤◌, ◌<◌, ℕ, zero, suc, min, Bool, true, false, cond, not, List, [], ◌∷◌, length, take, position, None, Some, refl, sym, ap, ◌∙◌, arith, nat_lt, get_or}
+use Rattle.std.proofs.Common.{◌≡◌, ◌+◌, ◌≤◌, ◌<◌, ℕ, zero, suc, min, Bool, true, false, cond, not, List, [], ◌∷◌, length, take, position, None, Some, refl}
+use Rattle.std.proofs.Common.{sym, ap, ◌∙◌, arith, nat_lt, get_or}
 use Rattle.std.proofs.lemmas.Bool.Decides.{nat_tests}
 use Rattle.std.specs.List.{position_or_len}
 
@@ -9,7 +10,8 @@ module _ {X : Type 0} (p : X → Bool) where
   here (y ∷ ys) zero x below e passes so_far = let it : p y ≡ true = sym (ap p e) ∙ passes in rw it refl
   here (y ∷ ys) (suc n) x below e passes so_far = by (p y) (λ h. here ys n x (omega (arith, below)) e passes h) so_far
     where
-      by : (b : Bool) → (n ≤ position_or_len p ys → position_or_len p ys ≡ n) → suc n ≤ cond (not b) (1 + position_or_len p ys) 0 → cond (not b) (1 + position_or_len p ys) 0 ≡ suc n
+      by : (b : Bool) → (n ≤ position_or_len p ys → position_or_len p ys ≡ n) → suc n ≤ cond (not b) (1 + position_or_len p ys) 0
+          → cond (not b) (1 + position_or_len p ys) 0 ≡ suc n
       by true rest h = absurd (omega (arith, h))
       by false rest h = let same = rest (omega (arith, h)) in omega (arith, same)
 
@@ -26,7 +28,8 @@ module _ {X : Type 0} (p : X → Bool) where
   comes_later (y ∷ ys) zero x below e fails so_far = let it : p y ≡ false = sym (ap p e) ∙ fails in rw it (omega arith)
   comes_later (y ∷ ys) (suc n) x below e fails so_far = by (p y) (λ h. comes_later ys n x (omega (arith, below)) e fails h) so_far
     where
-      by : (b : Bool) → (n ≤ position_or_len p ys → n + 1 ≤ position_or_len p ys) → suc n ≤ cond (not b) (1 + position_or_len p ys) 0 → suc n + 1 ≤ cond (not b) (1 + position_or_len p ys) 0
+      by : (b : Bool) → (n ≤ position_or_len p ys → n + 1 ≤ position_or_len p ys) → suc n ≤ cond (not b) (1 + position_or_len p ys) 0
+          → suc n + 1 ≤ cond (not b) (1 + position_or_len p ys) 0
       by true rest h = absurd (omega (arith, h))
       by false rest h = let later = rest (omega (arith, h)) in omega (arith, later)
 
@@ -35,7 +38,9 @@ module _ {X : Type 0} (p : X → Bool) where
   passed_over [] (suc n) h = omega arith
   passed_over (y ∷ ys) (suc n) h = by (p y) (λ g. passed_over ys n g) h
     where
-      by : (b : Bool) → (min (length ys) n ≤ position_or_len p ys → length (take n ys) ≤ position_or_len p (take n ys)) → min (suc (length ys)) (suc n) ≤ cond (not b) (1 + position_or_len p ys) 0 → suc (length (take n ys)) ≤ cond (not b) (1 + position_or_len p (take n ys)) 0
+      by : (b : Bool) → (min (length ys) n ≤ position_or_len p ys → length (take n ys) ≤ position_or_len p (take n ys))
+          → min (suc (length ys)) (suc n) ≤ cond (not b) (1 + position_or_len p ys) 0
+          → suc (length (take n ys)) ≤ cond (not b) (1 + position_or_len p (take n ys)) 0
       by true rest h = absurd (omega (arith, h))
       by false rest h = let it = rest (omega (arith, h)) in omega (arith, it)
 

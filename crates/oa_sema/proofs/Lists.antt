@@ -19,7 +19,8 @@ module _ {K : Type 0} (eq : K → K → Bool) where
   unrepeated false (Some n) none = absurd (cc)
 
   -- A key that equals one of those before it or of xs, if xs has no repeated key.
-  pub repeat_here : (before xs : List K) (y : K) (zs : List K) → repeat_at eq before xs ≡ None → list_any (eq y) (before ++ xs) ≡ true → repeat_at eq before (xs ++ y ∷ zs) ≡ Some (length xs)
+  pub repeat_here : (before xs : List K) (y : K) (zs : List K) → repeat_at eq before xs ≡ None → list_any (eq y) (before ++ xs) ≡ true
+      → repeat_at eq before (xs ++ y ∷ zs) ≡ Some (length xs)
   unfolding repeat_at
   repeat_here before [] y zs none some =
       let h : list_any (eq y) before ≡ true = simp append-nil at some in
@@ -29,7 +30,8 @@ module _ {K : Type 0} (eq : K → K → Bool) where
       rw s.0 (ap (option_map (λ n. suc n)) (repeat_here (before ++ x ∷ []) xs y zs s.1 (rw append_assoc some)))
 
   -- one that is not
-  pub repeat_later : (before xs : List K) (y : K) → repeat_at eq before xs ≡ None → list_any (eq y) (before ++ xs) ≡ false → repeat_at eq before (xs ++ y ∷ []) ≡ None
+  pub repeat_later : (before xs : List K) (y : K) → repeat_at eq before xs ≡ None → list_any (eq y) (before ++ xs) ≡ false
+      → repeat_at eq before (xs ++ y ∷ []) ≡ None
   unfolding repeat_at
   repeat_later before [] y none some =
       let h : list_any (eq y) before ≡ false = simp append-nil at some in
@@ -40,7 +42,8 @@ module _ {K : Type 0} (eq : K → K → Bool) where
 
 -- the first repetition by its place
 module _ {X K : Type 0} (eq : K → K → Bool) (key : X → K) where
-  placed : (b : Bool) (x : X) (xs : List X) (f : Option X) (o : Option ℕ) → f ≡ option_and_then (slice_get xs) o → (if b then Some x else f) ≡ option_and_then (slice_get (x ∷ xs)) (if b then Some zero else option_map (λ n. suc n) o)
+  placed : (b : Bool) (x : X) (xs : List X) (f : Option X) (o : Option ℕ) → f ≡ option_and_then (slice_get xs) o
+      → (if b then Some x else f) ≡ option_and_then (slice_get (x ∷ xs)) (if b then Some zero else option_map (λ n. suc n) o)
   placed true x xs f o h = refl
   placed false x xs f None h = h
   placed false x xs f (Some n) h = h
@@ -93,11 +96,13 @@ module _ {X : Type 0} (p : X → Bool) where
 
 -- a turn of the search
 module _ {K : Type 0} (eq : K → K → Bool) where
-  pub turn_finds : (keys seen : List K) (y : K) (rest : List K) (place : ℕ) → place ≡ length seen → keys ≡ seen ++ y ∷ rest → repeat_at eq [] seen ≡ None → list_any (eq y) seen ≡ true → (repeat_at eq [] keys ≡ Some place) × (place < length keys)
+  pub turn_finds : (keys seen : List K) (y : K) (rest : List K) (place : ℕ) → place ≡ length seen → keys ≡ seen ++ y ∷ rest → repeat_at eq [] seen ≡ None
+      → list_any (eq y) seen ≡ true → (repeat_at eq [] keys ≡ Some place) × (place < length keys)
   turn_finds keys seen y rest place at e none some =
       (rw (e, at) (repeat_here eq [] seen y rest none some), omega (arith, at, ap length e, length-append seen (y ∷ rest)))
 
-  pub turn_goes_on : (seen : List K) (y : K) → repeat_at eq [] seen ≡ None → list_any (eq y) seen ≡ false → (insert_key eq seen y ≡ seen ++ y ∷ []) × (repeat_at eq [] (seen ++ y ∷ []) ≡ None)
+  pub turn_goes_on : (seen : List K) (y : K) → repeat_at eq [] seen ≡ None → list_any (eq y) seen ≡ false → (insert_key eq seen y ≡ seen ++ y ∷ [])
+      × (repeat_at eq [] (seen ++ y ∷ []) ≡ None)
   turn_goes_on seen y none some = (rw some refl, repeat_later eq [] seen y none some)
 
 pub not_true : (a b : Bool) → a ≡ not b → a ≡ false → b ≡ true

@@ -36,7 +36,8 @@ for_memory (BadDefault n) f h = f h
 for_memory TextTooLong f h = f h
 for_memory Memory f h = tt
 
-pub refuses_more : {X : Type 0} (make : X → CheckError) (part whole : Option X) (e : CheckError) → ((x : X) → part ≡ Some x → whole ≡ Some x) → UnlessMemory e (option_map make part ≡ Some e) → UnlessMemory e (option_map make whole ≡ Some e)
+pub refuses_more : {X : Type 0} (make : X → CheckError) (part whole : Option X) (e : CheckError) → ((x : X) → part ≡ Some x → whole ≡ Some x)
+    → UnlessMemory e (option_map make part ≡ Some e) → UnlessMemory e (option_map make whole ≡ Some e)
 refuses_more {X} make part whole e more h = for_memory e (by part refl) h
   where
     by : (o : Option X) → part ≡ o → option_map make o ≡ Some e → option_map make whole ≡ Some e
@@ -55,10 +56,12 @@ module _ {X Y : Type 0} (f : X → Option Y) (xs : List X) (i : ℕ) where
       let e = drop-cons xs i x h in
       rw (e, ← is, add-one) refl
 
-  pub answer_found : (x : X) (y : Y) → i < length xs → x ≡ get_or xs i x → first_answer f xs ≡ first_answer f (drop i xs) → f x ≡ Some y → first_answer f xs ≡ Some y
+  pub answer_found : (x : X) (y : Y) → i < length xs → x ≡ get_or xs i x → first_answer f xs ≡ first_answer f (drop i xs) → f x ≡ Some y
+      → first_answer f xs ≡ Some y
   answer_found x y h is left some = left ∙ answer_turn x h is ∙ rw some refl
 
-  pub answer_on : (x : X) → i < length xs → x ≡ get_or xs i x → first_answer f xs ≡ first_answer f (drop i xs) → f x ≡ None → first_answer f xs ≡ first_answer f (drop (i + 1) xs)
+  pub answer_on : (x : X) → i < length xs → x ≡ get_or xs i x → first_answer f xs ≡ first_answer f (drop i xs) → f x ≡ None
+      → first_answer f xs ≡ first_answer f (drop (i + 1) xs)
   answer_on x h is left none = left ∙ answer_turn x h is ∙ rw none refl
 
   pub answer_done : length xs ≤ i → first_answer f xs ≡ first_answer f (drop i xs) → first_answer f xs ≡ None
@@ -75,10 +78,12 @@ module _ {X Y : Type 0} (f : X → Y) (xs : List X) (i : ℕ) where
   mapped_all h = ap (map f) (take_all i xs h)
 
 -- ---- whether an item's name is one of those before
-any_name : (k : List ℕ) (before : List Item) → list_any (λ (other : Item). same k (folded_name (item_name other))) before ≡ list_any (same k) (map (λ i. folded_name (item_name i)) before)
+any_name : (k : List ℕ) (before : List Item) → list_any (λ (other : Item). same k (folded_name (item_name other))) before ≡ list_any (same k)
+    (map (λ i. folded_name (item_name i)) before)
 any_name k before = sym (list_any-map (λ (i : Item). folded_name (item_name i)) (same k) before)
 
-pub item_breach_by_names : (before : List Item) (x : Item) (names : List (List ℕ)) → names ≡ map (λ i. folded_name (item_name i)) before → (if list_any (same (folded_name (item_name x))) names then Some (item_name x) else inner_breach x) ≡ item_breach before x
+pub item_breach_by_names : (before : List Item) (x : Item) (names : List (List ℕ)) → names ≡ map (λ i. folded_name (item_name i)) before
+    → (if list_any (same (folded_name (item_name x))) names then Some (item_name x) else inner_breach x) ≡ item_breach before x
 item_breach_by_names before x names e = rw (e, any_name (folded_name (item_name x)) before) refl
 
 -- ---- a repeated name by its place among the folded ones
@@ -86,22 +91,27 @@ map_twice : {A B C : Type 0} (f : A → B) (g : B → C) (xs : List A) → map g
 map_twice f g [] = refl
 map_twice f g (x ∷ xs) = ap (λ ys. g (f x) ∷ ys) (map_twice f g xs)
 
-pub name_repeat : (names : List (Bor (List ℕ))) (keys : List (Vec ℕ Global)) → map (λ k. k.items) keys ≡ map (λ n. folded_name n.now) names → repeated_name (map (λ n. n.now) names) ≡ option_and_then (slice_get (map (λ (n : Bor (List ℕ)). n.now) names)) (repeat_at (λ (x y : Vec ℕ Global). same x.items y.items) [] keys)
+pub name_repeat : (names : List (Bor (List ℕ))) (keys : List (Vec ℕ Global)) → map (λ k. k.items) keys ≡ map (λ n. folded_name n.now) names
+    → repeated_name (map (λ n. n.now) names) ≡ option_and_then (slice_get (map (λ (n : Bor (List ℕ)). n.now) names))
+    (repeat_at (λ (x y : Vec ℕ Global). same x.items y.items) [] keys)
 name_repeat names keys e =
     let p = repeat_by_place same folded_name [] (map (λ (n : Bor (List ℕ)). n.now) names) in
     let q = repeat_at-map (λ (k : Vec ℕ Global). k.items) same [] keys in
     let m = e ∙ sym (map_twice (λ (n : Bor (List ℕ)). n.now) folded_name names) in
-    p ∙ ap (λ ks. option_and_then (slice_get (map (λ (n : Bor (List ℕ)). n.now) names)) (repeat_at same [] ks)) (sym m) ∙ ap (option_and_then (slice_get (map (λ (n : Bor (List ℕ)). n.now) names))) q
+    p ∙ ap (λ ks. option_and_then (slice_get (map (λ (n : Bor (List ℕ)). n.now) names)) (repeat_at same [] ks)) (sym m)
+    ∙ ap (option_and_then (slice_get (map (λ (n : Bor (List ℕ)). n.now) names))) q
 
 -- ---- the interface of a name, by the place of the folded name
-pub interface_by_place : (items : List Item) (names : List (List ℕ)) (name : List ℕ) → names ≡ map (λ i. folded_name (item_name i)) items → interface_named items name ≡ option_and_then as_interface (option_and_then (slice_get items) (position (same (folded_name name)) names))
+pub interface_by_place : (items : List Item) (names : List (List ℕ)) (name : List ℕ) → names ≡ map (λ i. folded_name (item_name i)) items
+    → interface_named items name ≡ option_and_then as_interface (option_and_then (slice_get items) (position (same (folded_name name)) names))
 interface_by_place items names name e =
     let p = position-map (λ (i : Item). folded_name (item_name i)) (same (folded_name name)) items in
     let f = position_finds (λ (i : Item). same_name name (item_name i)) items in
     rw (e, p) (ap (option_and_then as_interface) (sym f))
 
 -- ---- An error that `?` returns.
-pub refused : {X : Type 0} (breach : Option CheckError) (P : X → Type 0) (e : CheckError) (r : Result X CheckError) → IsErr r → IsErrAnd r (λ e'. e' ≡ e) → UnlessMemory e (breach ≡ Some e) → RefusesBreach breach P r
+pub refused : {X : Type 0} (breach : Option CheckError) (P : X → Type 0) (e : CheckError) (r : Result X CheckError) → IsErr r → IsErrAnd r (λ e'. e' ≡ e)
+    → UnlessMemory e (breach ≡ Some e) → RefusesBreach breach P r
 refused breach P e (Ok x) is and h = absurd (true≢false (sym is))
 refused breach P e (Err e') is and h = subst (λ (d : CheckError). UnlessMemory d (breach ≡ Some d)) (sym and) h
 
@@ -111,7 +121,8 @@ module _ {K : Type 0} (eq : K → K → Bool) (keys : List K) where
   told_none (All seen) h is = h.0
   told_none (Repeat place) h is = absurd (cc)
 
-  pub told_some : (d : Distinct K) (place : ℕ) → TellsDistinct eq keys d → repeat_of d ≡ Some place → (repeat_at eq [] keys ≡ Some place) × (place < length keys)
+  pub told_some : (d : Distinct K) (place : ℕ) → TellsDistinct eq keys d → repeat_of d ≡ Some place → (repeat_at eq [] keys ≡ Some place)
+      × (place < length keys)
   told_some (All seen) place h is = absurd (cc)
   told_some (Repeat n) place h is = let e : n ≡ place = cc in (h.0 ∙ ap (λ m. Some m) e, rw (← e) h.1)
 
@@ -126,7 +137,8 @@ repeats_later eq (k ∷ ks) place is = by (repeat_at eq (k ∷ []) ks) is
     by (Some n) is = let e : suc n ≡ place = cc in omega (arith, e)
 
 -- An entry after the first one.
-pub behind_first : {X Y : Type 0} (f : X → Y) (y : Y) (xs : List X) (place : ℕ) (x : X) → 1 ≤ place → place - 1 < length xs → x ≡ get_or xs (place - 1) x → f x ≡ get_or (y ∷ map f xs) place (f x)
+pub behind_first : {X Y : Type 0} (f : X → Y) (y : Y) (xs : List X) (place : ℕ) (x : X) → 1 ≤ place → place - 1 < length xs → x ≡ get_or xs (place - 1) x
+    → f x ≡ get_or (y ∷ map f xs) place (f x)
 behind_first f y xs zero x some within is = absurd (omega (arith, some))
 behind_first f y xs (suc n) x some within is =
     let e : suc n - 1 ≡ n = omega arith in
@@ -136,10 +148,12 @@ behind_first f y xs (suc n) x some within is =
 -- ---- the first member that repeats the key of one before it, by the repeated key's place
 module _ {X K : Type 0} (eq : K → K → Bool) (key : X → K) (xs : List X) (keys : List K) (same_keys : keys ≡ map key xs) where
   pub none_repeats : repeat_at eq [] keys ≡ None → first_repeat eq key [] xs ≡ None
-  none_repeats none = repeat_by_place eq key [] xs ∙ ap (λ ks. option_and_then (slice_get xs) (repeat_at eq [] ks)) (sym same_keys) ∙ ap (option_and_then (slice_get xs)) none
+  none_repeats none = repeat_by_place eq key [] xs ∙ ap (λ ks. option_and_then (slice_get xs) (repeat_at eq [] ks)) (sym same_keys)
+      ∙ ap (option_and_then (slice_get xs)) none
 
   pub one_repeats : (place : ℕ) (x : X) → repeat_at eq [] keys ≡ Some place → place < length xs → x ≡ get_or xs place x → first_repeat eq key [] xs ≡ Some x
-  one_repeats place x some within is = repeat_by_place eq key [] xs ∙ ap (λ ks. option_and_then (slice_get xs) (repeat_at eq [] ks)) (sym same_keys) ∙ ap (option_and_then (slice_get xs)) some ∙ slice_get_read xs (length xs) place x refl within is
+  one_repeats place x some within is = repeat_by_place eq key [] xs ∙ ap (λ ks. option_and_then (slice_get xs) (repeat_at eq [] ks)) (sym same_keys)
+      ∙ ap (option_and_then (slice_get xs)) some ∙ slice_get_read xs (length xs) place x refl within is
 
 -- ---- a name that is repeated among folded ones
 module _ (names : List (Bor (List ℕ))) (keys : List (Vec ℕ Global)) (same_keys : map (λ k. k.items) keys ≡ map (λ n. folded_name n.now) names) where
@@ -147,13 +161,24 @@ module _ (names : List (Bor (List ℕ))) (keys : List (Vec ℕ Global)) (same_ke
   no_name_repeats none = sym (name_repeat names keys same_keys ∙ ap (option_and_then (slice_get (map (λ (n : Bor (List ℕ)). n.now) names))) none)
 
   pub within_names : (place : ℕ) → place < length keys → place < length names
-  within_names place h = omega (arith, h, sym (length-mapped (λ (k : Vec ℕ Global). k.items) keys) ∙ ap length same_keys ∙ length-mapped (λ (n : Bor (List ℕ)). folded_name n.now) names)
+  within_names place h =
+      omega (
+        arith,
+        h,
+        sym (length-mapped (λ (k : Vec ℕ Global). k.items) keys) ∙ ap length same_keys
+            ∙ length-mapped (λ (n : Bor (List ℕ)). folded_name n.now) names,
+      )
 
-  pub one_name_repeats : (place : ℕ) (x : Bor (List ℕ)) → (repeat_at (λ (x y : Vec ℕ Global). same x.items y.items) [] keys ≡ Some place) × (place < length keys) → x ≡ get_or names place x → Some x.now ≡ repeated_name (map (λ n. n.now) names)
-  one_name_repeats place x h is = sym (name_repeat names keys same_keys ∙ ap (option_and_then (slice_get (map (λ (n : Bor (List ℕ)). n.now) names))) h.0 ∙ slice_get-map (λ (n : Bor (List ℕ)). n.now) names place ∙ ap (option_map (λ (n : Bor (List ℕ)). n.now)) (slice_get_read names (length names) place x refl (within_names place h.1) is))
+  pub one_name_repeats : (place : ℕ) (x : Bor (List ℕ)) → (repeat_at (λ (x y : Vec ℕ Global). same x.items y.items) [] keys ≡ Some place)
+      × (place < length keys) → x ≡ get_or names place x → Some x.now ≡ repeated_name (map (λ n. n.now) names)
+  one_name_repeats place x h is =
+      sym (name_repeat names keys same_keys ∙ ap (option_and_then (slice_get (map (λ (n : Bor (List ℕ)). n.now) names))) h.0
+      ∙ slice_get-map (λ (n : Bor (List ℕ)). n.now) names place
+      ∙ ap (option_map (λ (n : Bor (List ℕ)). n.now)) (slice_get_read names (length names) place x refl (within_names place h.1) is))
 
 -- ---- whether a name is an interface's
-pub interface_by_key : (items : List Item) (names : List (List ℕ)) (name key : List ℕ) (o : Option ℕ) → names ≡ map (λ i. folded_name (item_name i)) items → key ≡ folded_name name → o ≡ position (same key) names → interface_named items name ≡ option_and_then as_interface (option_and_then (slice_get items) o)
+pub interface_by_key : (items : List Item) (names : List (List ℕ)) (name key : List ℕ) (o : Option ℕ) → names ≡ map (λ i. folded_name (item_name i)) items
+    → key ≡ folded_name name → o ≡ position (same key) names → interface_named items name ≡ option_and_then as_interface (option_and_then (slice_get items) o)
 interface_by_key items names name key o e k p = interface_by_place items names name e ∙ sym (rw (p, k) refl)
 
 pub some_copied : {X : Type 0} (o : Option (Bor X)) → is_some (option_copied o) ≡ is_some o

@@ -105,7 +105,8 @@ length_before (x ∷ xs) (suc i) (suc n) h = let r = length_before xs i n (omega
 weaker : (rule : Rule) (d x : DeclarationValue) → alike rule x d ≡ false → breaks rule d x ≡ false
 weaker rule d x apart = ap (λ b. b && not (suits rule d x)) ((alike_equiv rule).symm d x ∙ apart)
 
-module _ (rule : Rule) (all : List DeclarationValue) (before : List (Option ℕ)) (i : ℕ) (d : DeclarationValue) (are : before ≡ places_before (alike rule) [] all) (here : i < length all) (is : d ≡ get_or all i d) where
+module _ (rule : Rule) (all : List DeclarationValue) (before : List (Option ℕ)) (i : ℕ) (d : DeclarationValue)
+    (are : before ≡ places_before (alike rule) [] all) (here : i < length all) (is : d ≡ get_or all i d) where
   place_here : (o : Option ℕ) → o ≡ get_or before i o → o ≡ last_place (λ x. alike rule x d) (take i all)
   place_here o at = at ∙ ap (λ os. get_or os i o) are ∙ place_at (alike rule) [] all i d o here is
 
@@ -115,7 +116,8 @@ module _ (rule : Rule) (all : List DeclarationValue) (before : List (Option ℕ)
   other_within : (n : ℕ) → Some n ≡ get_or before i (Some n) → n < i
   other_within n at = length_before all i n (last_within (λ x. alike rule x d) (take i all) n (sym (place_here (Some n) at)))
 
-  pub told : Keeps_it (alike rule) (suits rule) (take i all) → (o : Option ℕ) → o ≡ get_or before i o → broken_at rule all d o ≡ list_any (breaks rule d) (take i all)
+  pub told : Keeps_it (alike rule) (suits rule) (take i all) → (o : Option ℕ) → o ≡ get_or before i o → broken_at rule all d o ≡ list_any (breaks rule d)
+      (take i all)
   told kept None at = sym (none_passes (λ x. alike rule x d) (breaks rule d) (take i all) (λ x. weaker rule d x) (sym (place_here None at)))
   told kept (Some n) at =
       let within = other_within n at in
@@ -123,7 +125,8 @@ module _ (rule : Rule) (all : List DeclarationValue) (before : List (Option ℕ)
       let e = get_or all n d in
       let was = get_or_default all n d e in_all in
       ap (broken_with rule d) (slice_get_read all (length all) n e refl in_all was)
-      ∙ sym (told_by_last (alike rule) (suits rule) (alike_equiv rule) (suits_equiv rule) d (take i all) n e kept (sym (place_here (Some n) at)) (was ∙ sym (get_or-take i all n e within)))
+      ∙ sym (told_by_last (alike rule) (suits rule) (alike_equiv rule) (suits_equiv rule) d (take i all) n e kept (sym (place_here (Some n) at))
+      (was ∙ sym (get_or-take i all n e within)))
 
   unbroken : (b : Bool) → (if b then Some d.name else None) ≡ None → b ≡ false
   unbroken true e = absurd (cc)
@@ -132,13 +135,16 @@ module _ (rule : Rule) (all : List DeclarationValue) (before : List (Option ℕ)
   read_here : (e : Option ℕ) → get_or before i e ≡ get_or before i (get_or before i e)
   read_here e = get_or_default before i e (get_or before i e) place_within
 
-  pub broken_here : Keeps_it (alike rule) (suits rule) (take i all) → (e : Option ℕ) (b : Bool) → b ≡ broken_at rule all d (get_or before i e) → b ≡ true → broken_by (breaks rule) (take i all) d ≡ Some d.name
+  pub broken_here : Keeps_it (alike rule) (suits rule) (take i all) → (e : Option ℕ) (b : Bool) → b ≡ broken_at rule all d (get_or before i e) → b ≡ true
+      → broken_by (breaks rule) (take i all) d ≡ Some d.name
   broken_here kept e b is_so there = rw (sym (told kept (get_or before i e) (read_here e)) ∙ sym is_so ∙ there) refl
 
-  pub unbroken_here : Keeps_it (alike rule) (suits rule) (take i all) → (e : Option ℕ) (b : Bool) → b ≡ broken_at rule all d (get_or before i e) → b ≡ false → broken_by (breaks rule) (take i all) d ≡ None
+  pub unbroken_here : Keeps_it (alike rule) (suits rule) (take i all) → (e : Option ℕ) (b : Bool) → b ≡ broken_at rule all d (get_or before i e) → b ≡ false
+      → broken_by (breaks rule) (take i all) d ≡ None
   unbroken_here kept e b is_so none = rw (sym (told kept (get_or before i e) (read_here e)) ∙ sym is_so ∙ none) refl
 
-  pub kept_here : Keeps_it (alike rule) (suits rule) (take i all) → broken_by (breaks rule) (take i all) d ≡ None → Keeps_it (alike rule) (suits rule) (take (i + 1) all)
+  pub kept_here : Keeps_it (alike rule) (suits rule) (take i all) → broken_by (breaks rule) (take i all) d ≡ None
+      → Keeps_it (alike rule) (suits rule) (take (i + 1) all)
   kept_here kept none =
       let t = take_more all i d here in
       rw (t, ← is) (keeps_more (alike rule) (suits rule) (take i all) d kept (unbroken (list_any (breaks rule d) (take i all)) none))

@@ -25,12 +25,15 @@ appended takes (x ∷ xs) ys = by (takes x.kind) (appended takes xs ys)
     left : List DeclarationValue → List DeclarationValue
     left ds = filter (λ (d : DeclarationValue). takes d.kind) ds
 
-    by : (b : Bool) → map name (left (xs ++ ys)) ≡ map name (left xs) ++ map name (left ys) → map name (cond b (x ∷ left (xs ++ ys)) (left (xs ++ ys))) ≡ map name (cond b (x ∷ left xs) (left xs)) ++ map name (left ys)
+    by : (b : Bool) → map name (left (xs ++ ys)) ≡ map name (left xs) ++ map name (left ys)
+        → map name (cond b (x ∷ left (xs ++ ys)) (left (xs ++ ys))) ≡ map name (cond b (x ∷ left xs) (left xs)) ++ map name (left ys)
     by true rest = ap (λ ns. name x ∷ ns) rest
     by false rest = rest
 
-pub taken_more : (takes : DeclarationKind → Bool) (ds : List DeclarationValue) (i : ℕ) (d : DeclarationValue) → i < length ds → d ≡ get_or ds i d → names_taken takes (take (i + 1) ds) ≡ names_taken takes (take i ds) ++ names_taken takes (d ∷ [])
-taken_more takes ds i d h is = ap (names_taken takes) (take_more ds i d h) ∙ appended takes (take i ds) (get_or ds i d ∷ []) ∙ ap (λ e. names_taken takes (take i ds) ++ names_taken takes (e ∷ [])) (sym is)
+pub taken_more : (takes : DeclarationKind → Bool) (ds : List DeclarationValue) (i : ℕ) (d : DeclarationValue) → i < length ds → d ≡ get_or ds i d
+    → names_taken takes (take (i + 1) ds) ≡ names_taken takes (take i ds) ++ names_taken takes (d ∷ [])
+taken_more takes ds i d h is = ap (names_taken takes) (take_more ds i d h) ∙ appended takes (take i ds) (get_or ds i d ∷ [])
+    ∙ ap (λ e. names_taken takes (take i ds) ++ names_taken takes (e ∷ [])) (sym is)
 
 -- ---- A name that clashes is occupied.
 
@@ -85,13 +88,17 @@ joined false false true r true m n = refl
 joined false false true r false m n = refl
 joined false false false r s m n = refl
 
-if_taken : (key : List ℕ) (takes : DeclarationKind → Bool) (e : DeclarationValue) (ds : List DeclarationValue) → list_any (same key) (names_taken takes (e ∷ ds)) ≡ cond (takes e.kind) (same key (folded_name e.name) || list_any (same key) (names_taken takes ds)) (list_any (same key) (names_taken takes ds))
+if_taken : (key : List ℕ) (takes : DeclarationKind → Bool) (e : DeclarationValue) (ds : List DeclarationValue)
+    → list_any (same key) (names_taken takes (e ∷ ds)) ≡ cond (takes e.kind) (same key (folded_name e.name) || list_any (same key) (names_taken takes ds))
+    (list_any (same key) (names_taken takes ds))
 if_taken key takes e ds = by (takes e.kind)
   where
     rest : List DeclarationValue
     rest = filter (λ (d : DeclarationValue). takes d.kind) ds
 
-    by : (b : Bool) → list_any (same key) (map (λ (d : DeclarationValue). folded_name d.name) (cond b (e ∷ rest) rest)) ≡ cond b (same key (folded_name e.name) || list_any (same key) (map (λ (d : DeclarationValue). folded_name d.name) rest)) (list_any (same key) (map (λ (d : DeclarationValue). folded_name d.name) rest))
+    by : (b : Bool) → list_any (same key) (map (λ (d : DeclarationValue). folded_name d.name) (cond b (e ∷ rest) rest)) ≡ cond b
+        (same key (folded_name e.name) || list_any (same key) (map (λ (d : DeclarationValue). folded_name d.name) rest))
+        (list_any (same key) (map (λ (d : DeclarationValue). folded_name d.name) rest))
     by true = refl
     by false = refl
 
@@ -101,12 +108,16 @@ none_taken true false = refl
 none_taken false true = refl
 none_taken false false = refl
 
-pub clash_is_taken : (d : DeclarationValue) (ds : List DeclarationValue) → list_any (clashes d) ds ≡ is_taken (names_taken takes_reading ds) (names_taken takes_setting ds) d
+pub clash_is_taken : (d : DeclarationValue) (ds : List DeclarationValue) → list_any (clashes d) ds ≡ is_taken (names_taken takes_reading ds)
+    (names_taken takes_setting ds) d
 clash_is_taken d [] = none_taken (takes_reading d.kind) (takes_setting d.kind)
 clash_is_taken d (e ∷ ds) =
     let key = folded_name d.name in
     rw (both_take d.kind e.kind, clash_is_taken d ds, if_taken key takes_reading e ds, if_taken key takes_setting e ds)
-    (joined (same key (folded_name e.name)) (takes_reading d.kind) (takes_setting d.kind) (takes_reading e.kind) (takes_setting e.kind) (list_any (same key) (names_taken takes_reading ds)) (list_any (same key) (names_taken takes_setting ds)))
+    (joined (same key (folded_name e.name)) (takes_reading d.kind) (takes_setting d.kind) (takes_reading e.kind) (takes_setting e.kind)
+    (list_any (same key) (names_taken takes_reading ds)) (list_any (same key) (names_taken takes_setting ds)))
 
-pub declared_by_names : (before : List DeclarationValue) (d : DeclarationValue) (reading setting : List (List ℕ)) → reading ≡ names_taken takes_reading before → setting ≡ names_taken takes_setting before → (if is_taken reading setting d then Some d.name else repeated_name (map (λ (p : Parameter). p.name) d.parameters)) ≡ declared_breach before d
+pub declared_by_names : (before : List DeclarationValue) (d : DeclarationValue) (reading setting : List (List ℕ)) → reading ≡ names_taken takes_reading before
+    → setting ≡ names_taken takes_setting before
+    → (if is_taken reading setting d then Some d.name else repeated_name (map (λ (p : Parameter). p.name) d.parameters)) ≡ declared_breach before d
 declared_by_names before d reading setting r s = rw (r, s, ← clash_is_taken d before) refl

@@ -13,17 +13,20 @@ use Rattle.oa_sema.specs.Repeats.{last_place, places_before}
 
 -- ---- a turn of a walk over xs, which is at i
 module _ {X Y : Type 0} (f : List X → X → Option Y) (xs : List X) (i : ℕ) where
-  after_turn : (x : X) → i < length xs → x ≡ get_or xs i x → first_after f (take i xs) (drop i xs) ≡ option_or (f (take i xs) x) (first_after f (take (i + 1) xs) (drop (i + 1) xs))
+  after_turn : (x : X) → i < length xs → x ≡ get_or xs i x → first_after f (take i xs) (drop i xs) ≡ option_or (f (take i xs) x)
+      (first_after f (take (i + 1) xs) (drop (i + 1) xs))
   unfolding first_after
   after_turn x h is =
       let d = drop-cons xs i x h in
       let t = take_more xs i x h in
       rw (d, t, ← is, add-one) refl
 
-  pub after_found : (x : X) (y : Y) → i < length xs → x ≡ get_or xs i x → first_after f [] xs ≡ first_after f (take i xs) (drop i xs) → f (take i xs) x ≡ Some y → first_after f [] xs ≡ Some y
+  pub after_found : (x : X) (y : Y) → i < length xs → x ≡ get_or xs i x → first_after f [] xs ≡ first_after f (take i xs) (drop i xs) → f (take i xs) x ≡ Some y
+      → first_after f [] xs ≡ Some y
   after_found x y h is left some = left ∙ after_turn x h is ∙ ap (λ o. option_or o (first_after f (take (i + 1) xs) (drop (i + 1) xs))) some
 
-  pub after_on : (x : X) → i < length xs → x ≡ get_or xs i x → first_after f [] xs ≡ first_after f (take i xs) (drop i xs) → f (take i xs) x ≡ None → first_after f [] xs ≡ first_after f (take (i + 1) xs) (drop (i + 1) xs)
+  pub after_on : (x : X) → i < length xs → x ≡ get_or xs i x → first_after f [] xs ≡ first_after f (take i xs) (drop i xs) → f (take i xs) x ≡ None
+      → first_after f [] xs ≡ first_after f (take (i + 1) xs) (drop (i + 1) xs)
   after_on x h is left none = left ∙ after_turn x h is ∙ ap (λ o. option_or o (first_after f (take (i + 1) xs) (drop (i + 1) xs))) none
 
   pub after_done : length xs ≤ i → first_after f [] xs ≡ first_after f (take i xs) (drop i xs) → first_after f [] xs ≡ None
@@ -50,7 +53,8 @@ Here test y ys n = (test y ≡ true) × (n ≡ zero) × (last_place test ys ≡ 
 abbrev There : {X : Type 0} → (X → Bool) → List X → ℕ → Type 0
 There test ys n = (m : ℕ) × (last_place test ys ≡ Some m) × (n ≡ suc m)
 
-last_by : {X : Type 0} (test : X → Bool) (y : X) (ys : List X) (n : ℕ) (o : Option ℕ) → last_place test ys ≡ o → option_or (option_map (λ k. suc k) o) (if test y then Some zero else None) ≡ Some n → Here test y ys n ⊎ There test ys n
+last_by : {X : Type 0} (test : X → Bool) (y : X) (ys : List X) (n : ℕ) (o : Option ℕ) → last_place test ys ≡ o
+    → option_or (option_map (λ k. suc k) o) (if test y then Some zero else None) ≡ Some n → Here test y ys n ⊎ There test ys n
 last_by test y ys n None o h = let p = last_here (test y) n h in inl (p.0, p.1, o)
 last_by test y ys n (Some m) o h = inr (m, o, last_later m (test y) n h)
 
@@ -68,26 +72,32 @@ at_there x y ys n m z is = is ∙ ap (λ k. get_or (y ∷ ys) k x) z
 pub last_within : {X : Type 0} (test : X → Bool) (xs : List X) (n : ℕ) → last_place test xs ≡ Some n → n < length xs
 unfolding last_place
 last_within test [] n e = absurd (cc)
-last_within test (y ∷ ys) n e = ⊎_elim (λ h. rw h.1 (omega arith)) (λ t. let w = last_within test ys t.0 t.1 in omega (arith, w, t.2)) (last_cases test y ys n e)
+last_within test (y ∷ ys) n e = ⊎_elim (λ h. rw h.1 (omega arith)) (λ t. let w = last_within test ys t.0 t.1 in omega (arith, w, t.2))
+    (last_cases test y ys n e)
 
 pub last_passes : {X : Type 0} (test : X → Bool) (xs : List X) (n : ℕ) (x : X) → last_place test xs ≡ Some n → x ≡ get_or xs n x → test x ≡ true
 unfolding last_place
 last_passes test [] n x e is = absurd (cc)
-last_passes test (y ∷ ys) n x e is = ⊎_elim (λ h. ap test (at_here x y ys n h.1 is) ∙ h.0) (λ t. last_passes test ys t.0 x t.1 (at_there x y ys n t.0 t.2 is)) (last_cases test y ys n e)
+last_passes test (y ∷ ys) n x e is = ⊎_elim (λ h. ap test (at_here x y ys n h.1 is) ∙ h.0) (λ t. last_passes test ys t.0 x t.1 (at_there x y ys n t.0 t.2 is))
+    (last_cases test y ys n e)
 
-pub last_has : {X : Type 0} (P : X → Type 0) (test : X → Bool) (xs : List X) (n : ℕ) (x : X) → AllByRecursion P xs → last_place test xs ≡ Some n → x ≡ get_or xs n x → P x
+pub last_has : {X : Type 0} (P : X → Type 0) (test : X → Bool) (xs : List X) (n : ℕ) (x : X) → AllByRecursion P xs → last_place test xs ≡ Some n
+    → x ≡ get_or xs n x → P x
 unfolding last_place
 last_has P test [] n x all e is = absurd (cc)
-last_has P test (y ∷ ys) n x all e is = ⊎_elim (λ h. subst P (sym (at_here x y ys n h.1 is)) all.0) (λ t. last_has P test ys t.0 x all.1 t.1 (at_there x y ys n t.0 t.2 is)) (last_cases test y ys n e)
+last_has P test (y ∷ ys) n x all e is = ⊎_elim (λ h. subst P (sym (at_here x y ys n h.1 is)) all.0)
+    (λ t. last_has P test ys t.0 x all.1 t.1 (at_there x y ys n t.0 t.2 is)) (last_cases test y ys n e)
 
-pub none_passes : {X : Type 0} (test other : X → Bool) (xs : List X) → ((x : X) → test x ≡ false → other x ≡ false) → last_place test xs ≡ None → list_any other xs ≡ false
+pub none_passes : {X : Type 0} (test other : X → Bool) (xs : List X) → ((x : X) → test x ≡ false → other x ≡ false) → last_place test xs ≡ None
+    → list_any other xs ≡ false
 unfolding last_place
 none_passes test other [] stronger e = refl
 none_passes test other (y ∷ ys) stronger e =
     let h = last_none (last_place test ys) (test y) e in
     rw (stronger y h.1) (none_passes test other ys stronger h.0)
 
-cond_later : (b c : Bool) (len : ℕ) (l : Option ℕ) → option_or (option_map (λ k. suc k) (cond b (Some len) l)) (if c then Some zero else None) ≡ cond b (Some (suc len)) (option_or (option_map (λ k. suc k) l) (if c then Some zero else None))
+cond_later : (b c : Bool) (len : ℕ) (l : Option ℕ) → option_or (option_map (λ k. suc k) (cond b (Some len) l)) (if c then Some zero else None) ≡ cond b
+    (Some (suc len)) (option_or (option_map (λ k. suc k) l) (if c then Some zero else None))
 cond_later true c len l = refl
 cond_later false c len l = refl
 
@@ -99,7 +109,8 @@ cond_first false = refl
 pub last_more : {X : Type 0} (test : X → Bool) (xs : List X) (y : X) → last_place test (xs ++ y ∷ []) ≡ cond (test y) (Some (length xs)) (last_place test xs)
 unfolding last_place
 last_more test [] y = cond_first (test y)
-last_more test (x ∷ xs) y = ap (λ o. option_or (option_map (λ k. suc k) o) (if test x then Some zero else None)) (last_more test xs y) ∙ cond_later (test y) (test x) (length xs) (last_place test xs)
+last_more test (x ∷ xs) y = ap (λ o. option_or (option_map (λ k. suc k) o) (if test x then Some zero else None)) (last_more test xs y)
+    ∙ cond_later (test y) (test x) (length xs) (last_place test xs)
 
 -- ---- for each member the last one before it that is like it
 
@@ -108,13 +119,15 @@ unfolding places_before
 length-places eq before [] = refl
 length-places eq before (x ∷ xs) = ap (λ n. suc n) (length-places eq (before ++ x ∷ []) xs)
 
-pub place_at : {X : Type 0} (eq : X → X → Bool) (before xs : List X) (i : ℕ) (x : X) (o : Option ℕ) → i < length xs → x ≡ get_or xs i x → get_or (places_before eq before xs) i o ≡ last_place (λ y. eq y x) (before ++ take i xs)
+pub place_at : {X : Type 0} (eq : X → X → Bool) (before xs : List X) (i : ℕ) (x : X) (o : Option ℕ) → i < length xs → x ≡ get_or xs i x
+    → get_or (places_before eq before xs) i o ≡ last_place (λ y. eq y x) (before ++ take i xs)
 unfolding places_before
 place_at eq before [] i x o h is = absurd (omega (arith, h))
 place_at eq before (y ∷ ys) zero x o h is = rw (append-nil before, is) refl
 place_at eq before (y ∷ ys) (suc i) x o h is = place_at eq (before ++ y ∷ []) ys i x o (omega (arith, h)) is ∙ rw append_assoc refl
 
-pub places-append : {X : Type 0} (eq : X → X → Bool) (before xs : List X) (y : X) → places_before eq before (xs ++ y ∷ []) ≡ places_before eq before xs ++ last_place (λ x. eq x y) (before ++ xs) ∷ []
+pub places-append : {X : Type 0} (eq : X → X → Bool) (before xs : List X) (y : X) → places_before eq before (xs ++ y ∷ []) ≡ places_before eq before xs
+    ++ last_place (λ x. eq x y) (before ++ xs) ∷ []
 unfolding places_before
 places-append eq before [] y = rw (append-nil before) refl
 places-append eq before (x ∷ xs) y = ap (λ os. last_place (λ z. eq z x) before ∷ os) (places-append eq (before ++ x ∷ []) xs y ∙ rw append_assoc refl)
@@ -125,7 +138,8 @@ last-map f test [] = refl
 last-map f test (x ∷ xs) = ap (λ o. option_or (option_map (λ k. suc k) o) (if test (f x) then Some zero else None)) (last-map f test xs)
 
 -- seen through f
-pub places-map : {X Y : Type 0} (f : X → Y) (eq : Y → Y → Bool) (before xs : List X) → places_before eq (map f before) (map f xs) ≡ places_before (λ x y. eq (f x) (f y)) before xs
+pub places-map : {X Y : Type 0} (f : X → Y) (eq : Y → Y → Bool) (before xs : List X) → places_before eq (map f before) (map f xs) ≡ places_before
+    (λ x y. eq (f x) (f y)) before xs
 unfolding places_before
 places-map f eq before [] = refl
 places-map f eq before (x ∷ xs) =
@@ -182,13 +196,17 @@ module _ {X : Type 0} (s r : X → X → Bool) where
   same_or false c h = refl
 
   -- The last entry that is alike decides whether one violates the rule.
-  pub told_by_last : IsEquivalence s → IsEquivalence r → (d : X) (xs : List X) (n : ℕ) (x : X) → Keeps_it xs → last_place (λ e. s e d) xs ≡ Some n → x ≡ get_or xs n x → list_any (breaks_it d) xs ≡ breaks_it d x
+  pub told_by_last : IsEquivalence s → IsEquivalence r → (d : X) (xs : List X) (n : ℕ) (x : X) → Keeps_it xs → last_place (λ e. s e d) xs ≡ Some n
+      → x ≡ get_or xs n x → list_any (breaks_it d) xs ≡ breaks_it d x
   unfolding last_place
   told_by_last es er d [] n x k e is = absurd (cc)
   told_by_last es er d (y ∷ ys) n x k e is = ⊎_elim {A = Here (λ z. s z d) y ys n} {B = There (λ z. s z d) ys n}
-      (λ h. let rest : list_any (breaks_it d) ys ≡ false = none_passes (λ z. s z d) (breaks_it d) ys (λ z apart. ap (λ b. b && not (r d z)) (es.symm d z ∙ apart)) h.2 in
+      (λ h. let rest : list_any (breaks_it d) ys ≡ false =
+      none_passes (λ z. s z d) (breaks_it d) ys (λ z apart. ap (λ b. b && not (r d z)) (es.symm d z ∙ apart)) h.2 in
       rw (rest, at_here x y ys n h.1 is) (or_false (breaks_it d y)))
       (λ t. let at = at_there x y ys n t.0 t.2 is in
       let rest = told_by_last es er d ys t.0 x k.1 t.1 at in
-      rw rest (same_or (breaks_it d y) (breaks_it d x) (λ kept. carried es er d x y (es.symm d x ∙ last_passes (λ z. s z d) ys t.0 x t.1 at) kept (last_has (λ z. breaks_it z y ≡ false) (λ z. s z d) ys t.0 x k.0 t.1 at))))
+      rw rest (same_or (breaks_it d y) (breaks_it d x)
+      (λ kept. carried es er d x y (es.symm d x ∙ last_passes (λ z. s z d) ys t.0 x t.1 at) kept
+      (last_has (λ z. breaks_it z y ≡ false) (λ z. s z d) ys t.0 x k.0 t.1 at))))
       (last_cases (λ z. s z d) y ys n e)

@@ -29,7 +29,8 @@ module _ {D : Type 0} {g : Ghosts D} (now : Store D g) (before between : State) 
   none_held (Disk store) one two held ended = ended.none
 
   -- of many
-  pub none_told_of : (a : Storage D g) (one two : SharedGroup) (frames : List (ℕ × List ℕ)) → AsksIn a before one Flush frames (Disk now) between two → DeskIsReady now two → two.open_group.replies.items ≡ []
+  pub none_told_of : (a : Storage D g) (one two : SharedGroup) (frames : List (ℕ × List ℕ)) → AsksIn a before one Flush frames (Disk now) between two
+      → DeskIsReady now two → two.open_group.replies.items ≡ []
   none_told_of (Memory disk) one two frames asked ready = absurd (true≢false (ap (λ (s : Storage D g). is_disk s) asked.0))
   none_told_of (Disk store) one two frames asked ready =
       no_replies two.open_group.replies.items (sym (told_length two.askers.items two.open_group.replies.items ready.each) ∙ ap (λ l. length l) asked.taken.1)

@@ -47,13 +47,15 @@ pub one_size : (m n : ℕ) → Two m ≡ Two n → m ≡ n
 one_size m n e = cc
 
 -- libraries of one canonical text are one
-module _ (one_tree : (text : List ℕ) (s t : TreeValue) → IsTree text s → IsTree text t → s ≡ t) (read : (t : TreeValue) → IsChecked t → IsTree (canonical t) t) where
+module _ (one_tree : (text : List ℕ) (s t : TreeValue) → IsTree text s → IsTree text t → s ≡ t)
+    (read : (t : TreeValue) → IsChecked t → IsTree (canonical t) t) where
   pub same_library : (a b : TreeValue) → IsChecked a → IsChecked b → canonical a ≡ canonical b → a ≡ b
   same_library a b one two text = one_tree (canonical b) a b (subst (λ (l : List ℕ). IsTree l a) text (read a one)) (read b two)
 
   pub found_again : FoundIsKept
   found_again bank library first count groups image table checked begins after holds unlocked =
-      let same = one_store image (text_of_library after.state) (canonical library) (held_of after.state) table (Two after.state.bank, after.holds) (Two bank, holds) in
+      let same = one_store image (text_of_library after.state) (canonical library) (held_of after.state) table (Two after.state.bank, after.holds)
+      (Two bank, holds) in
       let size : after.state.bank ≡ bank = one_size after.state.bank bank same.shape_same in
       let text : canonical after.state.library ≡ canonical library = same.library_same in
       let one = same_library after.state.library library (run_checked first after.state (concat_groups after.done) after.run begins) checked text in
@@ -64,7 +66,8 @@ pub session_begun : {D : Type 0} {g : Ghosts D} → OpenedBegins server_machine 
 session_begun {D} {g} disk library store table opened honest barrier =
     let found = opened.found honest in
     let first = state_of (body_bytes store.bank.shape) library table in
-    let holds : HoldsState server_machine first (g.contents disk) = rw opened.unlocked (subst (λ (s : BankFormat). IsStoreIn s (g.contents disk) (canonical library) table) opened.shape found.contents) in
+    let holds : HoldsState server_machine first (g.contents disk) =
+    rw opened.unlocked (subst (λ (s : BankFormat). IsStoreIn s (g.contents disk) (canonical library) table) opened.shape found.contents) in
     session_opened server_machine {g = g} disk store first
     (weakened g.moment g.image_since disk store.disk (g.image disk) (HoldsState server_machine first) found.reads.moments (λ c is. rw (barrier c is) holds))
     (record { shape = opened.shape; has = opened.text; all = (honest, λ c is. rw opened.unlocked (found.each c is)) })
@@ -74,17 +77,20 @@ pub begun_for_many : {D : Type 0} {g : Ghosts D} → OpenedBegins shared_machine
 begun_for_many {D} {g} disk library store table opened honest barrier =
     let found = opened.found honest in
     let first = shared (state_of (body_bytes store.bank.shape) library table) [] in
-    let holds : HoldsState shared_machine first (g.contents disk) = rw opened.unlocked (subst (λ (s : BankFormat). IsStoreIn s (g.contents disk) (canonical library) table) opened.shape found.contents) in
+    let holds : HoldsState shared_machine first (g.contents disk) =
+    rw opened.unlocked (subst (λ (s : BankFormat). IsStoreIn s (g.contents disk) (canonical library) table) opened.shape found.contents) in
     session_opened shared_machine {g = g} disk store first
     (weakened g.moment g.image_since disk store.disk (g.image disk) (HoldsState shared_machine first) found.reads.moments (λ c is. rw (barrier c is) holds))
     (record { shape = opened.shape; has = opened.text; all = (honest, λ c is. rw opened.unlocked (found.each c is)) })
 
 -- An opening takes what the disk holds for what a stop has left.
 module _ {D : Type 0} {g : Ghosts D} (now : (d : D) (t : ℕ) (c : List ℕ) → IsTrue (g.is_honest d) → t ≤ g.moment d → g.image d c → g.image_since d t c)
-    (only : (d : D) (c : List ℕ) → IsTrue (g.is_honest d) → g.image_since d (g.moment d) c → g.image d c) (held : (d : D) → IsTrue (g.is_honest d) → g.image d (g.contents d)) where
+    (only : (d : D) (c : List ℕ) → IsTrue (g.is_honest d) → g.image_since d (g.moment d) c → g.image d c)
+    (held : (d : D) → IsTrue (g.is_honest d) → g.image d (g.contents d)) where
   pub opening_joins : OpenedJoins g
   opening_joins disk library store table opened honest = (
-    session_opened server_machine {g = g} store.disk store first (started g.moment g.image_since store.disk (HoldsState server_machine first) (λ c left. holds c (only store.disk c honest left)))
+    session_opened server_machine {g = g} store.disk store first
+        (started g.moment g.image_since store.disk (HoldsState server_machine first) (λ c left. holds c (only store.disk c honest left)))
         (record { shape = opened.shape; has = opened.text; all = (honest, λ c is. rw opened.unlocked (found.each c is)) }),
     λ m le. left_before m le (g.contents store.disk) (found.reads.images (g.contents store.disk) (held store.disk honest)),
     holds (g.contents store.disk) (held store.disk honest),

@@ -16,7 +16,8 @@ use Rattle.oa_decision.specs.promise.States.{State}
 use Rattle.oa_server.specs.promise.Storages.{IsWholeGroup, IsNoGroupYet}
 
 -- these requests are in the open group, and are no group yet
-pub record Holding {D : Type 0} {g : Ghosts D} (size : ℕ) (first : State) (now : Store D g) (state : State) (pending : List ReplyValue) (events : List ℕ) (bodies : List (List ℕ)) : Type 0 where
+pub record Holding {D : Type 0} {g : Ghosts D} (size : ℕ) (first : State) (now : Store D g) (state : State) (pending : List ReplyValue) (events : List ℕ)
+    (bodies : List (List ℕ)) : Type 0 where
   pub held : List (Exchange ReplyValue)
   pub bodies_are : bodies ≡ map body_of held
   pub plain : HasNoBarrier is_replacement bodies
@@ -26,7 +27,8 @@ pub record Holding {D : Type 0} {g : Ghosts D} (size : ℕ) (first : State) (now
   pub short : is_full size held ≡ false
   pub going : now.stopped ≡ false
 
-plain_more : (bodies : List (List ℕ)) (body : List ℕ) → HasNoBarrier is_replacement bodies → is_replacement body ≡ false → HasNoBarrier is_replacement (bodies ++ body ∷ [])
+plain_more : (bodies : List (List ℕ)) (body : List ℕ) → HasNoBarrier is_replacement bodies → is_replacement body ≡ false
+    → HasNoBarrier is_replacement (bodies ++ body ∷ [])
 plain_more [] body none plain = (plain, tt)
 plain_more (first ∷ bodies) body none plain = (none.0, plain_more bodies body none.1 plain)
 
@@ -38,13 +40,24 @@ fills_none size some = search (some, rules)
 full_is : (size : ℕ) (pending : List ReplyValue) (events : List ℕ) (held : List (Exchange ReplyValue)) → pending ≡ map reply_of held → events ≡ events_in held
     → fills size (length pending) (length events) ≡ is_full size held
 full_is size pending events held replies bytes =
-    ap (λ (n : ℕ). fills size n (length events)) (ap (λ (l : List ReplyValue). length l) replies ∙ length-map held reply_of) ∙ ap (λ (l : List ℕ). fills size (length held) (length l)) bytes
+    ap (λ (n : ℕ). fills size n (length events)) (ap (λ (l : List ReplyValue). length l) replies ∙ length-map held reply_of)
+    ∙ ap (λ (l : List ℕ). fills size (length held) (length l)) bytes
 
 module _ {D : Type 0} {g : Ghosts D} (size : ℕ) where
   pub holds_none : (now : Store D g) (state : State) → 1 ≤ size → now.stopped ≡ false → Holding size state now state [] [] []
-  holds_none now state some going = record { held = []; bodies_are = refl; plain = tt; run = refl; pending_are = refl; events_are = refl; short = fills_none size some; going = going }
+  holds_none now state some going = record {
+    held = [];
+    bodies_are = refl;
+    plain = tt;
+    run = refl;
+    pending_are = refl;
+    events_are = refl;
+    short = fills_none size some;
+    going = going;
+  }
 
-  module _ (first : State) (old : Store D g) (before : State) (pending : List ReplyValue) (events : List ℕ) (bodies : List (List ℕ)) (was : Holding size first old before pending events bodies) where
+  module _ (first : State) (old : Store D g) (before : State) (pending : List ReplyValue) (events : List ℕ) (bodies : List (List ℕ))
+      (was : Holding size first old before pending events bodies) where
     module _ (body : List ℕ) (reply : ReplyValue) (event : List ℕ) where
       abbrev pub asked : Exchange ReplyValue
       asked = exchange body reply event
@@ -58,14 +71,17 @@ module _ {D : Type 0} {g : Ghosts D} (size : ℕ) where
       more_run : (after : State) → server_machine.Turn asked before after → Trace server_machine first more after
       more_run after turn = run_append server_machine first was.held before (asked ∷ []) after was.run (after, turn, refl)
 
-      more_pending : (now : GroupState State ReplyValue D g) → IsBuffered server_machine asked (grouping old before pending events) now → now.pending ≡ map reply_of more
+      more_pending : (now : GroupState State ReplyValue D g) → IsBuffered server_machine asked (grouping old before pending events) now
+          → now.pending ≡ map reply_of more
       more_pending now one = one.pending ∙ ap (λ (l : List ReplyValue). l ++ reply ∷ []) was.pending_are ∙ sym (map_push reply_of was.held asked)
 
-      more_events : (now : GroupState State ReplyValue D g) → IsBuffered server_machine asked (grouping old before pending events) now → now.events ≡ events_in more
+      more_events : (now : GroupState State ReplyValue D g) → IsBuffered server_machine asked (grouping old before pending events) now
+          → now.events ≡ events_in more
       more_events now one = one.events ∙ ap (λ (l : List ℕ). l ++ event) was.events_are ∙ sym (events_push was.held asked)
 
       -- the open group has one request more
-      pub holds_more : (now : GroupState State ReplyValue D g) → IsBuffered server_machine asked (grouping old before pending events) now → fills size (length now.pending) (length now.events) ≡ false
+      pub holds_more : (now : GroupState State ReplyValue D g) → IsBuffered server_machine asked (grouping old before pending events) now
+          → fills size (length now.pending) (length now.events) ≡ false
           → Holding size first now.store now.state now.pending now.events (bodies ++ body ∷ [])
       holds_more now one small = record {
         held = more;
@@ -83,7 +99,8 @@ module _ {D : Type 0} {g : Ghosts D} (size : ℕ) where
       not_before front last is = subst (λ (l : List (Exchange ReplyValue)). is_full size l ≡ false) (same_from_push was.held front asked last is).0 was.short
 
       -- it fills the group
-      pub group_filled : (mid new : GroupState State ReplyValue D g) (told : List ReplyValue) → IsBuffered server_machine asked (grouping old before pending events) mid → fills size (length mid.pending) (length mid.events) ≡ true
+      pub group_filled : (mid new : GroupState State ReplyValue D g) (told : List ReplyValue)
+          → IsBuffered server_machine asked (grouping old before pending events) mid → fills size (length mid.pending) (length mid.events) ≡ true
           → IsGroupCommitted server_machine told mid new → IsWholeGroup size new.store first (bodies ++ body ∷ []) told new.state
       group_filled mid new told one full settled = record {
         group = more;
@@ -92,11 +109,17 @@ module _ {D : Type 0} {g : Ghosts D} (size : ℕ) where
         run = subst (λ (s : State). Trace server_machine first more s) (sym settled.state) (more_run mid.state one.turn);
         short = not_before;
         ends = inl (sym (full_is size mid.pending mid.events more (more_pending mid one) (more_events mid one)) ∙ full);
-        whole = λ going. (sym (full_is size mid.pending mid.events more (more_pending mid one) (more_events mid one)) ∙ full, (settled.well going).0 ∙ more_pending mid one);
+        whole =
+            λ going. (
+              sym (full_is size mid.pending mid.events more (more_pending mid one) (more_events mid one)) ∙ full,
+              (settled.well going).0
+                  ∙ more_pending mid one,
+            );
       }
 
       -- the checkpoint before it fails
-      pub group_faulted : (new : GroupState State ReplyValue D g) (told : List ReplyValue) → server_machine.Turn asked before new.state → is_replacement body ≡ false → IsDueFor old before events body → event ≡ [] → new.store.stopped ≡ true
+      pub group_faulted : (new : GroupState State ReplyValue D g) (told : List ReplyValue) → server_machine.Turn asked before new.state
+          → is_replacement body ≡ false → IsDueFor old before events body → event ≡ [] → new.store.stopped ≡ true
           → IsWholeGroup size new.store first (bodies ++ body ∷ []) told new.state
       group_faulted new told turn plain due none stopped = record {
         group = more;
@@ -117,7 +140,8 @@ module _ {D : Type 0} {g : Ghosts D} (size : ℕ) where
       }
 
     -- the input ends
-    pub rest_ends : (new : GroupState State ReplyValue D g) (told : List ReplyValue) → IsEnded server_machine told (grouping old before pending events) new → IsNoGroupYet size new.store first bodies told new.state
+    pub rest_ends : (new : GroupState State ReplyValue D g) (told : List ReplyValue) → IsEnded server_machine told (grouping old before pending events) new
+        → IsNoGroupYet size new.store first bodies told new.state
     rest_ends new told (inl idle) = record {
       held = was.held;
       bodies_are = was.bodies_are;

@@ -12,14 +12,16 @@ use Rattle.oa_server.specs.Answers.{MakesNoEvent}
 use Rattle.oa_server.specs.promise.ServerMachine.{server_machine}
 
 -- where a turn of the body makes an event, one comes of what it asks
-pub event_of : (state : State) (body : List ℕ) → is_replacement body ≡ false → MakesEvent server_machine state body → (request : Request) × Asks body request × (0 < length (change_bytes (outcome state request).event))
+pub event_of : (state : State) (body : List ℕ) → is_replacement body ≡ false → MakesEvent server_machine state body → (request : Request) × Asks body request
+    × (0 < length (change_bytes (outcome state request).event))
 event_of state body plain makes = by (is_done makes.reply) refl (ordinary makes.turn.turn)
   where
     ordinary : Turn state body makes.reply makes.after → Ordinary state body makes.reply makes.after
     ordinary (inl one) = one.turn
     ordinary (inr one) = absurd (true≢false (sym one.kind ∙ plain))
 
-    by : (b : Bool) → is_done makes.reply ≡ b → Ordinary state body makes.reply makes.after → (request : Request) × Asks body request × (0 < length (change_bytes (outcome state request).event))
+    by : (b : Bool) → is_done makes.reply ≡ b → Ordinary state body makes.reply makes.after → (request : Request) × Asks body request
+        × (0 < length (change_bytes (outcome state request).event))
     by false is one = absurd (omega (arith, makes.some, ap (λ (l : List ℕ). length l) (makes.turn.made.undone is)))
     by true is (inl one) = (one.request, one.asked, subst (λ (l : List ℕ). 0 < length l) (makes.turn.made.done one.request plain one.asked is) makes.some)
     by true is (inr (inl one)) = absurd (true≢false (sym is ∙ ap is_done one.answers))

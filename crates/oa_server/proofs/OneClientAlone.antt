@@ -64,13 +64,15 @@ unfolding all_frames
 end_frames_are client None = refl
 end_frames_are client (Some end) = append-nil (frames_of (Leaves client end))
 
-frames_two : (client : ℕ) (replies : List ReplyValue) (more : List ClientReply) → all_frames (map (λ (reply : ReplyValue). Replies client reply) replies ++ more) ≡ frames_to client replies ++ all_frames more
+frames_two : (client : ℕ) (replies : List ReplyValue) (more : List ClientReply)
+    → all_frames (map (λ (reply : ReplyValue). Replies client reply) replies ++ more) ≡ frames_to client replies ++ all_frames more
 unfolding all_frames
 frames_two client [] more = refl
 frames_two client (reply ∷ replies) more = ap (λ (l : List (ℕ × List ℕ)). (client, reply_record reply) ∷ l) (frames_two client replies more)
 
 -- what was asked, whatever *now* stands between
-bodies_cut : (client : ℕ) (front : List (List ℕ)) (asks : List (Tagged Brought)) (bodies : List (List ℕ)) (left : Option End) → AsksBodies client asks bodies left
+bodies_cut : (client : ℕ) (front : List (List ℕ)) (asks : List (Tagged Brought)) (bodies : List (List ℕ)) (left : Option End)
+    → AsksBodies client asks bodies left
     → all_bodies (cut_at_now front (asks ++ Flush ∷ [])) ≡ front ++ (map (λ (body : List ℕ). tagged_body client (Body body)) bodies ++ end_bodies client left)
 unfolding cut_at_now
 bodies_cut client front [] [] None is = refl
@@ -101,7 +103,8 @@ record RunsInTwo (old new : Shared) (entries : List (Exchange ClientReply)) (xs 
   run : Trace shared_machine old front mid
   rest : Trace shared_machine mid back new
 
-in_two : (old new : Shared) (entries : List (Exchange ClientReply)) (xs ys : List (List ℕ)) → Trace shared_machine old entries new → map body_of entries ≡ xs ++ ys → RunsInTwo old new entries xs ys
+in_two : (old new : Shared) (entries : List (Exchange ClientReply)) (xs ys : List (List ℕ)) → Trace shared_machine old entries new
+    → map body_of entries ≡ xs ++ ys → RunsInTwo old new entries xs ys
 in_two old new entries [] ys run is = record { front = []; back = entries; mid = old; parts = refl; first = refl; second = is; run = refl; rest = run }
 in_two old new [] (x ∷ xs) ys run is = absurd cc
 in_two old new (asked ∷ entries) (x ∷ xs) ys run is =
@@ -130,7 +133,8 @@ record RunOf (before after : Shared) (bodies : List (List ℕ)) (told : List Cli
   asked : bodies ≡ map body_of entries
   answered : told ≡ map reply_of entries
 
-module _ (one_request : OneRequest) (is_stub : (body : List ℕ) → is_replacement body ≡ true → IsStub body) (asks_nothing : (body : List ℕ) (q : Request) → IsStub body → Asks body q → ⊥) where
+module _ (one_request : OneRequest) (is_stub : (body : List ℕ) → is_replacement body ≡ true → IsStub body)
+    (asks_nothing : (body : List ℕ) (q : Request) → IsStub body → Asks body q → ⊥) where
   -- ---- the end of a client to which all locks belong
   record EndsAlone (client : ℕ) (old new : Shared) : Type 0 where
     unlocked : IsUnlocked old.state new.state
@@ -139,7 +143,8 @@ module _ (one_request : OneRequest) (is_stub : (body : List ℕ) → is_replacem
 
   end_alone : (client : ℕ) (end : End) (old new : Shared) → HasLedger old → OwnsAll client old → new ≡ behind_end client old → EndsAlone client old new
   end_alone client end old new has own is =
-      let there : HasLedger new = clients_keep one_request is_stub asks_nothing client (Ends end) (Leaves client end) old new has (record { told_is = refl; behind = is }) in
+      let there : HasLedger new = clients_keep one_request is_stub asks_nothing client (Ends end) (Leaves client end) old new has
+      (record { told_is = refl; behind = is }) in
       let none : new.locks ≡ [] = ap (λ (s : Shared). s.locks) is ∙ own in
       let keeps = subst (λ (s : Shared). (s.state.bank ≡ old.state.bank) × HoldsSame old.state s.state) (sym is) (end_keeps client old) in
       record {
@@ -155,7 +160,8 @@ module _ (one_request : OneRequest) (is_stub : (body : List ℕ) → is_replacem
   -- ---- in memory
   module _ {D : Type 0} {g : Ghosts D} where
     in_memory : OneClientInMemory g
-    in_memory client disk old new [] [] None [] is has own asks run = record { replies = []; mid = old.host; run = refl; are = none_first; behind = ap (λ (e : ServerState D g). e.host) run }
+    in_memory client disk old new [] [] None [] is has own asks
+        run = record { replies = []; mid = old.host; run = refl; are = none_first; behind = ap (λ (e : ServerState D g). e.host) run }
     in_memory client disk old new [] [] None (told ∷ tolds) is has own asks run = absurd run
     in_memory client disk old new [] [] (Some end) tolds is has own asks run = absurd asks
     in_memory client disk old new [] (body ∷ bodies) left tolds is has own asks run = absurd asks
@@ -167,7 +173,8 @@ module _ (one_request : OneRequest) (is_stub : (body : List ℕ) → is_replacem
     in_memory client disk old new (Of other (Body sent) ∷ rest) (body ∷ bodies) left [] is has own asks run = absurd run
     in_memory client disk old new (Flush ∷ rest) bodies left (told ∷ tolds) is has own asks run =
         let one = subst (λ (s : Storage D g). AsksIn s old.host old.desk Flush told run.0.storage run.0.host run.0.desk) is run.1 in
-        let more = in_memory client disk run.0 new rest bodies left tolds one.0 (subst (λ (s : Shared). HasLedger s) (sym one.1.1) has) (subst (λ (s : Shared). OwnsAll client s) (sym one.1.1) own) asks run.2 in
+        let more = in_memory client disk run.0 new rest bodies left tolds one.0 (subst (λ (s : Shared). HasLedger s) (sym one.1.1) has)
+        (subst (λ (s : Shared). OwnsAll client s) (sym one.1.1) own) asks run.2 in
         record {
           replies = more.replies;
           mid = more.mid;
@@ -187,7 +194,8 @@ module _ (one_request : OneRequest) (is_stub : (body : List ℕ) → is_replacem
           mid = old.host;
           run = refl;
           are = one_first told tolds
-              ∙ ap (λ (l : List (ℕ × List ℕ)). l ++ all_told tolds) (one.1.1 ∙ ap frames_of (one.1.2.told_is ∙ ap (λ (c : ℕ). Leaves c why) asks.0 ∙ ap (λ (w : End). Leaves client w) asks.1))
+              ∙ ap (λ (l : List (ℕ × List ℕ)). l ++ all_told tolds)
+              (one.1.1 ∙ ap frames_of (one.1.2.told_is ∙ ap (λ (c : ℕ). Leaves c why) asks.0 ∙ ap (λ (w : End). Leaves client w) asks.1))
               ∙ ap (λ (l : List (ℕ × List ℕ)). frames_of (Leaves client end) ++ l) (more.are ∙ ap (λ (l : List ReplyValue). frames_to client l ++ []) none.0)
               ∙ append-nil (frames_of (Leaves client end));
           behind = subst (λ (s : State). IsUnlocked old.host s) (sym (more.behind ∙ none.1)) due.unlocked;
@@ -197,15 +205,18 @@ module _ (one_request : OneRequest) (is_stub : (body : List ℕ) → is_replacem
         let before = shared old.host old.desk.owners in
         let mid = shared run.0.host run.0.desk.owners in
         let answers = one.1.2 in
-        let turn = subst (λ (b : List ℕ). TurnsFor client b answers.reply before mid) asks.1 (subst (λ (c : ℕ). TurnsFor c sent answers.reply before mid) asks.0 answers.turn) in
+        let turn = subst (λ (b : List ℕ). TurnsFor client b answers.reply before mid) asks.1
+        (subst (λ (c : ℕ). TurnsFor c sent answers.reply before mid) asks.0 answers.turn) in
         let due = turn_of_one one_request is_stub asks_nothing client before mid body answers.reply has own turn in
-        let more = in_memory client disk run.0 new rest bodies left tolds one.0 (for_keeps one_request is_stub asks_nothing client body answers.reply before mid has turn) due.1 asks.2 run.2 in
+        let more = in_memory client disk run.0 new rest bodies left tolds one.0
+        (for_keeps one_request is_stub asks_nothing client body answers.reply before mid has turn) due.1 asks.2 run.2 in
         record {
           replies = answers.reply ∷ more.replies;
           mid = more.mid;
           run = (run.0.host, due.0, more.run);
           are = one_first told tolds
-              ∙ ap (λ (l : List (ℕ × List ℕ)). l ++ all_told tolds) (one.1.1 ∙ ap frames_of answers.told_is ∙ ap (λ (c : ℕ). (c, reply_record answers.reply) ∷ []) asks.0)
+              ∙ ap (λ (l : List (ℕ × List ℕ)). l ++ all_told tolds)
+              (one.1.1 ∙ ap frames_of answers.told_is ∙ ap (λ (c : ℕ). (c, reply_record answers.reply) ∷ []) asks.0)
               ∙ ap (λ (l : List (ℕ × List ℕ)). (client, reply_record answers.reply) ∷ l) more.are;
           behind = more.behind;
         }
@@ -234,7 +245,8 @@ module _ (one_request : OneRequest) (is_stub : (body : List ℕ) → is_replacem
       }
 
   -- all locks are still its own
-  run_owns : (client : ℕ) (old new : Shared) (entries : List (Exchange ClientReply)) (bodies : List (List ℕ)) → HasLedger old → OwnsAll client old → Trace shared_machine old entries new
+  run_owns : (client : ℕ) (old new : Shared) (entries : List (Exchange ClientReply)) (bodies : List (List ℕ)) → HasLedger old → OwnsAll client old
+      → Trace shared_machine old entries new
       → map body_of entries ≡ map (λ (body : List ℕ). tagged_body client (Body body)) bodies → OwnsAll client new
   run_owns client old new [] bodies has own run is = subst (λ (s : Shared). OwnsAll client s) run own
   run_owns client old new (asked ∷ entries) [] has own run is = absurd cc
@@ -243,14 +255,16 @@ module _ (one_request : OneRequest) (is_stub : (body : List ℕ) → is_replacem
       let others : map body_of entries ≡ map (λ (b : List ℕ). tagged_body client (Body b)) bodies = cc in
       let told = body_told one_request is_stub asks_nothing client body asked old run.0 same run.1 in
       let turn = body_of_one one_request is_stub asks_nothing client body told.0 asked old run.0 same told.1 run.1 in
-      run_owns client run.0 new entries bodies (for_keeps one_request is_stub asks_nothing client body told.0 old run.0 has turn) (turn_of_one one_request is_stub asks_nothing client old run.0 body told.0 has own turn).1 run.2 others
+      run_owns client run.0 new entries bodies (for_keeps one_request is_stub asks_nothing client body told.0 old run.0 has turn)
+      (turn_of_one one_request is_stub asks_nothing client old run.0 body told.0 has own turn).1 run.2 others
 
   -- and then it ends, if it does
   record ToldEnd (client : ℕ) (left : Option End) (old new : Shared) (entries : List (Exchange ClientReply)) : Type 0 where
     are : map reply_of entries ≡ end_replies client left
     behind : IsBehindEnd left old.state new.state
 
-  told_end : (client : ℕ) (left : Option End) (old new : Shared) (entries : List (Exchange ClientReply)) → HasLedger old → OwnsAll client old → Trace shared_machine old entries new
+  told_end : (client : ℕ) (left : Option End) (old new : Shared) (entries : List (Exchange ClientReply)) → HasLedger old → OwnsAll client old
+      → Trace shared_machine old entries new
       → map body_of entries ≡ end_bodies client left → ToldEnd client left old new entries
   told_end client None old new [] has own run is = record { are = refl; behind = ap (λ (s : Shared). s.state) (sym run) }
   told_end client None old new (asked ∷ entries) has own run is = absurd cc
@@ -265,21 +279,27 @@ module _ (one_request : OneRequest) (is_stub : (body : List ℕ) → is_replacem
       }
 
   module _ {D : Type 0} {g : Ghosts D} where
-    stretch_run : (size : ℕ) (old new : Store D g) (before after : Shared) (bodies : List (List ℕ)) (told : List ClientReply) → new.stopped ≡ false → IsServed shared_machine size old new before after bodies told → RunOf before after bodies told
+    stretch_run : (size : ℕ) (old new : Store D g) (before after : Shared) (bodies : List (List ℕ)) (told : List ClientReply) → new.stopped ≡ false
+        → IsServed shared_machine size old new before after bodies told → RunOf before after bodies told
     stretch_run size old new before after bodies told going is =
         let well = is.well going in
-        let groups_alone : is.groups ++ is.faulted ≡ is.groups = ap (λ (l : List (List (Exchange ClientReply))). is.groups ++ l) well.0 ∙ append-nil is.groups in
+        let groups_alone : is.groups ++ is.faulted ≡ is.groups = ap (λ (l : List (List (Exchange ClientReply))). is.groups ++ l) well.0
+        ∙ append-nil is.groups in
         record {
           entries = concat_groups is.groups;
           run = subst (λ (l : List (List (Exchange ClientReply))). Trace shared_machine before (concat_groups l) after) groups_alone is.served.run;
-          asked = is.served.bodies_are ∙ ap (λ (l : List (List ℕ)). map body_of (concat_groups (is.groups ++ is.faulted)) ++ l) well.1 ∙ append-nil (map body_of (concat_groups (is.groups ++ is.faulted)))
+          asked = is.served.bodies_are ∙ ap (λ (l : List (List ℕ)). map body_of (concat_groups (is.groups ++ is.faulted)) ++ l) well.1
+              ∙ append-nil (map body_of (concat_groups (is.groups ++ is.faulted)))
               ∙ ap (λ (l : List (List (Exchange ClientReply))). map body_of (concat_groups l)) groups_alone;
           answered = is.served.replies_are
-              ∙ ap (λ (l : List (List (Exchange ClientReply))). map reply_of (concat_groups is.groups) ++ (map (λ (asked : Exchange ClientReply). shared_machine.faulted asked.body) (concat_groups l) ++ map shared_machine.failed is.others)) well.0
-              ∙ ap (λ (l : List (List ℕ)). map reply_of (concat_groups is.groups) ++ map shared_machine.failed l) well.1 ∙ append-nil (map reply_of (concat_groups is.groups));
+              ∙ ap (λ (l : List (List (Exchange ClientReply))). map reply_of (concat_groups is.groups)
+              ++ (map (λ (asked : Exchange ClientReply). shared_machine.faulted asked.body) (concat_groups l) ++ map shared_machine.failed is.others)) well.0
+              ∙ ap (λ (l : List (List ℕ)). map reply_of (concat_groups is.groups) ++ map shared_machine.failed l) well.1
+              ∙ append-nil (map reply_of (concat_groups is.groups));
         }
 
-    stretches_run : (size : ℕ) (old new : Store D g) (before after : Shared) (stretches : List Stretch) → new.stopped ≡ false → ServesStretches size old new before stretches after
+    stretches_run : (size : ℕ) (old new : Store D g) (before after : Shared) (stretches : List Stretch) → new.stopped ≡ false
+        → ServesStretches size old new before stretches after
         → RunOf before after (all_bodies (map bodies_of stretches)) (told_in stretches)
     stretches_run size old new before after [] going is = record { entries = []; run = sym is.1; asked = refl; answered = told_nothing }
     stretches_run size old new before after (stretch ∷ stretches) going is =
@@ -290,26 +310,33 @@ module _ (one_request : OneRequest) (is_stub : (body : List ℕ) → is_replacem
         record {
           entries = one.entries ++ rest.entries;
           run = run_append shared_machine before one.entries is.1 rest.entries after one.run rest.run;
-          asked = ap (λ (l : List (List ℕ)). l ++ all_bodies (map bodies_of stretches)) one.asked ∙ ap (λ (l : List (List ℕ)). map body_of one.entries ++ l) rest.asked ∙ sym (map-append body_of one.entries rest.entries);
-          answered = told_first stretch stretches ∙ ap (λ (l : List ClientReply). l ++ told_in stretches) one.answered ∙ ap (λ (l : List ClientReply). map reply_of one.entries ++ l) rest.answered
+          asked = ap (λ (l : List (List ℕ)). l ++ all_bodies (map bodies_of stretches)) one.asked
+              ∙ ap (λ (l : List (List ℕ)). map body_of one.entries ++ l) rest.asked ∙ sym (map-append body_of one.entries rest.entries);
+          answered = told_first stretch stretches ∙ ap (λ (l : List ClientReply). l ++ told_in stretches) one.answered
+              ∙ ap (λ (l : List ClientReply). map reply_of one.entries ++ l) rest.answered
               ∙ sym (map-append reply_of one.entries rest.entries);
         }
 
     pub one_over_store : OneClientOverStore g
     one_over_store client size old new before after asks bodies left frames going has own are answers =
         let all = stretches_run size old new before after answers.stretches going answers.serves in
-        let bodies_are : map body_of all.entries ≡ map (λ (body : List ℕ). tagged_body client (Body body)) bodies ++ end_bodies client left = sym all.asked ∙ ap all_bodies (sym answers.are) ∙ bodies_cut client [] asks bodies left are in
-        let two = in_two before after all.entries (map (λ (body : List ℕ). tagged_body client (Body body)) bodies) (end_bodies client left) all.run bodies_are in
+        let bodies_are : map body_of all.entries ≡ map (λ (body : List ℕ). tagged_body client (Body body)) bodies ++ end_bodies client left = sym all.asked
+        ∙ ap all_bodies (sym answers.are) ∙ bodies_cut client [] asks bodies left are in
+        let two = in_two before after all.entries (map (λ (body : List ℕ). tagged_body client (Body body)) bodies)
+        (end_bodies client left) all.run bodies_are in
         let told = told_all client before two.mid two.front bodies two.run two.first in
         let there = runs_keep one_request is_stub asks_nothing before two.mid two.front has two.run in
-        let ended = told_end client left two.mid after two.back there (run_owns client before two.mid two.front bodies has own two.run two.first) two.rest two.second in
+        let ended = told_end client left two.mid after two.back there (run_owns client before two.mid two.front bodies has own two.run two.first) two.rest
+        two.second in
         let replies_are : map reply_of all.entries ≡ map (λ (reply : ReplyValue). Replies client reply) told.replies ++ end_replies client left =
         ap (λ (l : List (Exchange ClientReply)). map reply_of l) two.parts ∙ map-append reply_of two.front two.back
-        ∙ ap (λ (l : List ClientReply). l ++ map reply_of two.back) told.are ∙ ap (λ (l : List ClientReply). map (λ (reply : ReplyValue). Replies client reply) told.replies ++ l) ended.are in
+        ∙ ap (λ (l : List ClientReply). l ++ map reply_of two.back) told.are
+        ∙ ap (λ (l : List ClientReply). map (λ (reply : ReplyValue). Replies client reply) told.replies ++ l) ended.are in
         record {
           replies = told.replies;
           mid = two.mid.state;
           run = run_of_one one_request is_stub asks_nothing client before two.mid two.front bodies told.replies has own two.run two.first told.are;
-          are = answers.told ∙ ap all_frames (all.answered ∙ replies_are) ∙ frames_two client told.replies (end_replies client left) ∙ ap (λ (l : List (ℕ × List ℕ)). frames_to client told.replies ++ l) (end_frames_are client left);
+          are = answers.told ∙ ap all_frames (all.answered ∙ replies_are) ∙ frames_two client told.replies (end_replies client left)
+              ∙ ap (λ (l : List (ℕ × List ℕ)). frames_to client told.replies ++ l) (end_frames_are client left);
           behind = ended.behind;
         }

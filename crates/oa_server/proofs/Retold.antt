@@ -7,8 +7,10 @@ use Rattle.oa_stream.specs.promise.Source.{Input}
 use Rattle.oa_stream.specs.promise.Sink.{Output}
 
 module _ {S S' : Type 0} (turn : TurnOf S) (turn' : TurnOf S') (ends : EndOf S) (ends' : EndOf S') where
-  abbrev pub session_as : (f : Frames) (barrier : List ℕ → Bool) (last : List ℕ) (input input' : Input) (out out' : Output) (old new : S) (old' mid' new' : S') (served : Served)
-      → (is : Session f barrier turn ends last input input' out out' old new served) → BodiesTurned turn' old' is.bodies is.handed mid' → ends' mid' is.held new'
+  abbrev pub session_as : (f : Frames) (barrier : List ℕ → Bool) (last : List ℕ) (input input' : Input) (out out' : Output) (old new : S) (old' mid' new' : S')
+      (served : Served)
+      → (is : Session f barrier turn ends last input input' out out' old new served) → BodiesTurned turn' old' is.bodies is.handed mid'
+      → ends' mid' is.held new'
       → Session f barrier turn' ends' last input input' out out' old' new' served
   session_as f barrier last input input' out out' old new old' mid' new' served is run ended = record {
     bodies = is.bodies;

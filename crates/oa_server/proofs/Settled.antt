@@ -36,7 +36,8 @@ module _ {D : Type 0} {g : Ghosts D} (old new : Store D g) (state : State) (pend
   }
 
   -- it is taken back
-  pub taken_back : (told : List ReplyValue) → told ≡ map aborted_reply pending → new.stopped ≡ true → IsGroupCommitted server_machine told (grouping old state pending events) (grouping new state [] events')
+  pub taken_back : (told : List ReplyValue) → told ≡ map aborted_reply pending → new.stopped ≡ true
+      → IsGroupCommitted server_machine told (grouping old state pending events) (grouping new state [] events')
   taken_back told back stopped = record {
     state = refl;
     well = λ goes_on. absurd (true≢false (sym stopped ∙ goes_on));
@@ -58,13 +59,16 @@ ready_none store size places some place = record {
   late = λ stopped. refl;
 }
 
-pub ready_at : {D : Type 0} {g : Ghosts D} (store : Store D g) (size places : ℕ) (pending : List ReplyValue) (events : List ℕ) → 1 ≤ size → size ≤ places → pending ≡ [] → events ≡ [] → IsReady store size places pending events
+pub ready_at : {D : Type 0} {g : Ghosts D} (store : Store D g) (size places : ℕ) (pending : List ReplyValue) (events : List ℕ) → 1 ≤ size → size ≤ places
+    → pending ≡ [] → events ≡ [] → IsReady store size places pending events
 ready_at store size places pending events some place none empty = rw (none, empty) (ready_none store size places some place)
 
 -- a request is held
-pub held_one : {D : Type 0} {g : Ghosts D} (old new : Store D g) (body : List ℕ) (reply : ReplyValue) (before after : State) (pending pending' : List ReplyValue) (events events' : List ℕ)
+pub held_one : {D : Type 0} {g : Ghosts D} (old new : Store D g) (body : List ℕ) (reply : ReplyValue) (before after : State)
+    (pending pending' : List ReplyValue) (events events' : List ℕ)
     (turn : IsHeldBack body reply events events' before after) → pending' ≡ pending ++ reply ∷ [] → new.stopped ≡ false
-    → PreservesCommitted events (held_of before) old new → CallsWhereDue old new before events body → DeviceFrame old new → is_replacement body ≡ false → IsBuffered server_machine (exchange body reply turn.event) (grouping old before pending events) (grouping new after pending' events')
+    → PreservesCommitted events (held_of before) old new → CallsWhereDue old new before events body → DeviceFrame old new → is_replacement body ≡ false
+    → IsBuffered server_machine (exchange body reply turn.event) (grouping old before pending events) (grouping new after pending' events')
 held_one old new body reply before after pending pending' events events' turn more going carries calls says plain = record {
   turn = turn.asked;
   plain = plain;

@@ -1,5 +1,6 @@
 -- A turn over a store.
-use Rattle.std.proofs.Common.{rules, ◌≡◌, ◌⊎◌, inl, inr, Bool, true, false, true≢false, ℕ, ◌-◌, ◌<◌, ◌≤◌, ◌++◌, List, [], length, None, Result, Ok, Err, IsOk, refl}
+use Rattle.std.proofs.Common.{rules, ◌≡◌, ◌⊎◌, inl, inr, Bool, true, false, true≢false, ℕ, ◌-◌, ◌<◌, ◌≤◌, ◌++◌, List, [], length, None, Result, Ok, Err, IsOk}
+use Rattle.std.proofs.Common.{refl}
 use Rattle.std.proofs.Common.{sym, ap, ◌∙◌, subst, arith}
 use Rattle.std.specs.Prelude.{nat_lt}
 use Rattle.std.proofs.lemmas.Bool.{ltb-false}
@@ -49,10 +50,12 @@ carried batch old new same is = record {
 
 -- no events
 no_events : (before after : TableValue) → after ≡ before → Replays [] before after
-no_events before after same = subst (λ (t : TableValue). Replays [] before t) (sym same) (record { events = []; are = record { are = tt; whole = refl }; makes = refl })
+no_events before after same = subst (λ (t : TableValue). Replays [] before t) (sym same)
+    (record { events = []; are = record { are = tt; whole = refl }; makes = refl })
 
 -- a turn that changes nothing that images hold
-pub answered : (body : List ℕ) (reply : ReplyValue) (events : List ℕ) (old new : State) → is_replacement body ≡ false → Ordinary old body reply new → HoldsSame old new → HasEvent old body reply [] → IsHeldBack body reply events events old new
+pub answered : (body : List ℕ) (reply : ReplyValue) (events : List ℕ) (old new : State) → is_replacement body ≡ false → Ordinary old body reply new
+    → HoldsSame old new → HasEvent old body reply [] → IsHeldBack body reply events events old new
 answered body reply events old new plain turn same none = record {
   event = [];
   asked = record { turn = inl (record { kind = plain; turn = turn }); made = none; replays = no_events (held_of old) (held_of new) same.table };
@@ -60,9 +63,11 @@ answered body reply events old new plain turn same none = record {
   small = omega arith;
 }
 
-module _ (one_request : (body : List ℕ) (p q : Request) → Asks body p → Asks body q → p ≡ q) (old : State) (body : List ℕ) (planned : Planned) (plain : is_replacement body ≡ false) (is : IsPlanned old body planned) where
+module _ (one_request : (body : List ℕ) (p q : Request) → Asks body p → Asks body q → p ≡ q) (old : State) (body : List ℕ) (planned : Planned)
+    (plain : is_replacement body ≡ false) (is : IsPlanned old body planned) where
   -- a change that is made
-  pub held : (new : State) (reply : ReplyValue) (events events' : List ℕ) → applied planned.event old.table ≡ Ok new.table → new ≡ record old { table = new.table }
+  pub held : (new : State) (reply : ReplyValue) (events events' : List ℕ) → applied planned.event old.table ≡ Ok new.table
+      → new ≡ record old { table = new.table }
       → reply ≡ record { tag = planned.tag; code = s_ok; index = None; body = planned.fields }
       → Replays (event_image planned.event) (held_of old) (held_of new) → length (event_image planned.event) ≤ max_event_bytes
       → events' ≡ events ++ event_image planned.event → IsHeldBack body reply events events' old new
@@ -70,8 +75,14 @@ module _ (one_request : (body : List ℕ) (p q : Request) → Asks body p → As
       record {
         event = event_image planned.event;
         asked = record {
-          turn = inl (record { kind = plain; turn = done old body planned is.drafted new reply (is_allowed old.bank planned.event old.table new.table is.allows at).is leaves told });
-          made = has_event old body one_request is.drafted.request is.drafted.asked planned new.table reply is.drafted.decided_is (is_allowed old.bank planned.event old.table new.table is.allows at).is (rw told refl);
+          turn =
+              inl (record {
+                kind = plain;
+                turn = done old body planned is.drafted new reply
+                    (is_allowed old.bank planned.event old.table new.table is.allows at).is leaves told;
+              });
+          made = has_event old body one_request is.drafted.request is.drafted.asked planned new.table reply is.drafted.decided_is
+              (is_allowed old.bank planned.event old.table new.table is.allows at).is (rw told refl);
           replays = replays;
         };
         added = added;
@@ -79,10 +90,15 @@ module _ (one_request : (body : List ℕ) (p q : Request) → Asks body p → As
       }
 
   -- memory was refused
-  pub starved : (new : State) (reply : ReplyValue) (events events' : List ℕ) → new ≡ old → events' ≡ events → reply ≡ refusal planned.tag e_outofmemory None → IsHeldBack body reply events events' old new
+  pub starved : (new : State) (reply : ReplyValue) (events events' : List ℕ) → new ≡ old → events' ≡ events → reply ≡ refusal planned.tag e_outofmemory None
+      → IsHeldBack body reply events events' old new
   starved new reply events events' same none told = record {
     event = [];
-    asked = record { turn = inl (record { kind = plain; turn = refused old body planned is.drafted new reply e_outofmemory (inr (refl, is.allows)) told same }); made = undone old body reply (rw told refl); replays = no_events (held_of old) (held_of new) (ap held_of same) };
+    asked = record {
+      turn = inl (record { kind = plain; turn = refused old body planned is.drafted new reply e_outofmemory (inr (refl, is.allows)) told same });
+      made = undone old body reply (rw told refl);
+      replays = no_events (held_of old) (held_of new) (ap held_of same);
+    };
     added = none ∙ sym (append-nil events);
     small = omega arith;
   }
@@ -91,7 +107,15 @@ module _ (one_request : (body : List ℕ) (p q : Request) → Asks body p → As
   pub has_turn : (new : State) → new ≡ old → HasTurn body old new
   has_turn new same = record {
     reply = refusal planned.tag e_outofmemory None;
-    asked = record { turn = inl (record { kind = plain; turn = refused old body planned is.drafted new (refusal planned.tag e_outofmemory None) e_outofmemory (inr (refl, is.allows)) refl same }); made = undone old body (refusal planned.tag e_outofmemory None) refl; replays = no_events (held_of old) (held_of new) (ap held_of same) };
+    asked = record {
+      turn = inl (record {
+        kind = plain;
+        turn = refused old body planned is.drafted new (refusal planned.tag e_outofmemory None) e_outofmemory
+            (inr (refl, is.allows)) refl same;
+      });
+      made = undone old body (refusal planned.tag e_outofmemory None) refl;
+      replays = no_events (held_of old) (held_of new) (ap held_of same);
+    };
     same = ap held_of same;
   }
 
@@ -118,11 +142,13 @@ module _ (one_request : (body : List ℕ) (p q : Request) → Asks body p → As
       by (Err fault) at = absurd (true≢false (sym (subst (λ (r : Result TableValue TableFault). IsOk (limited old.bank planned.event r)) at is.allows)))
 
   -- and the device is called where that is due
-  pub called_where_due : {D : Type 0} {g : Ghosts D} (store new : Store D g) (events : List ℕ) → an_event.Is planned.event → (0 < length events → new.disk ≡ store.disk)
+  pub called_where_due : {D : Type 0} {g : Ghosts D} (store new : Store D g) (events : List ℕ) → an_event.Is planned.event
+      → (0 < length events → new.disk ≡ store.disk)
       → (ample_bytes ≤ (body_bytes store.bank.shape - store.bank.gate) → new.disk ≡ store.disk) → CallsWhereDue store new old events body
   called_where_due store new events is_event quiet undue = by (none_or_some events) (nat_lt (body_bytes store.bank.shape - store.bank.gate) ample_bytes) refl
     where
-      by : (length events ≡ 0) ⊎ (0 < length events) → (b : Bool) → nat_lt (body_bytes store.bank.shape - store.bank.gate) ample_bytes ≡ b → CallsWhereDue store new old events body
+      by : (length events ≡ 0) ⊎ (0 < length events) → (b : Bool) → nat_lt (body_bytes store.bank.shape - store.bank.gate) ample_bytes ≡ b
+          → CallsWhereDue store new old events body
       by (inr some) b is_b = inl (quiet some)
       by (inl none) false is_b = inl (undue (ltb-false (body_bytes store.bank.shape - store.bank.gate) ample_bytes is_b))
       by (inl none) true is_b = inr (record { first = none; short = search (is_b, rules); makes = makes_event is_event })

@@ -31,7 +31,8 @@ before_next old more front end place begun at longer long is = ⊎_elim
     begun
 
 -- an event is written over the free byte, and one byte is free behind it
-pub added : (old more longer written event : List ℕ) (begun end size : ℕ) → (length old ≡ 0) ⊎ (5 ≤ length old) → begun ≡ max (length old) 5 → end ≡ begun + length event → size ≡ end
+pub added : (old more longer written event : List ℕ) (begun end size : ℕ) → (length old ≡ 0) ⊎ (5 ≤ length old) → begun ≡ max (length old) 5
+    → end ≡ begun + length event → size ≡ end
     → length longer ≡ end → longer ≡ take end old ++ more → written ≡ take (begun - 1) longer ++ (event ++ drop (begun - 1 + length event) longer)
     → group_of (take size (written ++ drop (length written) longer)) ≡ group_of old ++ event
 added old more longer written event begun end size was first last all long is put =
@@ -43,11 +44,13 @@ added old more longer written event begun end size was first last all long is pu
     let count : length written ≡ end = omega (arith, ap length put, length-append front (event ++ tail), length-append event tail, fore, one, last, first) in
     let none : drop (length written) longer ≡ [] = drop_all (length written) longer (omega (arith, long, count)) in
     let whole : take size (written ++ drop (length written) longer) ≡ written =
-    ap (λ (l : List ℕ). take size (written ++ l)) none ∙ ap (λ (l : List ℕ). take size l) (append-nil written) ∙ take_all size written (omega (arith, count, all)) in
+    ap (λ (l : List ℕ). take size (written ++ l)) none ∙ ap (λ (l : List ℕ). take size l) (append-nil written)
+    ∙ take_all size written (omega (arith, count, all)) in
     ap group_of (whole ∙ put ∙ sym (append_assoc front event tail))
     ∙ group_before (front ++ event) tail (omega (arith, length-append front event, fore, first)) one
     ∙ drop-append-le 4 front event (omega (arith, fore, first))
-    ∙ ap (λ (l : List ℕ). l ++ event) (before_next old more front end place was (omega (arith, first)) (omega (arith, first, last)) fore (ap (λ (l : List ℕ). take place l) is))
+    ∙ ap (λ (l : List ℕ). l ++ event) (before_next old more front end place was (omega (arith, first)) (omega (arith, first, last)) fore
+    (ap (λ (l : List ℕ). take place l) is))
 
 -- only the free bytes
 pub no_events : (batch : List ℕ) → length batch ≤ 5 → length (group_of batch) ≡ 0

@@ -1,5 +1,6 @@
 -- What an opening finds.
-use Rattle.std.proofs.Common.{◌≡◌, ◌⊎◌, inl, inr, ⊎_elim, ◌∙◌, ℕ, zero, suc, ◌+◌, ◌*◌, ◌<◌, ◌≤◌, List, Bool, Option, Some, length, length-drop, take, drop, slice_index, refl, sym, ap, subst, arith}
+use Rattle.std.proofs.Common.{◌≡◌, ◌⊎◌, inl, inr, ⊎_elim, ◌∙◌, ℕ, zero, suc, ◌+◌, ◌*◌, ◌<◌, ◌≤◌, List, Bool, Option, Some, length, length-drop, take, drop}
+use Rattle.std.proofs.Common.{slice_index, refl, sym, ap, subst, arith}
 use Rattle.std.proofs.lemmas.List.{get_or-drop, get_or-take, length-take-le}
 use Rattle.oa_disk.specs.promise.Disk.{Only}
 use Rattle.oa_disk.specs.declared.disk.DeviceFault.{DeviceFault}
@@ -116,7 +117,8 @@ tells_late contents before after (banks.Device fault) read only = read_failed co
 tells_late contents before after banks.Memory read only = tt
 
 -- the library that is wanted is that of a bank of format 2 that begins with it
-pub wanted_in : (shape : BankFormat) (size : ℕ) → shape ≡ Two size → (head body : ℕ → ℕ) (library : List ℕ) → HasLibrary shape head body library → HasWanted (Some library) shape head body
+pub wanted_in : (shape : BankFormat) (size : ℕ) → shape ≡ Two size → (head body : ℕ → ℕ) (library : List ℕ) → HasLibrary shape head body library
+    → HasWanted (Some library) shape head body
 wanted_in shape size is head body library has =
     subst (λ (s : BankFormat). HasWanted (Some library) s head body) (sym is) (subst (λ (s : BankFormat). HasLibrary s head body library) is has)
 
@@ -190,13 +192,15 @@ pub its_shape : (shape other : BankFormat) (contents : List ℕ) (chosen gate l 
     → IsStoreAt shape chosen gate library table contents → shape ≡ other
 its_shape shape other contents chosen gate l s library table has is =
     let head = from_place (head_place chosen) contents in
-    (one_head head shape (length library) _ other l s (bank_header shape head (from_place (body_place shape chosen) contents) library table gate is.bank) has).shape_same
+    (one_head head shape (length library) _ other l s (bank_header shape head (from_place (body_place shape chosen) contents) library table gate is.bank)
+    has).shape_same
 
 -- what is refused is no store of the library that is wanted in format 2
 pub refused : (library : List ℕ) (size : ℕ) (contents : List ℕ) (e : OpenFault) → length contents ≡ size → SpeaksOfContents e
     → RefusalSays (Some library) size contents e
     → (table : TableValue) → IsNewStore contents library table → ⊥
-refused library size contents NotAStore long r says table is = ⊎_elim (λ lt. absurd (omega (arith, lt, long, is.1.2.head.size))) (λ none. none is.1.2.head.formatted) says
+refused library size contents NotAStore long r says table is = ⊎_elim (λ lt. absurd (omega (arith, lt, long, is.1.2.head.size)))
+    (λ none. none is.1.2.head.formatted) says
 refused library size contents OldFormat long r says table is =
     let store = its_bank (Two is.0) contents says.chosen is.1.0 is.1.1 library table says.head is.1.2 in
     let shape : Two is.0 ≡ One = its_shape (Two is.0) One contents says.chosen is.1.1 says.library says.snapshot library table says.has.has store in
@@ -212,7 +216,11 @@ refused library size contents LibraryDiffers long r says table is =
 refused library size contents (Damaged place) long r says table is = ⊎_elim
     (λ none.
     let store = its_bank (Two is.0) contents none.chosen is.1.0 is.1.1 library table none.head is.1.2 in
-    none.none (Two is.0) (length library) _ (record { room = store.room; has = bank_header (Two is.0) (from_place (head_place none.chosen) contents) (from_place (body_place (Two is.0) none.chosen) contents) library table is.1.1 store.bank }))
+    none.none (Two is.0) (length library) _ (record {
+      room = store.room;
+      has = bank_header (Two is.0) (from_place (head_place none.chosen) contents) (from_place (body_place (Two is.0) none.chosen) contents)
+          library table is.1.1 store.bank;
+    }))
     (λ rest.
     let store = its_bank (Two is.0) contents rest.chosen is.1.0 is.1.1 library table rest.head is.1.2 in
     let head = from_place (head_place rest.chosen) contents in

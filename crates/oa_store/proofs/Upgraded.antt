@@ -129,7 +129,8 @@ module _ (size chosen gate next : ℕ) (library : List ℕ) (table : TableValue)
   moved move shape text other store =
       let all = one_store_at found One chosen gate library table shape store.0 store.1 text other is store.2 in
       let step = subst (λ (t : TableValue). IsMove chosen size next library t d f) lockless move in
-      let left : IsStoreIn One f library table ⊎ IsStoreIn (Two size) f library table = ⊎_elim (λ old. inl (chosen, gate, old)) (λ new. inr (1 - chosen, next, new)) (step One gate library (inl refl) here) in
+      let left : IsStoreIn One f library table ⊎ IsStoreIn (Two size) f library table =
+      ⊎_elim (λ old. inl (chosen, gate, old)) (λ new. inr (1 - chosen, next, new)) (step One gate library (inl refl) here) in
       subst (λ (s : BankFormat). IsStoreIn s f text other ⊎ IsStoreIn (Two size) f text other) all.shape_same
       (subst (λ (t : TableValue). IsStoreIn One f text t ⊎ IsStoreIn (Two size) f text t) all.table_same
       (subst (λ (l : List ℕ). IsStoreIn One f l table ⊎ IsStoreIn (Two size) f l table) all.library_same left))

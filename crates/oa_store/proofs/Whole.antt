@@ -40,7 +40,11 @@ whole_is_not_refused library table size contents LibraryDiffers long is r says =
 whole_is_not_refused library table size contents (Damaged place) long is r says = ⊎_elim
     (λ none.
     let store = its_bank is.0 contents none.chosen is.1.0 is.1.1 library table none.head is.1.2 in
-    none.none is.0 (length library) _ (record { room = store.room; has = bank_header is.0 (from_place (head_place none.chosen) contents) (from_place (body_place is.0 none.chosen) contents) library table is.1.1 store.bank }))
+    none.none is.0 (length library) _ (record {
+      room = store.room;
+      has = bank_header is.0 (from_place (head_place none.chosen) contents) (from_place (body_place is.0 none.chosen) contents) library table
+          is.1.1 store.bank;
+    }))
     (λ rest.
     let store = its_bank is.0 contents rest.chosen is.1.0 is.1.1 library table rest.head is.1.2 in
     spoilt_is_none is.0 rest.shape contents rest.chosen is.1.1 rest.offset library table store rest.damaged)
@@ -57,7 +61,8 @@ brought_none bank size contents long was says =
 pub brought_new : (bank size : ℕ) (contents : List ℕ) → CanBeBrought bank contents → UpgradeSays bank size contents upgrades.AlreadyNew → ⊥
 brought_new bank size contents was says =
     let store = its_bank One contents says.chosen was.store.0 was.store.1 was.library was.table says.head was.store.2 in
-    let shape : One ≡ Two says.size = its_shape One (Two says.size) contents says.chosen was.store.1 says.library says.snapshot was.library was.table says.has.has store in
+    let shape : One ≡ Two says.size = its_shape One (Two says.size) contents says.chosen was.store.1 says.library says.snapshot was.library was.table
+    says.has.has store in
     absurd (cc shape)
 
 pub brought_damaged : (bank size place : ℕ) (contents : List ℕ) → CanBeBrought bank contents
@@ -72,7 +77,11 @@ brought_damaged bank size place contents was says = ⊎_elim
     (λ rest. ⊎_elim
     (λ none.
     let store = its_bank One contents none.chosen was.store.0 was.store.1 was.library was.table none.head was.store.2 in
-    none.none One (length was.library) _ (record { room = store.room; has = bank_header One (from_place (head_place none.chosen) contents) (from_place (body_place One none.chosen) contents) was.library was.table was.store.1 store.bank }))
+    none.none One (length was.library) _ (record {
+      room = store.room;
+      has = bank_header One (from_place (head_place none.chosen) contents) (from_place (body_place One none.chosen) contents) was.library
+          was.table was.store.1 store.bank;
+    }))
     (λ spoilt.
     let store = its_bank One contents spoilt.chosen was.store.0 was.store.1 was.library was.table spoilt.head was.store.2 in
     spoilt_is_none One spoilt.shape contents spoilt.chosen was.store.1 spoilt.offset was.library was.table store spoilt.damaged)

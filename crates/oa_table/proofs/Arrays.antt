@@ -15,14 +15,17 @@ use Rattle.oa_array.specs.promise.Within.{in_bounds}
 use Rattle.oa_table.specs.Outcomes.{Because}
 use Rattle.oa_array.proofs.Decided.{in_bounds_tells}
 
-module _ (a : ArrayValue Scalar) (index : List ℤ) (element : Scalar) (b : Bool) (tests : b ≡ fits_type element a.elem) (tells : IsTrue b ↔ FitsType element a.elem) where
-  pub element_is : InBounds a.bounds index → FitsType element a.elem → with_element_put index element (variants.Array a) ≡ Ok (variants.Array (with_cell a index element))
+module _ (a : ArrayValue Scalar) (index : List ℤ) (element : Scalar) (b : Bool) (tests : b ≡ fits_type element a.elem)
+    (tells : IsTrue b ↔ FitsType element a.elem) where
+  pub element_is : InBounds a.bounds index → FitsType element a.elem → with_element_put index element (variants.Array a) ≡ Ok
+      (variants.Array (with_cell a index element))
   element_is within fits =
       let one = (in_bounds_tells a.bounds index).1 within in
       let two = sym tests ∙ tells.1 fits in
       rw (one, two) refl
 
-  pub element_refused : (fault : ArrayFault) → RefusesPut FitsType a index element fault → Because (with_element_put index element (variants.Array a)) (Array fault)
+  pub element_refused : (fault : ArrayFault) → RefusesPut FitsType a index element fault → Because (with_element_put index element (variants.Array a))
+      (Array fault)
   element_refused arrays.BadIndex outside =
       let one = not_from_false (in_bounds_tells a.bounds index).0 in
       rw one refl

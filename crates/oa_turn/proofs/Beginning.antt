@@ -28,11 +28,13 @@ use Rattle.oa_turn.proofs.Allowed.{first_sound, relock_sound, stays_sound}
 use Rattle.oa_turn.proofs.Fitting.{EventKept, turn_fit}
 
 -- ---- the table stays sound
-with_sound : (bank : ℕ) (state : State) (r : Result TableValue TableFault) → IsSoundTable bank state.table → IfOk r (IsSoundTable bank) → IsSoundTable bank (with_table state r).table
+with_sound : (bank : ℕ) (state : State) (r : Result TableValue TableFault) → IsSoundTable bank state.table → IfOk r (IsSoundTable bank)
+    → IsSoundTable bank (with_table state r).table
 with_sound bank state (Ok table) was is = is
 with_sound bank state (Err fault) was is = was
 
-event_sound : (state : State) (event : Event) → IsOk (allowed state.bank event state.table) → IsSoundTable state.bank state.table → IfOk (applied event state.table) (IsSoundTable state.bank)
+event_sound : (state : State) (event : Event) → IsOk (allowed state.bank event state.table) → IsSoundTable state.bank state.table
+    → IfOk (applied event state.table) (IsSoundTable state.bank)
 event_sound state event ok was = by (applied event state.table) refl
   where
     by : (r : Result TableValue TableFault) → applied event state.table ≡ r → IfOk r (IsSoundTable state.bank)
@@ -46,12 +48,14 @@ locks_sound state change was = by (relocked change state.table) refl
     by (Ok new) at = relock_sound state.bank change state.table new at was
     by (Err fault) at = tt
 
-outcome_sound : (state : State) (due : Result Decision Refusal) → IsSoundTable state.bank state.table → IsSoundTable state.bank (after_outcome state (outcome_of state due)).table
+outcome_sound : (state : State) (due : Result Decision Refusal) → IsSoundTable state.bank state.table
+    → IsSoundTable state.bank (after_outcome state (outcome_of state due)).table
 outcome_sound state (Err r) was = was
 outcome_sound state (Ok (Answer code fields)) was = was
 outcome_sound state (Ok (Change event fields)) was = by (allowed state.bank event state.table) refl
   where
-    by : (r : Result TableValue HResult) → allowed state.bank event state.table ≡ r → IsSoundTable state.bank (after_outcome state (changed event fields r)).table
+    by : (r : Result TableValue HResult) → allowed state.bank event state.table ≡ r
+        → IsSoundTable state.bank (after_outcome state (changed event fields r)).table
     by (Ok table) at = with_sound state.bank state (applied event state.table) was (event_sound state event (subst IsOk (sym at) refl) was)
     by (Err code) at = was
 outcome_sound state (Ok (Relock change fields)) was = by (relocked change state.table)
@@ -60,8 +64,10 @@ outcome_sound state (Ok (Relock change fields)) was = by (relocked change state.
     by (Ok table) = with_sound state.bank state (relocked change state.table) was (locks_sound state change was)
     by (Err fault) = was
 
-ordinary_sound : (old new : State) (body : List ℕ) (reply : ReplyValue) → Ordinary old body reply new → IsSoundTable old.bank old.table → IsSoundTable old.bank new.table
-ordinary_sound old new body reply (inl s) was = subst (λ (x : State). IsSoundTable old.bank x.table) (sym s.leaves) (outcome_sound old (decided old s.request) was)
+ordinary_sound : (old new : State) (body : List ℕ) (reply : ReplyValue) → Ordinary old body reply new → IsSoundTable old.bank old.table
+    → IsSoundTable old.bank new.table
+ordinary_sound old new body reply (inl s) was = subst (λ (x : State). IsSoundTable old.bank x.table) (sym s.leaves)
+    (outcome_sound old (decided old s.request) was)
 ordinary_sound old new body reply (inr (inl s)) was = subst (λ (x : State). IsSoundTable old.bank x.table) (sym s.leaves) was
 ordinary_sound old new body reply (inr (inr (inl s))) was = subst (λ (x : State). IsSoundTable old.bank x.table) (sym s.leaves) was
 ordinary_sound old new body reply (inr (inr (inr s))) was = subst (λ (x : State). IsSoundTable old.bank x.table) (sym s.leaves) was
@@ -76,7 +82,8 @@ replacement_table old new body reply (inl s) = ap (λ (x : State). x.table) s.le
 replacement_table old new body reply (inr (inl s)) = ap (λ (x : State). x.table) s.leaves
 replacement_table old new body reply (inr (inr s)) = ap (λ (x : State). x.table) s.leaves
 
-turn_sound : (old new : State) (body : List ℕ) (reply : ReplyValue) → Turn old body reply new → IsSoundTable old.bank old.table → IsSoundTable old.bank new.table
+turn_sound : (old new : State) (body : List ℕ) (reply : ReplyValue) → Turn old body reply new → IsSoundTable old.bank old.table
+    → IsSoundTable old.bank new.table
 turn_sound old new body reply (inl s) was = ordinary_sound old new body reply s.turn was
 turn_sound old new body reply (inr s) was = subst (IsSoundTable old.bank) (sym (replacement_table old new body reply s.turn)) was
 
@@ -88,8 +95,11 @@ module _ (event_kept : EventKept) where
   pub turn_begins : (old new : State) (body : List ℕ) (reply : ReplyValue) → CanBegin old → Turn old body reply new → CanBegin new
   turn_begins old new body reply is turn =
       let fit = turn_fit event_kept old new body reply is.checked is.serves.fit turn in
-      let sound = subst (λ (n : ℕ). IsSoundTable n new.table) (sym (turn_bank old new body reply turn)) (turn_sound old new body reply turn (sound_of old is)) in
+      let sound = subst (λ (n : ℕ). IsSoundTable n new.table) (sym (turn_bank old new body reply turn))
+      (turn_sound old new body reply turn (sound_of old is)) in
       record { checked = fit.0; serves = record { fit = fit.1; small = sound.small }; numbered = sound.numbered }
 
-pub first_begins : (bank : ℕ) (library : TreeValue) → IsChecked library → least_bank ≤ bank → CanBegin (record { bank = bank; library = library; table = first_table })
-first_begins bank library is large = let sound = first_sound bank large in record { checked = is; serves = record { fit = refl; small = sound.small }; numbered = sound.numbered }
+pub first_begins : (bank : ℕ) (library : TreeValue) → IsChecked library → least_bank ≤ bank
+    → CanBegin (record { bank = bank; library = library; table = first_table })
+first_begins bank library is large = let sound = first_sound bank large in
+    record { checked = is; serves = record { fit = refl; small = sound.small }; numbered = sound.numbered }

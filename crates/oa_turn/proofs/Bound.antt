@@ -54,7 +54,8 @@ number_fits types.Bool z = tt
 number_fits types.Bstr z = tt
 number_fits t z = mapped t _ _ (λ x. refl)
 
-short_text : (t : VarType) (b : Bool) (cs : List ℕ) → FitsIn t (scalars.Bstr (Some (wide cs))) → IfSome (if b then Some (scalars.Bstr (Some (wide cs))) else None) (FitsIn t)
+short_text : (t : VarType) (b : Bool) (cs : List ℕ) → FitsIn t (scalars.Bstr (Some (wide cs)))
+    → IfSome (if b then Some (scalars.Bstr (Some (wide cs))) else None) (FitsIn t)
 short_text t true cs fit = fit
 short_text t false cs fit = tt
 
@@ -104,9 +105,14 @@ argument_fits : (t : VarType) (i : ℕ) (argument : Variant) → IfOk (value_by_
 argument_fits t i (One s) = told_fits (FitsIn t) i (coerced_scalar s t) (scalar_made t s)
 argument_fits t i (Array a) = tt
 
-given_fits : (t : VarType) (l : Option Literal) (o : Option (ℕ × Variant)) (p : Parameter) → p.value_type ≡ kinds.One t → IfOk (value_of_parameter p o) (λ s. fits_declared (One s) (kinds.One t) ≡ true)
-given_fits t l None p is = subst (λ (v : ValueType). fits_declared (One (unwrap_or (option_and_then (default_of v) p.default) (without_default (scalar_type v)))) (kinds.One t) ≡ true) (sym is) (either_fits t (option_and_then (default_of (kinds.One t)) p.default) (own_fits t p.default))
-given_fits t l (Some (i, argument)) p is = subst (λ (v : ValueType). IfOk (value_by_argument (scalar_type v) i argument) (λ s. fits_declared (One s) (kinds.One t) ≡ true)) (sym is) (argument_fits t i argument)
+given_fits : (t : VarType) (l : Option Literal) (o : Option (ℕ × Variant)) (p : Parameter) → p.value_type ≡ kinds.One t
+    → IfOk (value_of_parameter p o) (λ s. fits_declared (One s) (kinds.One t) ≡ true)
+given_fits t l None p is =
+    subst (λ (v : ValueType). fits_declared (One (unwrap_or (option_and_then (default_of v) p.default) (without_default (scalar_type v)))) (kinds.One t) ≡ true)
+    (sym is) (either_fits t (option_and_then (default_of (kinds.One t)) p.default) (own_fits t p.default))
+given_fits t l (Some (i, argument)) p is =
+    subst (λ (v : ValueType). IfOk (value_by_argument (scalar_type v) i argument) (λ s. fits_declared (One s) (kinds.One t) ≡ true)) (sym is)
+    (argument_fits t i argument)
 
 parameter_fits : (p : Parameter) (o : Option (ℕ × Variant)) → IsOne p.value_type → IfOk (value_of_parameter p o) (FitsParameter p)
 parameter_fits p o one = by p.value_type refl one
@@ -139,7 +145,8 @@ value_made declared argument = by (coerced argument declared) refl
 new_made : (declared : ValueType) (index : Option ℕ) (argument : Option Variant) → IfOk (new_value_of declared index argument) (FitsValue declared)
 new_made declared None argument = tt
 new_made declared (Some i) None = tt
-new_made declared (Some i) (Some argument) = by (told_of_argument i (coerced argument declared)) (told_fits _ i (coerced argument declared) (value_made declared argument))
+new_made declared (Some i) (Some argument) = by (told_of_argument i (coerced argument declared))
+    (told_fits _ i (coerced argument declared) (value_made declared argument))
   where
     by : (r : Result Variant BindFault) → IfOk r (λ v. fits_declared v declared ≡ true) → IfOk (r >>= λ value. Ok (Some value)) (FitsValue declared)
     by (Ok v) h = h

@@ -32,7 +32,8 @@ is_cell_by one two o e = cell_laws.symm two one ∙ sym (is_equal one two) ∙ a
 
 -- ---- one more
 module _ {X : Type 0} (cmp : X → X → Ordering) where
-  pub more_at : (new x : X) (xs : List X) (o : Ordering) → cmp new x ≡ o → with_more cmp new (x ∷ xs) ≡ match_ordering o (new ∷ x ∷ xs) (x ∷ x ∷ xs) (x ∷ with_more cmp new xs)
+  pub more_at : (new x : X) (xs : List X) (o : Ordering) → cmp new x ≡ o → with_more cmp new (x ∷ xs) ≡ match_ordering o (new ∷ x ∷ xs) (x ∷ x ∷ xs)
+      (x ∷ with_more cmp new xs)
   more_at new x xs o e = ap (λ (r : Ordering). match_ordering r (new ∷ x ∷ xs) (x ∷ x ∷ xs) (x ∷ with_more cmp new xs)) e
 
 -- ---- one fewer
@@ -47,6 +48,7 @@ module _ {X : Type 0} (test : X → Bool) where
   none_fewer [] none = refl
   none_fewer (x ∷ xs) none = by (test x) none (none_fewer xs)
     where
-      by : (b : Bool) → (b || list_any test xs) ≡ false → (list_any test xs ≡ false → without_first test xs ≡ xs) → (if b then xs else x ∷ without_first test xs) ≡ x ∷ xs
+      by : (b : Bool) → (b || list_any test xs) ≡ false → (list_any test xs ≡ false → without_first test xs ≡ xs)
+          → (if b then xs else x ∷ without_first test xs) ≡ x ∷ xs
       by true is rest = absurd cc
       by false is rest = ap (λ (l : List X). x ∷ l) (rest is)

@@ -36,7 +36,8 @@ module _ {K X : Type 0} {R : K → K → Ordering} (total : IsTotalOrder R) wher
 
   pub same_found : (one two : K) (es : List (K × X)) → is_eq (R one two) ≡ true → lookup (is_at (R one)) es ≡ lookup (is_at (R two)) es
   same_found one two [] same = refl
-  same_found one two (e ∷ es) same = ap (λ (b : Bool). cond b (Some e.1) (lookup (is_at (R one)) es)) (alike total one two e.0 same) ∙ ap (λ (o : Option X). cond (is_eq (R two e.0)) (Some e.1) o) (same_found one two es same)
+  same_found one two (e ∷ es) same = ap (λ (b : Bool). cond b (Some e.1) (lookup (is_at (R one)) es)) (alike total one two e.0 same)
+      ∙ ap (λ (o : Option X). cond (is_eq (R two e.0)) (Some e.1) o) (same_found one two es same)
 
   -- where a value is set
   pub found_set : (set key : K) (es : List (K × X)) (old new : X) → lookup (is_at (R set)) es ≡ Some old
@@ -48,23 +49,28 @@ module _ {K X : Type 0} {R : K → K → Ordering} (total : IsTotalOrder R) wher
       laws = eq_by_cmp_equiv total
 
       by : (b : Bool) → is_eq (R set e.0) ≡ b → cond b (Some e.1) (lookup (is_at (R set)) es) ≡ Some old
-          → (lookup (is_at (R set)) es ≡ Some old → lookup (is_at (R key)) (set_value (is_at (R set)) es new) ≡ due new (is_eq (R set key)) (lookup (is_at (R key)) es))
-          → lookup (is_at (R key)) (cond b ((e.0, new) ∷ es) (e ∷ set_value (is_at (R set)) es new)) ≡ due new (is_eq (R set key)) (cond (is_eq (R key e.0)) (Some e.1) (lookup (is_at (R key)) es))
+          → (lookup (is_at (R set)) es ≡ Some old → lookup (is_at (R key)) (set_value (is_at (R set)) es new) ≡ due new (is_eq (R set key))
+          (lookup (is_at (R key)) es))
+          → lookup (is_at (R key)) (cond b ((e.0, new) ∷ es) (e ∷ set_value (is_at (R set)) es new)) ≡ due new (is_eq (R set key))
+          (cond (is_eq (R key e.0)) (Some e.1) (lookup (is_at (R key)) es))
       by true here f rest = at (is_eq (R set key)) refl
         where
-          at : (c : Bool) → is_eq (R set key) ≡ c → cond (is_eq (R key e.0)) (Some new) (lookup (is_at (R key)) es) ≡ due new c (cond (is_eq (R key e.0)) (Some e.1) (lookup (is_at (R key)) es))
+          at : (c : Bool) → is_eq (R set key) ≡ c → cond (is_eq (R key e.0)) (Some new) (lookup (is_at (R key)) es) ≡ due new c
+              (cond (is_eq (R key e.0)) (Some e.1) (lookup (is_at (R key)) es))
           at true same = ap (λ (b : Bool). cond b (Some new) (lookup (is_at (R key)) es)) (sym (alike total set key e.0 same) ∙ here)
           at false other =
               let no = apart total set key e.0 other here in
               ap (λ (b : Bool). cond b (Some new) (lookup (is_at (R key)) es)) no ∙ sym (ap (λ (b : Bool). cond b (Some e.1) (lookup (is_at (R key)) es)) no)
       by false other f rest = ap (λ (o : Option X). cond (is_eq (R key e.0)) (Some e.1) o) (rest f) ∙ at (is_eq (R set key)) refl
         where
-          at : (c : Bool) → is_eq (R set key) ≡ c → cond (is_eq (R key e.0)) (Some e.1) (due new c (lookup (is_at (R key)) es)) ≡ due new c (cond (is_eq (R key e.0)) (Some e.1) (lookup (is_at (R key)) es))
+          at : (c : Bool) → is_eq (R set key) ≡ c → cond (is_eq (R key e.0)) (Some e.1) (due new c (lookup (is_at (R key)) es)) ≡ due new c
+              (cond (is_eq (R key e.0)) (Some e.1) (lookup (is_at (R key)) es))
           at true same = ap (λ (b : Bool). cond b (Some e.1) (Some new)) (sym (alike total set key e.0 same) ∙ other)
           at false other' = refl
 
   -- where one is put
-  pub found_put : (put key : K) (es : List (K × X)) (new : X) → lookup (is_at (R key)) (insert_entry R es put new) ≡ (if is_eq (R put key) then Some new else lookup (is_at (R key)) es)
+  pub found_put : (put key : K) (es : List (K × X)) (new : X)
+      → lookup (is_at (R key)) (insert_entry R es put new) ≡ (if is_eq (R put key) then Some new else lookup (is_at (R key)) es)
   found_put put key [] new = ap (λ (b : Bool). cond b (Some new) None) ((eq_by_cmp_equiv total).symm key put)
   found_put put key (e ∷ es) new = by (R put e.0) refl (found_put put key es new)
     where
@@ -80,7 +86,8 @@ module _ {K X : Type 0} {R : K → K → Ordering} (total : IsTotalOrder R) wher
           here : is_eq (R put e.0) ≡ true
           here = ap is_eq at
 
-          on : (c : Bool) → is_eq (R put key) ≡ c → cond (is_eq (R key e.0)) (Some new) (lookup (is_at (R key)) es) ≡ due new c (cond (is_eq (R key e.0)) (Some e.1) (lookup (is_at (R key)) es))
+          on : (c : Bool) → is_eq (R put key) ≡ c → cond (is_eq (R key e.0)) (Some new) (lookup (is_at (R key)) es) ≡ due new c
+              (cond (is_eq (R key e.0)) (Some e.1) (lookup (is_at (R key)) es))
           on true same = ap (λ (b : Bool). cond b (Some new) (lookup (is_at (R key)) es)) (sym (alike total put key e.0 same) ∙ here)
           on false other =
               let no = apart total put key e.0 other here in
@@ -90,7 +97,8 @@ module _ {K X : Type 0} {R : K → K → Ordering} (total : IsTotalOrder R) wher
           other : is_eq (R put e.0) ≡ false
           other = ap is_eq at
 
-          on : (c : Bool) → is_eq (R put key) ≡ c → cond (is_eq (R key e.0)) (Some e.1) (due new c (lookup (is_at (R key)) es)) ≡ due new c (cond (is_eq (R key e.0)) (Some e.1) (lookup (is_at (R key)) es))
+          on : (c : Bool) → is_eq (R put key) ≡ c → cond (is_eq (R key e.0)) (Some e.1) (due new c (lookup (is_at (R key)) es)) ≡ due new c
+              (cond (is_eq (R key e.0)) (Some e.1) (lookup (is_at (R key)) es))
           on true same = ap (λ (b : Bool). cond b (Some e.1) (Some new)) (sym (alike total put key e.0 same) ∙ other)
           on false other' = refl
 
@@ -100,7 +108,8 @@ module _ {K X : Type 0} (test : K → Bool) where
   found_again [] old new found = absurd cc
   found_again (e ∷ es) old new found = by (test e.0) refl found (found_again es old new)
     where
-      by : (b : Bool) → test e.0 ≡ b → cond b (Some e.1) (lookup test es) ≡ Some old → (lookup test es ≡ Some old → lookup test (set_value test es new) ≡ Some new)
+      by : (b : Bool) → test e.0 ≡ b → cond b (Some e.1) (lookup test es) ≡ Some old
+          → (lookup test es ≡ Some old → lookup test (set_value test es new) ≡ Some new)
           → lookup test (cond b ((e.0, new) ∷ es) (e ∷ set_value test es new)) ≡ Some new
       by true is now rest = ap (λ (b : Bool). cond b (Some new) (lookup test es)) is
       by false is now rest = ap (λ (b : Bool). cond b (Some e.1) (lookup test (set_value test es new))) is ∙ rest now
@@ -113,7 +122,8 @@ module _ {K X : Type 0} (test : K → Bool) where
           → set_value test (cond b ((e.0, one) ∷ es) (e ∷ set_value test es one)) two ≡ cond b ((e.0, two) ∷ es) (e ∷ set_value test es two)
       by true is rest = ap (λ (b : Bool). cond b ((e.0, two) ∷ es) ((e.0, one) ∷ set_value test es two)) is
       by false is rest =
-          ap (λ (b : Bool). cond b ((e.0, two) ∷ set_value test es one) (e ∷ set_value test (set_value test es one) two)) is ∙ ap (λ (l : List (K × X)). e ∷ l) rest
+          ap (λ (b : Bool). cond b ((e.0, two) ∷ set_value test es one) (e ∷ set_value test (set_value test es one) two)) is
+          ∙ ap (λ (l : List (K × X)). e ∷ l) rest
 
 -- ---- keys in order
 module _ {K : Type 0} {R : K → K → Ordering} (total : IsTotalOrder R) where
@@ -151,12 +161,14 @@ module _ {K X : Type 0} {R : K → K → Ordering} (total : IsTotalOrder R) wher
   above_put k put new [] less all = (less, tt)
   above_put k put new (e ∷ es) less all = by (R put e.0) (above_put k put new es less all.1)
     where
-      by : (o : Ordering) → Above total k (keys_of (insert_entry R es put new)) → Above total k (keys_of (match_ordering o ((put, new) ∷ e ∷ es) ((e.0, new) ∷ es) (e ∷ insert_entry R es put new)))
+      by : (o : Ordering) → Above total k (keys_of (insert_entry R es put new))
+          → Above total k (keys_of (match_ordering o ((put, new) ∷ e ∷ es) ((e.0, new) ∷ es) (e ∷ insert_entry R es put new)))
       by Less rest = (less, all)
       by Equal rest = all
       by Greater rest = (all.0, rest)
 
-  put_sorted : (put : K) (new : X) (e : K × X) (es : List (K × X)) → IsStrictlySortedBy R (keys_of (e ∷ es)) → IsStrictlySortedBy R (keys_of (insert_entry R es put new)) → (o : Ordering) → R put e.0 ≡ o
+  put_sorted : (put : K) (new : X) (e : K × X) (es : List (K × X)) → IsStrictlySortedBy R (keys_of (e ∷ es))
+      → IsStrictlySortedBy R (keys_of (insert_entry R es put new)) → (o : Ordering) → R put e.0 ≡ o
       → IsStrictlySortedBy R (keys_of (match_ordering o ((put, new) ∷ e ∷ es) ((e.0, new) ∷ es) (e ∷ insert_entry R es put new)))
   unfolding IsStrictlySortedBy
   put_sorted put new e es sorted rest Less at = ((at, above_all total put e.0 (keys_of es) at sorted.0), sorted)

@@ -1,5 +1,6 @@
 -- The counts of a client's cells, as the list of these.
-use Rattle.std.proofs.Common.{◌≡◌, ℕ, zero, suc, ◌+◌, ◌-◌, ◌<◌, ◌==◌, arith, Bool, true, false, cond, List, [], ◌∷◌, Option, Some, None, refl, sym, ap, ◌∙◌, subst}
+use Rattle.std.proofs.Common.{◌≡◌, ℕ, zero, suc, ◌+◌, ◌-◌, ◌<◌, ◌==◌, arith, Bool, true, false, cond, List, [], ◌∷◌, Option, Some, None, refl, sym, ap, ◌∙◌}
+use Rattle.std.proofs.Common.{subst}
 use Rattle.std.specs.Prelude.{is_some, not}
 use Rattle.std.specs.BTreeMap.{insert_entry, is_at}
 use Rattle.std.specs.List.{list_any}
@@ -28,9 +29,11 @@ module _ (name : CellName) where
   found es = lookup (is_at (cell_cmp name)) es
 
   -- ---- one more
-  past_copies : (other : CellName) (n : ℕ) (rest : List CellName) → cell_cmp name other ≡ Greater → with_locked_cell name (copies n other rest) ≡ copies n other (with_locked_cell name rest)
+  past_copies : (other : CellName) (n : ℕ) (rest : List CellName) → cell_cmp name other ≡ Greater → with_locked_cell name (copies n other rest) ≡ copies n other
+      (with_locked_cell name rest)
   past_copies other zero rest above = refl
-  past_copies other (suc n) rest above = more_at cell_cmp name other (copies n other rest) Greater above ∙ ap (λ (l : List CellName). other ∷ l) (past_copies other n rest above)
+  past_copies other (suc n) rest above = more_at cell_cmp name other (copies n other rest) Greater above
+      ∙ ap (λ (l : List CellName). other ∷ l) (past_copies other n rest above)
 
   one_copy_more : (other : CellName) (held n : ℕ) (rest : List CellName) → held ≡ suc n → other ∷ other ∷ copies n other rest ≡ copies (held + 1) other rest
   one_copy_more other held n rest is = ap (λ (k : ℕ). copies k other rest) (two held n is)
@@ -55,19 +58,23 @@ module _ (name : CellName) where
     where
       by : (o : Ordering) → cell_cmp name other ≡ o → held ≡ unwrap_or (cond (is_eq o) (Some (suc n)) (found es)) 0
           → (held ≡ unwrap_or (found es) 0 → with_locked_cell name (each_counted es) ≡ each_counted (insert_entry cell_cmp es name (held + 1)))
-          → match_ordering o (name ∷ other ∷ copies n other (each_counted es)) (other ∷ other ∷ copies n other (each_counted es)) (other ∷ with_locked_cell name (copies n other (each_counted es)))
-          ≡ each_counted (match_ordering o ((name, held + 1) ∷ (other, suc n) ∷ es) ((other, held + 1) ∷ es) ((other, suc n) ∷ insert_entry cell_cmp es name (held + 1)))
+          → match_ordering o (name ∷ other ∷ copies n other (each_counted es)) (other ∷ other ∷ copies n other (each_counted es))
+          (other ∷ with_locked_cell name (copies n other (each_counted es)))
+          ≡ each_counted (match_ordering o ((name, held + 1) ∷ (other, suc n) ∷ es) ((other, held + 1) ∷ es)
+          ((other, suc n) ∷ insert_entry cell_cmp es name (held + 1)))
       by Less at now rest =
           let none : found es ≡ None = none_above cells_total name es (above_all cells_total name other (keys_of es) at sorted.0) in
           one_copy name held (other ∷ copies n other (each_counted es)) (now ∙ ap (λ (o : Option ℕ). unwrap_or o 0) none)
       by Equal at now rest = one_copy_more other held n (each_counted es) now
-      by Greater at now rest = ap (λ (l : List CellName). other ∷ l) (past_copies other n (each_counted es) at ∙ ap (λ (l : List CellName). copies n other l) (rest now))
+      by Greater at now rest =
+          ap (λ (l : List CellName). other ∷ l) (past_copies other n (each_counted es) at ∙ ap (λ (l : List CellName). copies n other l) (rest now))
 
   pub more_counted : (es : Counts) (held : ℕ) → AreCounted es → AreCounted (insert_entry cell_cmp es name (held + 1))
   more_counted [] held counted = (omega arith, tt)
   more_counted (e ∷ es) held counted = by (cell_cmp name e.0) (more_counted es held counted.1)
     where
-      by : (o : Ordering) → AreCounted (insert_entry cell_cmp es name (held + 1)) → AreCounted (match_ordering o ((name, held + 1) ∷ e ∷ es) ((e.0, held + 1) ∷ es) (e ∷ insert_entry cell_cmp es name (held + 1)))
+      by : (o : Ordering) → AreCounted (insert_entry cell_cmp es name (held + 1))
+          → AreCounted (match_ordering o ((name, held + 1) ∷ e ∷ es) ((e.0, held + 1) ∷ es) (e ∷ insert_entry cell_cmp es name (held + 1)))
       by Less rest = (omega arith, counted)
       by Equal rest = (omega arith, counted.1)
       by Greater rest = (counted.0, rest)
@@ -92,11 +99,14 @@ module _ (name : CellName) where
   pub counted_none : (es : Counts) → AreCounted es → found es ≡ None → without_cell name (each_counted es) ≡ each_counted es
   counted_none es counted none = none_fewer here (each_counted es) (counted_has es counted ∙ ap is_some none)
 
-  fewer_copies : (other : CellName) (n : ℕ) (rest : List CellName) → here other ≡ false → without_cell name (copies n other rest) ≡ copies n other (without_cell name rest)
+  fewer_copies : (other : CellName) (n : ℕ) (rest : List CellName) → here other ≡ false → without_cell name (copies n other rest) ≡ copies n other
+      (without_cell name rest)
   fewer_copies other zero rest out = refl
-  fewer_copies other (suc n) rest out = fewer_at here other (copies n other rest) false out ∙ ap (λ (l : List CellName). other ∷ l) (fewer_copies other n rest out)
+  fewer_copies other (suc n) rest out = fewer_at here other (copies n other rest) false out
+      ∙ ap (λ (l : List CellName). other ∷ l) (fewer_copies other n rest out)
 
-  pub counted_fewer : (es : Counts) (left : ℕ) → found es ≡ Some (suc left) → without_cell name (each_counted es) ≡ each_counted (set_value (is_at (cell_cmp name)) es left)
+  pub counted_fewer : (es : Counts) (left : ℕ) → found es ≡ Some (suc left) → without_cell name (each_counted es) ≡ each_counted
+      (set_value (is_at (cell_cmp name)) es left)
   counted_fewer [] left is = absurd cc
   counted_fewer (e ∷ es) left is = by (cell_cmp name e.0) refl is (counted_fewer es left)
     where
@@ -105,7 +115,8 @@ module _ (name : CellName) where
 
       by : (o : Ordering) → cell_cmp name e.0 ≡ o → cond (is_eq o) (Some e.1) (found es) ≡ Some (suc left)
           → (found es ≡ Some (suc left) → without_cell name (each_counted es) ≡ each_counted (set_value (is_at (cell_cmp name)) es left))
-          → without_cell name (copies e.1 e.0 (each_counted es)) ≡ each_counted (cond (is_eq o) ((e.0, left) ∷ es) (e ∷ set_value (is_at (cell_cmp name)) es left))
+          → without_cell name (copies e.1 e.0 (each_counted es)) ≡ each_counted
+          (cond (is_eq o) ((e.0, left) ∷ es) (e ∷ set_value (is_at (cell_cmp name)) es left))
       by Less at now rest = fewer_copies e.0 e.1 (each_counted es) (is_cell_by name e.0 Less at) ∙ ap (λ (l : List CellName). copies e.1 e.0 l) (rest now)
       by Equal at now rest =
           ap (λ (n : ℕ). without_cell name (copies n e.0 (each_counted es))) (inside e.1 (suc left) now)
@@ -117,7 +128,8 @@ module _ (name : CellName) where
   counted_last (e ∷ es) = by (is_eq (cell_cmp name e.0)) (counted_last es)
     where
       by : (b : Bool) → each_counted (set_value (is_at (cell_cmp name)) es 0) ≡ each_counted (remove_entry (is_at (cell_cmp name)) es)
-          → each_counted (cond b ((e.0, 0) ∷ es) (e ∷ set_value (is_at (cell_cmp name)) es 0)) ≡ each_counted (cond b es (e ∷ remove_entry (is_at (cell_cmp name)) es))
+          → each_counted (cond b ((e.0, 0) ∷ es) (e ∷ set_value (is_at (cell_cmp name)) es 0)) ≡ each_counted
+          (cond b es (e ∷ remove_entry (is_at (cell_cmp name)) es))
       by true rest = refl
       by false rest = ap (λ (l : List CellName). copies e.1 e.0 l) rest
 
@@ -125,7 +137,8 @@ module _ (name : CellName) where
   fewer_counted [] left some counted = tt
   fewer_counted (e ∷ es) left some counted = by (is_eq (cell_cmp name e.0)) (fewer_counted es left some counted.1)
     where
-      by : (b : Bool) → AreCounted (set_value (is_at (cell_cmp name)) es left) → AreCounted (cond b ((e.0, left) ∷ es) (e ∷ set_value (is_at (cell_cmp name)) es left))
+      by : (b : Bool) → AreCounted (set_value (is_at (cell_cmp name)) es left)
+          → AreCounted (cond b ((e.0, left) ∷ es) (e ∷ set_value (is_at (cell_cmp name)) es left))
       by true rest = (some, counted.1)
       by false rest = (counted.0, rest)
 
@@ -160,24 +173,28 @@ module _ (name : CellName) where
   pub none_held : (es : Counts) (held : ℕ) → AreCounted es → held ≡ unwrap_or (found es) 0 → held ≡ 0 → each_counted es ≡ without_cell name (each_counted es)
   none_held es held counted is none = sym (counted_none es counted (zero_found (found es) held (λ n e. found_counted es n counted e) is none))
 
-  pub one_held : (es new : Counts) (held : ℕ) → held ≡ unwrap_or (found es) 0 → held ≡ 1 → new ≡ remove_entry (is_at (cell_cmp name)) es → each_counted new ≡ without_cell name (each_counted es)
+  pub one_held : (es new : Counts) (held : ℕ) → held ≡ unwrap_or (found es) 0 → held ≡ 1 → new ≡ remove_entry (is_at (cell_cmp name)) es
+      → each_counted new ≡ without_cell name (each_counted es)
   one_held es new held is one removed =
       ap (λ (l : Counts). each_counted l) removed ∙ sym (counted_fewer es 0 (some_found (found es) held 0 is one) ∙ counted_last es)
 
   one_less : (n : ℕ) → suc n - 1 ≡ n
   one_less n = omega arith
 
-  pub more_held : (es new : Counts) (held : ℕ) → held ≡ unwrap_or (found es) 0 → (held ≡ 0 → ⊥) → new ≡ set_value (is_at (cell_cmp name)) es (held - 1) → each_counted new ≡ without_cell name (each_counted es)
+  pub more_held : (es new : Counts) (held : ℕ) → held ≡ unwrap_or (found es) 0 → (held ≡ 0 → ⊥) → new ≡ set_value (is_at (cell_cmp name)) es (held - 1)
+      → each_counted new ≡ without_cell name (each_counted es)
   more_held es new zero is some set = absurd (some refl)
   more_held es new (suc left) is some set =
       ap (λ (l : Counts). each_counted l) set ∙ ap (λ (n : ℕ). each_counted (set_value (is_at (cell_cmp name)) es n)) (one_less left)
       ∙ sym (counted_fewer es left (some_found (found es) (suc left) left is refl))
 
-  pub more_held_counted : (es new : Counts) (held : ℕ) → AreCounted es → (held ≡ 0 → ⊥) → (held ≡ 1 → ⊥) → new ≡ set_value (is_at (cell_cmp name)) es (held - 1) → AreCounted new
+  pub more_held_counted : (es new : Counts) (held : ℕ) → AreCounted es → (held ≡ 0 → ⊥) → (held ≡ 1 → ⊥) → new ≡ set_value (is_at (cell_cmp name)) es (held - 1)
+      → AreCounted new
   more_held_counted es new zero counted some more set = absurd (some refl)
   more_held_counted es new (suc zero) counted some more set = absurd (more refl)
   more_held_counted es new (suc (suc left)) counted some more set =
-      subst (λ (l : Counts). AreCounted l) (sym (set ∙ ap (λ (n : ℕ). set_value (is_at (cell_cmp name)) es n) (one_less (suc left)))) (fewer_counted es (suc left) (omega arith) counted)
+      subst (λ (l : Counts). AreCounted l) (sym (set ∙ ap (λ (n : ℕ). set_value (is_at (cell_cmp name)) es n) (one_less (suc left))))
+      (fewer_counted es (suc left) (omega arith) counted)
 
   pub not_none : (es : Counts) (held : ℕ) → held ≡ unwrap_or (found es) 0 → (held ≡ 0 → ⊥) → found es ≡ None → ⊥
   not_none es held is some none = some (is ∙ ap (λ (o : Option ℕ). unwrap_or o 0) none)
@@ -194,7 +211,8 @@ module _ (name : CellName) where
           at true zero_is = absurd (omega (arith, eqb-true (suc n) 0 zero_is))
           at false zero_is = refl
 
-  pub counts_more : (es new : Counts) (held : ℕ) → IsStrictlySortedBy cell_cmp (keys_of es) → AreCounted es → held ≡ unwrap_or (found es) 0 → new ≡ insert_entry cell_cmp es name (held + 1)
+  pub counts_more : (es new : Counts) (held : ℕ) → IsStrictlySortedBy cell_cmp (keys_of es) → AreCounted es → held ≡ unwrap_or (found es) 0
+      → new ≡ insert_entry cell_cmp es name (held + 1)
       → each_counted new ≡ with_locked_cell name (each_counted es)
   counts_more es new held sorted counted is put = ap (λ (l : Counts). each_counted l) put ∙ sym (counted_more es held sorted counted is)
 

@@ -24,14 +24,17 @@ pub by_kind : (state : State) (request : Request) → changes_lock request ≡ f
 by_kind state request e = sym (ap (λ (b : Bool). if b then lock_decided (decided state request) else None) e)
 
 -- ---- of a body
-module _ (one_request : (body : List ℕ) (p q : Request) → Asks body p → Asks body q → p ≡ q) (state : State) (body : List ℕ) (request : Request) (asked : Asks body request) where
+module _ (one_request : (body : List ℕ) (p q : Request) → Asks body p → Asks body q → p ≡ q) (state : State) (body : List ℕ) (request : Request)
+    (asked : Asks body request) where
   pub finds : {E : Type 0} (result : Result (Option LockChange) E) → FindsLockBy state request result → FindsLock state body result
-  finds (Ok None) is = λ change asks. none_is_some change (is ∙ ap (λ (r : Request). lock_asked_by state r) (one_request body request asks.request asked asks.asked) ∙ asks.is)
+  finds (Ok None) is =
+      λ change asks. none_is_some change (is ∙ ap (λ (r : Request). lock_asked_by state r) (one_request body request asks.request asked asks.asked) ∙ asks.is)
   finds (Ok (Some change)) is = record { request = request; asked = asked; is = sym is }
   finds (Err e) is = inr (record { request = request; asked = asked; takes = is })
 
 -- no other opcode's body asks for one
-named : (body : List ℕ) (request : Request) → (8 ≤ length body) × (opcode_at body ≡ opcode_number (request_opcode request)) → opcode_in body ≡ opcode_named (opcode_number (request_opcode request))
+named : (body : List ℕ) (request : Request) → (8 ≤ length body) × (opcode_at body ≡ opcode_number (request_opcode request))
+    → opcode_in body ≡ opcode_named (opcode_number (request_opcode request))
 named body request stands = by (nat_lt (length body) 8) refl
   where
     by : (b : Bool) → nat_lt (length body) 8 ≡ b → (if b then None else opcode_named (opcode_at body)) ≡ opcode_named (opcode_number (request_opcode request))
@@ -41,8 +44,10 @@ named body request stands = by (nat_lt (length body) 8) refl
 changes_by_opcode : (request : Request) → changes_lock request ≡ is_lock_in (opcode_named (opcode_number (request_opcode request)))
 changes_by_opcode request = ap is_lock_in (sym (named_back (request_opcode request)))
 
-pub asks_none : ((body : List ℕ) (q : Request) → Asks body q → (8 ≤ length body) × (opcode_at body ≡ opcode_number (request_opcode q))) → (state : State) (body : List ℕ) → asks_lock body ≡ false
+pub asks_none : ((body : List ℕ) (q : Request) → Asks body q → (8 ≤ length body) × (opcode_at body ≡ opcode_number (request_opcode q)))
+    → (state : State) (body : List ℕ) → asks_lock body ≡ false
     → (change : LockChange) → AsksLock state body change → ⊥
 asks_none opcode_stands state body other change asks =
-    let kind : changes_lock asks.request ≡ false = changes_by_opcode asks.request ∙ ap is_lock_in (sym (named body asks.request (opcode_stands body asks.request asks.asked))) ∙ other in
+    let kind : changes_lock asks.request ≡ false = changes_by_opcode asks.request
+    ∙ ap is_lock_in (sym (named body asks.request (opcode_stands body asks.request asks.asked))) ∙ other in
     none_is_some change (by_kind state asks.request kind ∙ asks.is)

@@ -174,10 +174,12 @@ parameter_own call place p = by (argument_for call place)
     by None = tt
     by (Some (i, argument)) = value_own (bindings.scalar_type p.value_type) i argument
 
-each_own : {X Y : Type 0} (answer : ℕ → X → Result Y BindFault) → ((place : ℕ) (x : X) → OwnBind (answer place x)) → (place : ℕ) (xs : List X) → OwnBind (each_at answer place xs)
+each_own : {X Y : Type 0} (answer : ℕ → X → Result Y BindFault) → ((place : ℕ) (x : X) → OwnBind (answer place x)) → (place : ℕ) (xs : List X)
+    → OwnBind (each_at answer place xs)
 unfolding each_at
 each_own answer own place [] = tt
-each_own answer own place (x ∷ xs) = bind_then (answer place x) _ (own place x) (λ y. bind_then (each_at answer (place + 1) xs) _ (each_own answer own (place + 1) xs) (λ ys. tt))
+each_own answer own place (x ∷ xs) =
+    bind_then (answer place x) _ (own place x) (λ y. bind_then (each_at answer (place + 1) xs) _ (each_own answer own (place + 1) xs) (λ ys. tt))
 
 new_own : (call : Given) (declared : ValueType) (kind : Kind) → OwnBind (bindings.given_new_value call declared kind)
 new_own call declared forms.Get = tt
@@ -194,7 +196,8 @@ new_own call declared forms.Put = by i (given_argument i call.arguments)
 named_own : (parameters : List Parameter) (kind : Kind) (named : List ℤ) (count : ℕ) → OwnBind (well_named parameters kind named count)
 unfolding well_named
 named_own parameters kind named count = bind_then (unless_consistent) _ (bind_unless e_invalidarg (not (is_consistent kind named count)) refl)
-    (λ _. bind_then (binding.bind_fault_if disp_e_badparamcount (nat_lt (most kind parameters) count)) _ (bind_unless disp_e_badparamcount (nat_lt (most kind parameters) count) refl)
+    (λ _. bind_then (binding.bind_fault_if disp_e_badparamcount (nat_lt (most kind parameters) count)) _
+    (bind_unless disp_e_badparamcount (nat_lt (most kind parameters) count) refl)
     (λ _. bind_unless_at disp_e_paramnotfound (position_from (names_none (by_position named count) (length parameters)) 0 named) refl))
   where
     unless_consistent : Result (Unit {0}) BindFault
@@ -209,7 +212,8 @@ unfolding bindings.bound_call
 bound_own member kind call =
     bind_then (well_named member.parameters kind call.named (length call.arguments)) _ (named_own member.parameters kind call.named (length call.arguments))
     (λ _. bind_then (complete member.parameters call) _ (complete_own member.parameters call)
-    (λ _. bind_then (each_at (bindings.parameter_value call) 0 member.parameters) _ (each_own (bindings.parameter_value call) (parameter_own call) 0 member.parameters)
+    (λ _. bind_then (each_at (bindings.parameter_value call) 0 member.parameters) _
+    (each_own (bindings.parameter_value call) (parameter_own call) 0 member.parameters)
     (λ key. bind_then (bindings.given_new_value call member.value_type kind) _ (new_own call member.value_type kind) (λ value. tt))))
 
 call_own : (r : Result BoundCallValue BindFault) → OwnBind r → Own (call_found r)
@@ -225,17 +229,22 @@ member_own (Err members.NotImplemented) = refl
 interface_own : (state : State) (object : ℕ) (interface riid : List ℕ) → Own (interface_found state object interface riid)
 unfolding interface_found
 interface_own state object interface riid =
-    then_own (known rpc_e_disconnected (class_in (object_at object state.table))) _ (known_own rpc_e_disconnected (class_in (object_at object state.table)) refl)
-    (λ class. then_own (known e_nointerface (selected_in state.library class interface)) _ (known_own e_nointerface (selected_in state.library class interface) refl)
-    (λ found. then_own (unless disp_e_unknowninterface (not (is_nil_bytes riid))) _ (unless_own disp_e_unknowninterface (not (is_nil_bytes riid)) refl) (λ _. tt)))
+    then_own (known rpc_e_disconnected (class_in (object_at object state.table))) _
+    (known_own rpc_e_disconnected (class_in (object_at object state.table)) refl)
+    (λ class. then_own (known e_nointerface (selected_in state.library class interface)) _
+    (known_own e_nointerface (selected_in state.library class interface) refl)
+    (λ found. then_own (unless disp_e_unknowninterface (not (is_nil_bytes riid))) _ (unless_own disp_e_unknowninterface (not (is_nil_bytes riid)) refl)
+    (λ _. tt)))
 
 cell_own : (state : State) (call : Call) (access : Access) → Own (cell_called state call access)
 unfolding cell_called
 cell_own state call access =
-    then_own (interface_found state call.head.object call.head.interface call.head.riid) _ (interface_own state call.head.object call.head.interface call.head.riid)
+    then_own (interface_found state call.head.object call.head.interface call.head.riid) _
+    (interface_own state call.head.object call.head.interface call.head.riid)
     (λ interface. then_own (member_found (member_in interface call.head.dispid access)) _ (member_own (member_in interface call.head.dispid access))
     (λ found. then_own (call_found (bindings.bound_to found.0 (bound_as access found.1) (record { named = call.named; arguments = call.arguments }))) _
-    (call_own (bindings.bound_to found.0 (bound_as access found.1) (record { named = call.named; arguments = call.arguments })) (bound_own found.0 (bound_as access found.1) (record { named = call.named; arguments = call.arguments })))
+    (call_own (bindings.bound_to found.0 (bound_as access found.1) (record { named = call.named; arguments = call.arguments }))
+    (bound_own found.0 (bound_as access found.1) (record { named = call.named; arguments = call.arguments })))
     (λ bound. tt)))
 
 -- arrays in cells
@@ -248,10 +257,12 @@ within_own index array = unless_own (array_code arrays.BadIndex) (not (in_bounds
 
 element_own : (index : List ℤ) (v : Variant) → Own (array_cells.element_of index v)
 element_own index v = then_own (array_cells.array_in_value v) (array_cells.array_element_at index) (array_of_own v)
-    (λ array. then_own (array_cells.if_in_bounds index array) _ (within_own index array) (λ _. known_own (array_code arrays.BadIndex) (array_element array index) refl))
+    (λ array. then_own (array_cells.if_in_bounds index array) _ (within_own index array)
+    (λ _. known_own (array_code arrays.BadIndex) (array_element array index) refl))
 
 type_own : (index : List ℤ) (v : Variant) → Own (array_cells.element_type_of index v)
-type_own index v = then_own (array_cells.array_in_value v) (array_cells.element_type_at index) (array_of_own v) (λ array. then_own (array_cells.if_in_bounds index array) _ (within_own index array) (λ _. tt))
+type_own index v = then_own (array_cells.array_in_value v) (array_cells.element_type_at index) (array_of_own v)
+    (λ array. then_own (array_cells.if_in_bounds index array) _ (within_own index array) (λ _. tt))
 
 coerced_own : (r : Result Scalar CoerceFault) → Own (array_cells.told_as_element r)
 coerced_own (Ok element) = tt
@@ -295,13 +306,17 @@ allowed_own bank event table code is = by (applied event table) is
 
 ids_own : (state : State) (call : GetIds) → Own (ids_found state call)
 unfolding ids_found
-ids_own state call = then_own (interface_found state call.object call.interface call.riid) _ (interface_own state call.object call.interface call.riid) (λ interface. tt)
+ids_own state call = then_own (interface_found state call.object call.interface call.riid) _ (interface_own state call.object call.interface call.riid)
+    (λ interface. tt)
 
 -- what is decided
 decided_own : (state : State) (request : Request) → OwnDecision (decided state request)
 decided_own state (requests.Create class) =
-    then_decides (class_found state class) _ (then_own (known regdb_e_classnotreg (class_of state.library class)) _ (known_own regdb_e_classnotreg (class_of state.library class) refl) (λ _. unless_own e_unexpected (is_used_up state.table) refl))
-    (λ _. then_decides (fitting (allowed state.bank (events.Create state.table.next class) state.table)) _ (fits (allowed state.bank (events.Create state.table.next class) state.table) refl) (λ _. tt))
+    then_decides (class_found state class) _
+    (then_own (known regdb_e_classnotreg (class_of state.library class)) _ (known_own regdb_e_classnotreg (class_of state.library class) refl)
+    (λ _. unless_own e_unexpected (is_used_up state.table) refl))
+    (λ _. then_decides (fitting (allowed state.bank (events.Create state.table.next class) state.table)) _
+    (fits (allowed state.bank (events.Create state.table.next class) state.table) refl) (λ _. tt))
   where
     fits : (due : Result TableValue HResult) → allowed state.bank (events.Create state.table.next class) state.table ≡ due → Own (fitting due)
     fits (Ok table) is = tt
@@ -312,18 +327,22 @@ decided_own state (requests.GetIds call) = then_decides (ids_found state call) _
     told : (known : Bool) → is_own (if known then s_ok else disp_e_unknownname) ≡ true
     told true = refl
     told false = refl
-decided_own state (requests.ByCall by_call.Invoke call) = then_decides (cell_called state call (accesses.Flags call.head.flags)) _ (cell_own state call (accesses.Flags call.head.flags)) (λ cell. acted cell cell.value)
+decided_own state (requests.ByCall by_call.Invoke call) = then_decides (cell_called state call (accesses.Flags call.head.flags)) _
+    (cell_own state call (accesses.Flags call.head.flags)) (λ cell. acted cell cell.value)
   where
     acted : (cell : BoundCell) (value : Option Variant) → OwnAnswer (acting state cell.name cell.declared value)
     acted cell None = refl
     acted cell (Some value) = tt
 decided_own state (requests.GetElement call index) = then_decides (cell_called state call accesses.Get) _ (cell_own state call accesses.Get)
-    (λ cell. then_decides (array_cells.element_in state index cell) _ (element_own index (array_cells.value_in state cell.name cell.declared)) (λ element. refl))
+    (λ cell. then_decides (array_cells.element_in state index cell) _ (element_own index (array_cells.value_in state cell.name cell.declared))
+    (λ element. refl))
 decided_own state (requests.PutElement call index value) = then_decides (cell_called state call accesses.Put) _ (cell_own state call accesses.Put)
     (λ cell. then_decides (element_for state index value cell) _
-    (then_own (array_cells.element_type_in state index cell) _ (type_own index (array_cells.value_in state cell.name cell.declared)) (λ elem. as_element_own elem value))
+    (then_own (array_cells.element_type_in state index cell) _ (type_own index (array_cells.value_in state cell.name cell.declared))
+    (λ elem. as_element_own elem value))
     (λ element. tt))
-decided_own state (requests.Redimension call bound) = then_decides (cell_called state call accesses.Put) _ (cell_own state call accesses.Put) (λ cell. by cell (array_cells.put_in state cell.name))
+decided_own state (requests.Redimension call bound) = then_decides (cell_called state call accesses.Put) _ (cell_own state call accesses.Put)
+    (λ cell. by cell (array_cells.put_in state cell.name))
   where
     by : (cell : BoundCell) (o : Option Variant) → OwnDecision (resizing cell.name cell.declared bound o)
     by cell None = then_decides (zero_with bound cell.declared) _ (refused_own (redimensioned_value bound (zero_value cell.declared))) (λ value. tt)
@@ -332,7 +351,8 @@ decided_own state (requests.ByCall by_call.Lock call) = then_decides (cell_calle
     (λ cell. then_decides (array_cells.locks_found state cell) _ (locks_own cell.declared (array_cells.put_in state cell.name)) (λ locks. tt))
 decided_own state (requests.ByCall by_call.Unlock call) = then_decides (cell_called state call accesses.Get) _ (cell_own state call accesses.Get)
     (λ cell. then_decides (array_cells.locks_found state cell) _ (locks_own cell.declared (array_cells.put_in state cell.name)) (λ locks. tt))
-decided_own state (requests.ByNumber by_number.TypeInfo index) = then_decides (known disp_e_badindex (description_of state index)) _ (known_own disp_e_badindex (description_of state index) refl) (λ description. refl)
+decided_own state (requests.ByNumber by_number.TypeInfo index) = then_decides (known disp_e_badindex (description_of state index)) _
+    (known_own disp_e_badindex (description_of state index) refl) (λ description. refl)
 decided_own state (requests.Query query) = refl
 
 outcome_own : (state : State) (due : Result Decision Refusal) → OwnDecision due → is_own (outcome_of state due).code ≡ true

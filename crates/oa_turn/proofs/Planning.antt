@@ -18,7 +18,8 @@ use Rattle.oa_turn.specs.promise.Turns.{Ordinary}
 
 module _ (old : State) (body : List ℕ) (request : Request) (asked : Asks body request) where
   -- what is decided is done
-  steps : (due : Result Decision Refusal) (reply : ReplyValue) (new : State) → decided old request ≡ due → reply ≡ reply_with (tag_at body) (outcome_of old due) → new ≡ after_outcome old (outcome_of old due)
+  steps : (due : Result Decision Refusal) (reply : ReplyValue) (new : State) → decided old request ≡ due → reply ≡ reply_with (tag_at body) (outcome_of old due)
+      → new ≡ after_outcome old (outcome_of old due)
       → Ordinary old body reply new
   steps due reply new is told leaves = inl (record {
     request = request;
@@ -28,7 +29,8 @@ module _ (old : State) (body : List ℕ) (request : Request) (asked : Asks body 
   })
 
 -- a change that was decided
-pub change_planned : (old : State) (body : List ℕ) (request : Request) (event : Event) (fields : List ℕ) (plan : Plan) → Asks body request → decided old request ≡ Ok (Change event fields) → BringsNoLocks event
+pub change_planned : (old : State) (body : List ℕ) (request : Request) (event : Event) (fields : List ℕ) (plan : Plan) → Asks body request
+    → decided old request ≡ Ok (Change event fields) → BringsNoLocks event
     → PlansChange old (tag_at body) event fields plan → Plans old body old plan
 change_planned old body request event fields (Answered reply) asked is none told = (
   steps old body request asked (Ok (Change event fields)) reply old is (told.2 ∙ rw told.1 refl) (rw told.1 refl),

@@ -69,7 +69,8 @@ refused number table fault is code = by (object_at number table) is
     by None is = omega (arith, ap number_of (ap table_code (same_fault NoObject fault is) ∙ code))
     by (Some object) is = by_lock _ (any_locked object.cells) is
 
-pub not_starved : (number : ℕ) (table : TableValue) (fault : TableFault) → (fault ≡ Memory → MayWantMemory (ARelease number) table) → Because (applied (ARelease number) table) fault
+pub not_starved : (number : ℕ) (table : TableValue) (fault : TableFault) → (fault ≡ Memory → MayWantMemory (ARelease number) table)
+    → Because (applied (ARelease number) table) fault
     → table_code fault ≡ e_outofmemory → ⊥
 not_starved number table Memory starved why code = starved refl
 not_starved number table NoObject starved why code = refused number table NoObject why code
@@ -80,7 +81,8 @@ not_starved number table (Array fault) starved why code = refused number table (
 pub not_allowed : (bank number : ℕ) (table : TableValue) (code : HResult) → allowed bank (ARelease number) table ≡ Err code → code ≡ e_outofmemory → ⊥
 not_allowed bank number table code is memory = by (applied (ARelease number) table) refl is
   where
-    by_limits : (new : TableValue) (long full : Bool) → (if long then Err e_invalidarg else if full then Err stg_e_mediumfull else Ok new) ≡ refused_with code → ⊥
+    by_limits : (new : TableValue) (long full : Bool) → (if long then Err e_invalidarg else if full then Err stg_e_mediumfull else Ok new) ≡ refused_with code
+        → ⊥
     by_limits new true full is = omega (arith, ap number_of (same_code e_invalidarg code is ∙ memory))
     by_limits new false true is = omega (arith, ap number_of (same_code stg_e_mediumfull code is ∙ memory))
     by_limits new false false is = absurd cc
@@ -131,8 +133,10 @@ module _ (body : List ℕ) (number : ℕ) (of : Asks body (ByNumber Release numb
     releases event fields is = let change = sym is ∙ ap (decided state) same in cc
 
 -- where its change was decided, it is planned or refused
-pub is_planned : (body : List ℕ) → ((body : List ℕ) (p q : Request) → Asks body p → Asks body q → p ≡ q) → (state : State) (request : Request) → Asks body request
-    → (tag : ℕ) (event : Event) (fields : List ℕ) (plan : Plan) → decided state request ≡ Ok (Change event fields) → PlansChange state tag event fields plan → PlansWithoutMemory body plan
+pub is_planned : (body : List ℕ) → ((body : List ℕ) (p q : Request) → Asks body p → Asks body q → p ≡ q) → (state : State) (request : Request)
+    → Asks body request
+    → (tag : ℕ) (event : Event) (fields : List ℕ) (plan : Plan) → decided state request ≡ Ok (Change event fields) → PlansChange state tag event fields plan
+    → PlansWithoutMemory body plan
 is_planned body one state request asked tag event fields (Answered reply) is told = λ number of code.
     let release = releases body number of one state request asked event fields is in
     not_allowed state.bank number state.table told.0 (rw release at told.1) (sym (ap (λ (r : ReplyValue). r.code) told.2) ∙ code)

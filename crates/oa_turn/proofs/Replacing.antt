@@ -29,20 +29,24 @@ module _ (body : List ℕ) where
     has_text may = record { text = text; lies = lies; may = may }
 
     -- a text that gives no library, or one that memory was refused to
-    text_unread : (e : TextError) → IsTextOf text (Err e) → ((text_code e ≡ bad_stub_data) × ((library : TreeValue) → AsksLibrary body library → ⊥)) ⊎ ((text_code e ≡ e_outofmemory) × BringsText body)
-    text_unread NoLibrary none = inl (refl, λ library asks. none library (subst (λ (l : List ℕ). StandsFor l library) (one_text text asks.text (sym lies ∙ asks.lies)) asks.stands))
+    text_unread : (e : TextError) → IsTextOf text (Err e) → ((text_code e ≡ bad_stub_data) × ((library : TreeValue) → AsksLibrary body library → ⊥))
+        ⊎ ((text_code e ≡ e_outofmemory) × BringsText body)
+    text_unread NoLibrary none =
+        inl (refl, λ library asks. none library (subst (λ (l : List ℕ). StandsFor l library) (one_text text asks.text (sym lies ∙ asks.lies)) asks.stands))
     text_unread Memory may = inr (refl, has_text may)
 
     -- what was made of the answer for a text: its library, or the code where there is none
     pub text_told : (P : TextError → HResult → Type 0) (from : Result TreeValue TextError) (to : Result TreeValue HResult) → IsTextOf text from
-        → MatchResult from (λ library. to ≡ Ok library) (λ e. IsErrAnd to (P e)) → ((e : TextError) (code : HResult) → P e code → code ≡ text_code e) → IsLibraryOf body to
+        → MatchResult from (λ library. to ≡ Ok library) (λ e. IsErrAnd to (P e)) → ((e : TextError) (code : HResult) → P e code → code ≡ text_code e)
+        → IsLibraryOf body to
     text_told P (Ok library) to is made coded = rw made (record { text = text; lies = lies; stands = is })
     text_told P (Err e) (Ok library) is made coded = absurd made
     text_told P (Err e) (Err code) is made coded = rw (coded e code made) (text_unread e is)
 
 -- ---- what becomes of it
 module _ (state : State) (body : List ℕ) (reply : ReplyValue) where
-  pub loss_refused : (library : TreeValue) (lost : Incompatibility) → AsksLibrary body library → first_lost library state.library ≡ Some lost → RefusesLoss (tag_at body) lost reply
+  pub loss_refused : (library : TreeValue) (lost : Incompatibility) → AsksLibrary body library → first_lost library state.library ≡ Some lost
+      → RefusesLoss (tag_at body) lost reply
       → Replacement state body reply state × (is_done reply ≡ false)
   loss_refused library lost asks is (inl told) = (
     inl (record {
@@ -53,9 +57,11 @@ module _ (state : State) (body : List ℕ) (reply : ReplyValue) where
     }),
     rw told refl,
   )
-  loss_refused library lost asks is (inr told) = (inr (inr (record { may = has_text body asks.text asks.lies (asks.stands.0, asks.stands.1.stands.short); answers = told; leaves = refl })), rw told refl)
+  loss_refused library lost asks is (inr told) =
+      (inr (inr (record { may = has_text body asks.text asks.lies (asks.stands.0, asks.stands.1.stands.short); answers = told; leaves = refl })), rw told refl)
 
-  pub replaces : (library : TreeValue) (new : State) → IsNextLibrary state body library → reply ≡ refusal (tag_at body) s_ok None → new ≡ record state { library = library } → Replacement state body reply new
+  pub replaces : (library : TreeValue) (new : State) → IsNextLibrary state body library → reply ≡ refusal (tag_at body) s_ok None
+      → new ≡ record state { library = library } → Replacement state body reply new
   replaces library new next told leaves = inl (record {
     library = library;
     asked = next.asked;

@@ -9,6 +9,7 @@ use Rattle.oa_decision.specs.promise.Limits.{allowed}
 use Rattle.oa_decision.specs.promise.States.{State}
 use Rattle.oa_decision.specs.promise.Decided.{ChangingTakesMemory, RequestTakesMemory, decided}
 
-pub wants : (state : State) (request : Request) (event : Event) (fields : List ℕ) → decided state request ≡ Ok (Change event fields) → IsOk (allowed state.bank event state.table)
+pub wants : (state : State) (request : Request) (event : Event) (fields : List ℕ) → decided state request ≡ Ok (Change event fields)
+    → IsOk (allowed state.bank event state.table)
     → RequestTakesMemory state request
 wants state request event fields h ok = inr (subst (λ (d : Result Decision Refusal). ChangingTakesMemory state d) (sym h) ok)

@@ -50,8 +50,11 @@ made_back (scalars.Bool b) = scalar_again (scalars.Bool b)
 made_back s = scalar_again s
 
 pub exact_scalars : CmpEqualImpliesEq scalar_cmp
-exact_scalars a b e = let h = both_equal (nat_cmp (key_type a) (key_type b)) (ordering_then (int_cmp (key_number a) (key_number b)) (ordering_then (text_cmp (text_of a) (text_of b)) (decimal_cmp (decimal_of a) (decimal_of b)))) e in
-    let k = both_equal (int_cmp (key_number a) (key_number b)) (ordering_then (text_cmp (text_of a) (text_of b)) (decimal_cmp (decimal_of a) (decimal_of b))) h.1 in
+exact_scalars a b e = let h =
+    both_equal (nat_cmp (key_type a) (key_type b))
+    (ordering_then (int_cmp (key_number a) (key_number b)) (ordering_then (text_cmp (text_of a) (text_of b)) (decimal_cmp (decimal_of a) (decimal_of b)))) e in
+    let k = both_equal (int_cmp (key_number a) (key_number b)) (ordering_then (text_cmp (text_of a) (text_of b)) (decimal_cmp (decimal_of a) (decimal_of b)))
+    h.1 in
     let l = both_equal (text_cmp (text_of a) (text_of b)) (decimal_cmp (decimal_of a) (decimal_of b)) k.1 in
     let n = exact_unsigned (key_type a) (key_type b) h.0 in
     let z = exact_signed (key_number a) (key_number b) k.0 in

@@ -55,11 +55,13 @@ behind_first : {A : Type 0} (w n : ℕ) (read : Decoder A) → Takes_bytes w rea
 unfolding many bind give
 behind_first {A} w n read takes rest s t xs e = first (read s) refl e
   where
-    others : (x : A) (u : Cursor) (o : Option (List A × Cursor)) → many read n u ≡ o → and_then o (λ ys. give (x ∷ ys)) ≡ Some (xs, t) → n * w + length t.rest ≤ length u.rest
+    others : (x : A) (u : Cursor) (o : Option (List A × Cursor)) → many read n u ≡ o → and_then o (λ ys. give (x ∷ ys)) ≡ Some (xs, t)
+        → n * w + length t.rest ≤ length u.rest
     others x u None r q = absurd (none-some (xs, t) q)
     others x u (Some ys) r q = let last : ys.1 ≡ t = ap (end_of u) q in rw (← last) (rest u ys.1 ys.0 r)
 
-    first : (o : Option (A × Cursor)) → read s ≡ o → and_then o (λ x. bind (many read n) (λ ys. give (x ∷ ys))) ≡ Some (xs, t) → suc n * w + length t.rest ≤ length s.rest
+    first : (o : Option (A × Cursor)) → read s ≡ o → and_then o (λ x. bind (many read n) (λ ys. give (x ∷ ys))) ≡ Some (xs, t)
+        → suc n * w + length t.rest ≤ length s.rest
     first None r q = absurd (none-some (xs, t) q)
     first (Some x) r q = omega (arith, takes s x.1 x.0 r, others x.0 x.1 (many read n x.1) refl q)
 
@@ -78,7 +80,8 @@ arm_takes types.Error some = absurd (omega (arith, some))
 arm_takes types.Decimal some = absurd (omega (arith, some))
 arm_takes types.Bstr some = absurd (omega (arith, some))
 arm_takes types.Variant some = absurd (omega (arith, some))
-arm_takes t some = made_of (number_bytes t) (integer_at (is_signed_type t) (number_bytes t)) (λ z. scalar_of t z None zero_decimal) (number_takes (is_signed_type t) (number_bytes t))
+arm_takes t some = made_of (number_bytes t) (integer_at (is_signed_type t) (number_bytes t)) (λ z. scalar_of t z None zero_decimal)
+    (number_takes (is_signed_type t) (number_bytes t))
 
 -- If there are fewer bytes than the elements need, the elements are not read.
 pub no_cells : (t : VarType) (n : ℕ) (s : Cursor) → leb (n * plain_width t) (length s.rest) ≡ false → many (arm_at t) n s ≡ None
@@ -93,4 +96,5 @@ no_cells t n s few = tried (plain_width t) refl
       where
         outcome : (o : Option (List Scalar × Cursor)) → many (arm_at t) n s ≡ o → o ≡ None
         outcome None r = refl
-        outcome (Some x) r = let there = many_take (plain_width t) (arm_at t) (arm_takes t (omega (arith, e))) n s x.1 x.0 r in absurd (omega (arith, there, short))
+        outcome (Some x) r = let there = many_take (plain_width t) (arm_at t) (arm_takes t (omega (arith, e))) n s x.1 x.0 r in
+            absurd (omega (arith, there, short))

@@ -42,11 +42,26 @@ bound_reads = bind_reads (unit 4) (λ (b : Bound). b.count) (unit_reads 4) (λ _
     made_reads (bound_of count) (signed_reads 4 w32) (λ lower _. (tt, refl)) (λ b p text h form. (b.lower, tt, bound_is b count h.1)))
 
 -- a fact of the value that the bytes before it say, and which the reading of the rest needs
-pub given_part : {C : Type 0} {P : C → Type 0} (Q : C → Type 0) {F : C → ℕ → List ℕ → Type 0} {read : Decoder C} → Reads (λ c. P c × Q c) F read → Reads P (λ c. given (Q c) ▸ F c) read
+pub given_part : {C : Type 0} {P : C → Type 0} (Q : C → Type 0) {F : C → ℕ → List ℕ → Type 0} {read : Decoder C} → Reads (λ c. P c × Q c) F read
+    → Reads P (λ c. given (Q c) ▸ F c) read
 given_part {C} {P} Q {F} {read} r = record {
   takes = λ p bytes c t e.
-      let one = r.takes p bytes c t e in
-      (one.0.0, record { text = one.1.text; parts = one.1.parts; place = one.1.place; form = record { front = []; back = one.1.text; parts = refl; first = record { fact = one.0.1; none = refl }; second = subst (λ (q : ℕ). F c q one.1.text) (omega arith) one.1.form } });
+      let one = r.takes p bytes c t e in (
+        one.0.0,
+        record {
+          text = one.1.text;
+          parts = one.1.parts;
+          place = one.1.place;
+          form = record {
+            front = [];
+            back = one.1.text;
+            parts = refl;
+            first = record { fact = one.0.1; none = refl };
+            second = subst
+                (λ (q : ℕ). F c q one.1.text) (omega arith) one.1.form;
+          };
+        },
+      );
   again = λ p text rest c h form.
       let same : text ≡ form.back = form.parts ∙ ap (λ (y : List ℕ). y ++ form.back) form.first.none in
       let place : p + length form.front ≡ p = omega (arith, ap length form.first.none) in
@@ -59,7 +74,8 @@ abbrev pub Fits : VarType → Scalar → Type 0
 Fits t v = FitsType v t
 
 -- Facts about the values that the form implies.
-known : {C : Type 0} {P : C → Type 0} {F : C → ℕ → List ℕ → Type 0} {read : Decoder C} → Reads Always F read → ((c : C) (p : ℕ) (text : List ℕ) → F c p text → P c) → Reads P F read
+known : {C : Type 0} {P : C → Type 0} {F : C → ℕ → List ℕ → Type 0} {read : Decoder C} → Reads Always F read
+    → ((c : C) (p : ℕ) (text : List ℕ) → F c p text → P c) → Reads P F read
 known r says = record {
   takes = λ p bytes c t e. let one = (r.takes p bytes c t e).1 in (says c p one.text one.form, one);
   again = λ p text rest c h form. r.again p text rest c tt form;
@@ -72,7 +88,8 @@ pointee_cell_reads : (t : VarType) (is_set : Bool) → Reads (Fits t) (cell_poin
 unfolding pointee_at text_cell_at variant_cell_at
 pointee_cell_reads types.Bstr is_set = known (made_from scalars.Bstr (pointee_reads is_set) (λ t. tt)) (text_fits is_set)
 pointee_cell_reads types.Variant true = known (choose_reads true (λ _. scalar_reads) (λ e. absurd cc)) (λ v p text form. inl refl)
-pointee_cell_reads types.Variant false = known (choose_reads false (λ e. absurd cc) (λ _. give_reads scalars.Empty tt refl (λ v _ e. e))) (λ v p text form. inl refl)
+pointee_cell_reads types.Variant false = known (choose_reads false (λ e. absurd cc) (λ _. give_reads scalars.Empty tt refl (λ v _ e. e)))
+    (λ v p text form. inl refl)
 pointee_cell_reads t is_set = fail_reads (λ v p text h form. form.fact)
 
 -- A number of elements, each of the type.
@@ -110,7 +127,8 @@ elements_reads t n = plain_reads t (λ e. absurd cc) n
 pub counted : (t : VarType) (bounds : List Bound) (n : ℕ) → is_count t bounds n ≡ true → IsArrayShape t bounds × (box_size bounds ≡ n)
 unfolding is_count
 counted t bounds n e =
-    let a4 = and_parts (is_some (sf_type_of t) && ltb 0 (length bounds) && leb (length bounds) max_dimensions && leb (box_size bounds) max_cells) (eqb (box_size bounds) n) e in
+    let a4 = and_parts (is_some (sf_type_of t) && ltb 0 (length bounds) && leb (length bounds) max_dimensions && leb (box_size bounds) max_cells)
+    (eqb (box_size bounds) n) e in
     let a3 = and_parts (is_some (sf_type_of t) && ltb 0 (length bounds) && leb (length bounds) max_dimensions) (leb (box_size bounds) max_cells) a4.0 in
     let a2 = and_parts (is_some (sf_type_of t) && ltb 0 (length bounds)) (leb (length bounds) max_dimensions) a3.0 in
     let a1 = and_parts (is_some (sf_type_of t)) (ltb 0 (length bounds)) a2.0 in
@@ -128,7 +146,8 @@ by_recursion P [] h = tt
 by_recursion P (v ∷ cells) h = (All-head P v cells h, by_recursion P cells (All-tail P v cells h))
 
 -- cells that were read make an array
-pub is_array : (t : VarType) (bounds : List Bound) (cells : List Scalar) (n : ℕ) → is_count t bounds n ≡ true → AreCells t n cells → IsUnlockedArray (array_with t bounds cells)
+pub is_array : (t : VarType) (bounds : List Bound) (cells : List Scalar) (n : ℕ) → is_count t bounds n ≡ true → AreCells t n cells
+    → IsUnlockedArray (array_with t bounds cells)
 is_array t bounds cells n e are =
     let c = counted t bounds n e in
     (record { shape = c.0; whole = are.0 ∙ sym c.1; typed = All-from_recursion (Fits t) cells are.1 }, refl)
@@ -145,13 +164,15 @@ are_cells : (a : ArrayValue Scalar) (t : VarType) (n : ℕ) → a.elem ≡ t →
 are_cells a t n e len plain = (len, subst (λ (j : VarType). AllByRecursion (Fits j) a.cells) e (by_recursion (Fits a.elem) a.cells plain.0.typed))
 
 -- the test that an array passes
-is_counted : (a : ArrayValue Scalar) (t : VarType) (bounds : List Bound) (n : ℕ) → a.elem ≡ t → a.bounds ≡ bounds → length a.cells ≡ n → IsUnlockedArray a → is_count t bounds n ≡ true
+is_counted : (a : ArrayValue Scalar) (t : VarType) (bounds : List Bound) (n : ℕ) → a.elem ≡ t → a.bounds ≡ bounds → length a.cells ≡ n → IsUnlockedArray a
+    → is_count t bounds n ≡ true
 is_counted a t bounds n e f g plain =
     let here : is_count a.elem a.bounds (length a.cells) ≡ true = counts a.elem a.bounds (length a.cells) plain.0.shape ∙ eq-eqb _ _ (sym plain.0.whole) in
     rw (← e, ← f, ← g) here
 
 cells_reads : (t : VarType) (bounds : List Bound) (dims size maximum : ℕ) → length bounds ≡ dims → maximum ≡ size → is_count t bounds size ≡ true
-    → Reads (λ (a : ArrayValue Scalar). (IsSized t dims size a × (a.bounds ≡ bounds)) × (length a.cells ≡ maximum)) (λ a. elements a.elem a.cells) (cells_at t bounds size)
+    → Reads (λ (a : ArrayValue Scalar). (IsSized t dims size a × (a.bounds ≡ bounds)) × (length a.cells ≡ maximum)) (λ a. elements a.elem a.cells)
+    (cells_at t bounds size)
 unfolding cells_at
 cells_reads t bounds dims size maximum is_dims whole_size counted =
     made_reads (array_with t bounds) (elements_reads t size)

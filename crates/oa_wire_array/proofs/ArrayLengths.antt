@@ -36,7 +36,13 @@ use Rattle.oa_wire_array.proofs.Widths.{IsWidth, of_width, one, two, four, eight
 unit_len : (n x : ℕ) (out : List ℕ) → length (put_unit n x out) ≡ length out + padding n (length out) + n
 unit_len n x out =
     let zeros : List ℕ = replicate (padding n (length out)) 0 in
-    omega (arith, length-append out (zeros ++ little_bytes n x), length-append zeros (little_bytes n x), length-replicate {A = ℕ} (padding n (length out)) 0, length-bytes_low_first 0 n x)
+    omega (
+      arith,
+      length-append out (zeros ++ little_bytes n x),
+      length-append zeros (little_bytes n x),
+      length-replicate {A = ℕ} (padding n (length out)) 0,
+      length-bytes_low_first 0 n x,
+    )
 
 pub align_len : (n : ℕ) (out : List ℕ) → length (put_align n out) ≡ length out + padding n (length out)
 align_len n out = omega (arith, length-append {A = ℕ} out (replicate (padding n (length out)) 0), length-replicate {A = ℕ} (padding n (length out)) 0)
@@ -51,7 +57,8 @@ stays : (p w : ℕ) → IsWidth w → p % w ≡ 0 → (p + w) % w ≡ 0
 stays p = of_width (λ w. p % w ≡ 0 → (p + w) % w ≡ 0) (λ h. omega (arith, h)) (λ h. omega (arith, h)) (λ h. omega (arith, h)) (λ h. omega (arith, h))
 
 pub lands : (p w : ℕ) → IsWidth w → (p + padding w p) % w ≡ 0
-lands p = of_width (λ w. (p + padding w p) % w ≡ 0) (at_one 1 (omega arith)) (at_two (eqb (p % 2) 0) refl) (at_four (eqb (p % 4) 0) refl) (at_eight (eqb (p % 8) 0) refl)
+lands p = of_width (λ w. (p + padding w p) % w ≡ 0) (at_one 1 (omega arith)) (at_two (eqb (p % 2) 0) refl) (at_four (eqb (p % 4) 0) refl)
+    (at_eight (eqb (p % 8) 0) refl)
   where
     at_one : (w : ℕ) → (p + padding 1 p) % 1 ≡ 0 → (p + padding 1 p) % 1 ≡ 0
     at_one w h = h
@@ -114,7 +121,8 @@ bstr_alike (Some text) = then_alike (unit_alike 4 131072 131072 four) (blob_alik
 
 decimal_alike : (d : DecimalValue) → Alike (put_decimal d) (put_decimal d)
 decimal_alike d =
-    then_alike align_alike (then_alike (unit_alike 2 0 0 two) (then_alike (unit_alike 1 d.scale d.scale one) (then_alike (unit_alike 1 (sign_of d.negative) (sign_of d.negative) one)
+    then_alike align_alike (then_alike (unit_alike 2 0 0 two)
+    (then_alike (unit_alike 1 d.scale d.scale one) (then_alike (unit_alike 1 (sign_of d.negative) (sign_of d.negative) one)
     (then_alike (unit_alike 4 _ _ four) (unit_alike 8 _ _ eight)))))
 
 number_alike : (signed : Bool) (n : ℕ) → IsWidth n → (z : ℤ) → Alike (put_number signed n z) (put_number signed n z)
@@ -137,7 +145,8 @@ put_rest size v out =
 rest_alike : (size other : ℕ) (v : Scalar) → Alike (put_rest size v) (put_rest other v)
 rest_alike size other v =
     then_alike (unit_alike 4 size other four) (then_alike (unit_alike 4 0 0 four) (then_alike (unit_alike 2 (scalar_vt v) (scalar_vt v) two)
-    (then_alike (unit_alike 2 0 0 two) (then_alike (unit_alike 2 0 0 two) (then_alike (unit_alike 2 0 0 two) (then_alike (unit_alike 4 (scalar_vt v) (scalar_vt v) four) (arm_alike v)))))))
+    (then_alike (unit_alike 2 0 0 two) (then_alike (unit_alike 2 0 0 two)
+    (then_alike (unit_alike 2 0 0 two) (then_alike (unit_alike 4 (scalar_vt v) (scalar_vt v) four) (arm_alike v)))))))
 
 -- A scalar has the same number of bytes at any offset.
 pub scalar_at_place : (v : Scalar) (out : List ℕ) → length (put_scalar v out) ≡ length out + padding 8 (length out) + scalar_len v
@@ -152,7 +161,8 @@ scalar_at_place v out =
 
 -- ---- cells
 
-pub referents_len : (t : VarType) (cells : List Scalar) (out : List ℕ) → length out % 4 ≡ 0 → length (put_all (put_cell_referent t) cells out) ≡ length out + 4 * length cells
+pub referents_len : (t : VarType) (cells : List Scalar) (out : List ℕ) → length out % 4 ≡ 0 → length (put_all (put_cell_referent t) cells out) ≡ length out + 4
+    * length cells
 referents_len t [] out h = omega arith
 referents_len t (v ∷ cells) out h =
     let first : length (put_cell_referent t v out) ≡ length out + 4 = unit_on 4 (cond (has_pointee t v) 131072 0) out h in
@@ -164,14 +174,16 @@ abbrev pub Runs : VarType → List Scalar → ℕ → ℕ → ℕ → Type 0
 Runs t cells i start now =
     (out : List ℕ) → length out ≡ start → (mid : List ℕ) × (length mid ≡ now) × (put_all (put_pointee t) (drop i cells) mid ≡ put_all (put_pointee t) cells out)
 
-pub runs_on : (t : VarType) (cells : List Scalar) (i start now next : ℕ) (d : Scalar) → i < length cells → ((out : List ℕ) → length out ≡ now → length (put_pointee t (get_or cells i d) out) ≡ next) → Runs t cells i start now → Runs t cells (i + 1) start next
+pub runs_on : (t : VarType) (cells : List Scalar) (i start now next : ℕ) (d : Scalar) → i < length cells
+    → ((out : List ℕ) → length out ≡ now → length (put_pointee t (get_or cells i d) out) ≡ next) → Runs t cells i start now → Runs t cells (i + 1) start next
 runs_on t cells i start now next d lt step so_far out e =
     let m = so_far out e in
     let k : put_all (put_pointee t) (drop i cells) m.0 ≡ put_all (put_pointee t) (drop (i + 1) cells) (put_pointee t (get_or cells i d) m.0) =
     ap (λ (xs : List Scalar). put_all (put_pointee t) xs m.0) (drop_more cells i d lt) in
     (put_pointee t (get_or cells i d) m.0, step m.0 m.1, sym k ∙ m.2)
 
-pub runs_end : (t : VarType) (cells : List Scalar) (i start now : ℕ) → length cells ≤ i → Runs t cells i start now → (out : List ℕ) → length out ≡ start → length (put_all (put_pointee t) cells out) ≡ now
+pub runs_end : (t : VarType) (cells : List Scalar) (i start now : ℕ) → length cells ≤ i → Runs t cells i start now → (out : List ℕ) → length out ≡ start
+    → length (put_all (put_pointee t) cells out) ≡ now
 runs_end t cells i start now le so_far out e =
     let m = so_far out e in
     let k : put_all (put_pointee t) (drop i cells) m.0 ≡ m.0 = ap (λ (xs : List Scalar). put_all (put_pointee t) xs m.0) (drop_all i cells le) in
@@ -185,11 +197,13 @@ some_width w = Some w
 width_is : (w k x : ℕ) (out : List ℕ) → some_width k ≡ Some w → length (put_unit k x out) ≡ length out + padding w (length out) + w
 width_is w k x out e = let same : k ≡ w = cc in subst (λ (n : ℕ). length (put_unit k x out) ≡ length out + padding n (length out) + n) same (unit_len k x out)
 
-number_width : (signed : Bool) (n w : ℕ) (z : ℤ) (out : List ℕ) → some_width n ≡ Some w → length (put_number signed n z out) ≡ length out + padding w (length out) + w
+number_width : (signed : Bool) (n w : ℕ) (z : ℤ) (out : List ℕ) → some_width n ≡ Some w → length (put_number signed n z out) ≡ length out + padding w
+    (length out) + w
 number_width true n w z out e = width_is w n _ out e
 number_width false n w z out e = width_is w n _ out e
 
-plain_arm : (v : Scalar) (w : ℕ) → element_size_of (type_of v) ≡ Some w → is_pointed (type_of v) ≡ false → (out : List ℕ) → length (put_arm v out) ≡ length out + padding w (length out) + w
+plain_arm : (v : Scalar) (w : ℕ) → element_size_of (type_of v) ≡ Some w → is_pointed (type_of v) ≡ false → (out : List ℕ)
+    → length (put_arm v out) ≡ length out + padding w (length out) + w
 plain_arm scalars.Empty w e h out = absurd cc
 plain_arm scalars.Null w e h out = absurd cc
 plain_arm (scalars.Bool b) w e h out = width_is w 2 _ out e
@@ -198,7 +212,8 @@ plain_arm (scalars.Bstr t) w e h out = absurd cc
 plain_arm (scalars.Decimal d) w e h out = absurd cc
 plain_arm v w e h out = number_width (is_signed_type (type_of v)) (number_bytes (type_of v)) w (key_number v) out e
 
-row : (t : VarType) (w : ℕ) → IsWidth w → element_size_of t ≡ Some w → is_pointed t ≡ false → (cells : List Scalar) → AllByRecursion (λ v. type_of v ≡ t) cells → (out : List ℕ) → length out % w ≡ 0
+row : (t : VarType) (w : ℕ) → IsWidth w → element_size_of t ≡ Some w → is_pointed t ≡ false → (cells : List Scalar) → AllByRecursion (λ v. type_of v ≡ t) cells
+    → (out : List ℕ) → length out % w ≡ 0
     → length (put_all put_arm cells out) ≡ length out + w * length cells
 row t w is e h [] all out even = of_width (λ k. length out ≡ length out + k * 0) (omega arith) (omega arith) (omega arith) (omega arith) w is
 row t w is e h (v ∷ cells) all out even =
@@ -208,7 +223,8 @@ row t w is e h (v ∷ cells) all out even =
     omega (arith, place, others, more_cells (length cells) w is)
 
 -- The end of elements without pointees, if there are some.
-pub row_from : (t : VarType) (w : ℕ) → IsWidth w → element_size_of t ≡ Some w → is_pointed t ≡ false → (cells : List Scalar) → AllByRecursion (λ v. type_of v ≡ t) cells → 0 < length cells → (out : List ℕ)
+pub row_from : (t : VarType) (w : ℕ) → IsWidth w → element_size_of t ≡ Some w → is_pointed t ≡ false → (cells : List Scalar)
+    → AllByRecursion (λ v. type_of v ≡ t) cells → 0 < length cells → (out : List ℕ)
     → length (put_all put_arm cells out) ≡ length out + padding w (length out) + w * length cells
 row_from t w is e h [] all some out = absurd (omega (arith, some))
 row_from t w is e h (v ∷ cells) all some out =
@@ -218,7 +234,8 @@ row_from t w is e h (v ∷ cells) all some out =
     omega (arith, first, others, more_cells (length cells) w is)
 
 -- the widths that there are
-pub size_is : (t : VarType) → is_some (sf_type_of t) ≡ true → is_pointed t ≡ false → (element_size_of t ≡ Some (unwrap_or (element_size_of t) 0)) × IsWidth (unwrap_or (element_size_of t) 0)
+pub size_is : (t : VarType) → is_some (sf_type_of t) ≡ true → is_pointed t ≡ false → (element_size_of t ≡ Some (unwrap_or (element_size_of t) 0))
+    × IsWidth (unwrap_or (element_size_of t) 0)
 size_is types.Bstr h p = absurd cc
 size_is types.Variant h p = absurd cc
 size_is types.Empty h p = absurd cc

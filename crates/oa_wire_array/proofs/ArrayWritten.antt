@@ -28,7 +28,8 @@ bound_writes : (b : Bound) → IsBound b → Writes (bound b) (put_bound b)
 unfolding IsBound
 bound_writes b h = then_writes (unit_writes 4 b.count h.0) (signed32_writes b.lower h.1)
 
-made_writes : {A C : Type 0} {make : A → C} {F : A → ℕ → List ℕ → Type 0} {c : C} {put : List ℕ → List ℕ} (value : A) → make value ≡ c → Writes (F value) put → Writes (made make F c) put
+made_writes : {A C : Type 0} {make : A → C} {F : A → ℕ → List ℕ → Type 0} {c : C} {put : List ℕ → List ℕ} (value : A) → make value ≡ c → Writes (F value) put
+    → Writes (made make F c) put
 made_writes value e w = record {
   adds = λ out. let one = w.adds out in record { text = one.text; parts = one.parts; form = record { value = value; is = e; form = one.form } };
 }
@@ -50,12 +51,14 @@ text_cell_writes : (v : Scalar) → IsCell types.Bstr v → Writes (cell_pointee
 text_cell_writes v (inl e, h) = absurd cc
 text_cell_writes v (inr e, h) = text_writes v e h
 
-pointees_write : {P : Scalar → Type 0} (t : VarType) → ((v : Scalar) → P v → Writes (cell_pointee t (has_pointee t v) v) (put_pointee t v)) → (cells : List Scalar) → AllByRecursion P cells
+pointees_write : {P : Scalar → Type 0} (t : VarType) → ((v : Scalar) → P v → Writes (cell_pointee t (has_pointee t v) v) (put_pointee t v))
+    → (cells : List Scalar) → AllByRecursion P cells
     → Writes (pairwise (cell_pointee t) (map (has_pointee t) cells) cells) (put_all (put_pointee t) cells)
 pointees_write t w [] all = nothing_writes
 pointees_write t w (v ∷ cells) all = then_writes (w v all.0) (pointees_write t w cells all.1)
 
-pointed_writes : {P : Scalar → Type 0} (t : VarType) → ((v : Scalar) → P v → Writes (cell_pointee t (has_pointee t v) v) (put_pointee t v)) → (cells : List Scalar) → AllByRecursion P cells
+pointed_writes : {P : Scalar → Type 0} (t : VarType) → ((v : Scalar) → P v → Writes (cell_pointee t (has_pointee t v) v) (put_pointee t v))
+    → (cells : List Scalar) → AllByRecursion P cells
     → Writes (pointed t cells) (put_pointed t cells)
 pointed_writes t w cells all = with_writes (map (has_pointee t) cells) (then_writes (referents_write t cells) (pointees_write t w cells all))
 
@@ -76,10 +79,12 @@ all_bounds : (bounds : List Bound) → All IsBound bounds → AllByRecursion IsB
 all_bounds [] h = tt
 all_bounds (b ∷ bounds) h = (All-head IsBound b bounds h, all_bounds bounds (All-tail IsBound b bounds h))
 
-dimensions_writes : (a : ArrayValue Scalar) → IsArray FitsType a → All IsScalar a.cells → All IsBound a.bounds → Writes (dimensions a) (λ out. put_elements a.elem a.cells (put_unit 4 (length a.cells) (put_all put_bound a.bounds out)))
+dimensions_writes : (a : ArrayValue Scalar) → IsArray FitsType a → All IsScalar a.cells → All IsBound a.bounds
+    → Writes (dimensions a) (λ out. put_elements a.elem a.cells (put_unit 4 (length a.cells) (put_all put_bound a.bounds out)))
 dimensions_writes a is cells bounds =
     let few : length a.cells < 256 ^ 4 = omega (arith, is.whole, is.shape.small) in
-    then_writes (each_writes bound_writes a.bounds (all_bounds a.bounds bounds)) (then_writes (unit_writes 4 (length a.cells) few) (elements_writes a.elem a.cells (all_cells a.elem a.cells is.typed cells)))
+    then_writes (each_writes bound_writes a.bounds (all_bounds a.bounds bounds))
+    (then_writes (unit_writes 4 (length a.cells) few) (elements_writes a.elem a.cells (all_cells a.elem a.cells is.typed cells)))
 
 -- the sfType that is written
 sf_is : (t : VarType) → is_some (sf_type_of t) ≡ true → (sf_type_of t ≡ Some (unwrap_or (sf_type_of t) 0)) × (unwrap_or (sf_type_of t) 0 < 256 ^ 4)
@@ -98,6 +103,8 @@ array_writes a is cells bounds =
     let plain : IsUnlockedArray (with_locks a 0) = (record { shape = is.shape; whole = is.whole; typed = is.typed }, refl) in
     then_writes (given_writes plain) (then_writes (referent_writes true)
     (then_writes (unit_writes 4 (length a.bounds) (omega (arith, dims))) (then_writes (unit_writes 2 (length a.bounds) dims)
-    (then_writes (ignored_writes 2 (features_of a.elem)) (then_writes (ignored_writes 4 (unwrap_or (element_size_of a.elem) 0)) (then_writes (ignored_writes 4 (vt_of a.elem * 65536))
+    (then_writes (ignored_writes 2 (features_of a.elem))
+    (then_writes (ignored_writes 4 (unwrap_or (element_size_of a.elem) 0)) (then_writes (ignored_writes 4 (vt_of a.elem * 65536))
     (with_writes (unwrap_or (sf_type_of a.elem) 0) (then_writes (unit_writes 4 (unwrap_or (sf_type_of a.elem) 0) sf.1)
-    (then_writes (given_writes sf.0) (then_writes (unit_writes 4 (length a.cells) few) (then_writes (ignored_writes 4 131072) (dimensions_writes a is cells bounds))))))))))))
+    (then_writes (given_writes sf.0) (then_writes (unit_writes 4 (length a.cells) few)
+    (then_writes (ignored_writes 4 131072) (dimensions_writes a is cells bounds))))))))))))

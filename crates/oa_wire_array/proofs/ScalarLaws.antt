@@ -51,7 +51,8 @@ sign_reads = with_reads (unit_reads 1) (λ c a p text _ _. tt) (λ x _.
     (λ set. give_reads true tt (eqb-true x 128 set) (λ b _ e. sign_true b (sym e ∙ eqb-true x 128 set)))
     (λ not_set. fail_reads (λ b p text _ form. no_sign b x not_zero not_set form.fact))))
 
-decimal_is : (d : DecimalValue) (negative : Bool) (scale high low : ℕ) → d.negative ≡ negative → d.scale ≡ scale → d.magnitude ≡ high * 2 ^ 64 + low → d ≡ the_decimal negative scale high low
+decimal_is : (d : DecimalValue) (negative : Bool) (scale high low : ℕ) → d.negative ≡ negative → d.scale ≡ scale → d.magnitude ≡ high * 2 ^ 64 + low
+    → d ≡ the_decimal negative scale high low
 decimal_is d negative scale high low a b c = rw (← a, ← b, ← c) refl
 
 decimal_reads : Reads Always decimal decimal_at
@@ -81,7 +82,8 @@ no_variant : (v : Scalar) → type_of v ≡ types.Variant → ⊥
 no_variant scalars.Empty e = absurd cc
 no_variant v e = absurd cc
 
-arm_takes : (t : VarType) (p : ℕ) (bytes : List ℕ) (v : Scalar) (end : Cursor) → arm_at t (at p bytes) ≡ Some (v, end) → (type_of v ≡ t) × Takes (arm v) p bytes end
+arm_takes : (t : VarType) (p : ℕ) (bytes : List ℕ) (v : Scalar) (end : Cursor) → arm_at t (at p bytes) ≡ Some (v, end) → (type_of v ≡ t)
+    × Takes (arm v) p bytes end
 unfolding arm_at
 arm_takes types.Empty = nothing_takes (λ v. type_of v ≡ types.Empty) arm scalars.Empty refl (λ p. refl)
 arm_takes types.Null = nothing_takes (λ v. type_of v ≡ types.Null) arm scalars.Null refl (λ p. refl)
@@ -99,12 +101,14 @@ arm_again p text rest (scalars.Bool x) form = made_again arm scalars.Bool truth_
 arm_again p text rest (scalars.Bstr x) form = made_again arm scalars.Bstr bstr_reads p text rest x tt form
 arm_again p text rest (scalars.Decimal x) form = made_again arm scalars.Decimal decimal_reads p text rest x tt form
 arm_again p text rest v form =
-    made_again arm (λ z. scalar_of (type_of v) z None zero_decimal) (number_reads (is_signed_type (type_of v)) (number_bytes (type_of v))) p text rest (key_number v) refl form
+    made_again arm (λ z. scalar_of (type_of v) z None zero_decimal) (number_reads (is_signed_type (type_of v)) (number_bytes (type_of v))) p text rest
+    (key_number v) refl form
 
 pub arm_reads : (t : VarType) → Reads (λ v. type_of v ≡ t) arm (arm_at t)
 arm_reads t = record {
   takes = arm_takes t;
-  again = λ p text rest v h form. subst (λ (j : VarType). arm_at j (at p (text ++ rest)) ≡ Some (v, at (p + length text) rest)) h (arm_again p text rest v form);
+  again = λ p text rest v h form. subst (λ (j : VarType). arm_at j (at p (text ++ rest)) ≡ Some (v, at (p + length text) rest)) h
+      (arm_again p text rest v form);
 }
 
 pub type_at_vt : (t : VarType) → type_at (vt_of t) ≡ Some t
@@ -118,7 +122,8 @@ pub same_type : (t j : VarType) → some_type t ≡ Some j → t ≡ j
 same_type t j e = cc
 
 -- the test of one number
-tried : (vt n : ℕ) (j : VarType) (other : Option VarType) (t : VarType) → vt_of j ≡ n → cond (eqb vt n) (Some j) other ≡ Some t → (other ≡ Some t → vt_of t ≡ vt) → vt_of t ≡ vt
+tried : (vt n : ℕ) (j : VarType) (other : Option VarType) (t : VarType) → vt_of j ≡ n → cond (eqb vt n) (Some j) other ≡ Some t
+    → (other ≡ Some t → vt_of t ≡ vt) → vt_of t ≡ vt
 tried vt n j other t is e next = by_test (eqb vt n) refl e
   where
     by_test : (b : Bool) → eqb vt n ≡ b → cond b (Some j) other ≡ Some t → vt_of t ≡ vt

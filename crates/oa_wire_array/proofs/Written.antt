@@ -39,7 +39,9 @@ in_bytes z = of_width (λ n. FitsSigned (width_of n) z → cast_unsigned (width_
     (λ fits. let f : FitsSigned w64 z = fits in let small : cast_unsigned w64 z < 256 ^ 8 = omega (arith, Fits-of_z f) in small)
 
 signed_writes : (n : ℕ) → IsWidth n → (z : ℤ) → FitsSigned (width_of n) z → Writes (signed_unit n (width_of n) z) (put_unit n (cast_unsigned (width_of n) z))
-signed_writes n is z fits = with_writes (cast_unsigned (width_of n) z) (then_writes (unit_writes n (cast_unsigned (width_of n) z) (in_bytes z n is fits)) (given_writes (sym (to_z-of_z fits))))
+signed_writes n is z fits =
+    with_writes (cast_unsigned (width_of n) z)
+    (then_writes (unit_writes n (cast_unsigned (width_of n) z) (in_bytes z n is fits)) (given_writes (sym (to_z-of_z fits))))
 
 pub signed32_writes : (z : ℤ) → FitsSigned w32 z → Writes (signed_unit 4 w32 z) (put_unit 4 (cast_unsigned w32 z))
 signed32_writes z fits = signed_writes 4 four z fits
@@ -71,11 +73,14 @@ decimal_writes d small fits =
     (with_writes (d.magnitude % 2 ^ 64) (then_writes (unit_writes 8 (d.magnitude % 2 ^ 64) low) (given_writes (small, parts)))))))))
 
 pub blob_writes : (t : Option (List ℕ)) → length (bytes_of t) ≤ max_text_bytes → Writes (blob t) (put_blob t)
-blob_writes None h = then_writes (unit_writes 4 0 (omega arith)) (then_writes (unit_writes 4 4294967295 (omega arith)) (then_writes (unit_writes 4 0 (omega arith)) nothing_writes))
+blob_writes None h =
+    then_writes (unit_writes 4 0 (omega arith))
+    (then_writes (unit_writes 4 4294967295 (omega arith)) (then_writes (unit_writes 4 0 (omega arith)) nothing_writes))
 blob_writes (Some text) h =
     let units_small : units (length text) < 256 ^ 4 = omega arith in
     then_writes (unit_writes 4 (units (length text)) units_small) (then_writes (unit_writes 4 (length text) (omega arith))
-    (then_writes (unit_writes 4 (units (length text)) units_small) (then_writes (bytes_writes text) (then_writes (any_writes (length text % 2)) (given_writes h)))))
+    (then_writes (unit_writes 4 (units (length text)) units_small)
+    (then_writes (bytes_writes text) (then_writes (any_writes (length text % 2)) (given_writes h)))))
 
 bstr_writes : (t : Option (List ℕ)) → length (bytes_of t) ≤ max_text_bytes → Writes (bstr t) (put_bstr t)
 bstr_writes None h = with_writes false (then_writes (referent_writes false) (given_writes refl))
@@ -94,7 +99,8 @@ sized_writes size v h =
     let vt = scalar_vt v in
     let small : vt < 32 = vt_small (type_of v) in
     then_writes (align_writes 8) (then_writes (ignored_writes 4 size) (then_writes (ignored_writes 4 0) (then_writes (unit_writes 2 vt (omega arith))
-    (then_writes (ignored_writes 2 0) (then_writes (ignored_writes 2 0) (then_writes (ignored_writes 2 0) (then_writes (unit_writes 4 vt (omega arith)) (arm_writes v h))))))))
+    (then_writes (ignored_writes 2 0) (then_writes (ignored_writes 2 0)
+    (then_writes (ignored_writes 2 0) (then_writes (unit_writes 4 vt (omega arith)) (arm_writes v h))))))))
 
 pub scalar_writes : (v : Scalar) → IsScalar v → Writes (scalar v) (put_scalar v)
 scalar_writes v h = sized_writes (cl_size v) v h

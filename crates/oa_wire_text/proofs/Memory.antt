@@ -23,7 +23,14 @@ pub referent_there : (s t : Cursor) (b : Bool) → referent_at s ≡ Some (b, t)
 referent_there s t b e =
     let one = (referent_reads.takes s.position s.rest b t e).1 in
     let front = one.form.form.first in
-    omega (arith, ap length one.parts, length-append one.text t.rest, ap length one.form.form.parts, length-append one.form.form.front one.form.form.back, front.len)
+    omega (
+      arith,
+      ap length one.parts,
+      length-append one.text t.rest,
+      ap length one.form.form.parts,
+      length-append one.form.form.front one.form.form.back,
+      front.len,
+    )
 
 -- A fact that always holds also holds after a failed allocation.
 pub anyhow : {A : Type 0} {P : Type 0} (r : Result A StubFault) → P → OnMemory r P

@@ -118,9 +118,11 @@ pub variant_writes : (v : Variant) → IsVariant v → Writes (variant (unlocked
 variant_writes (One s) h = scalar_writes s h
 variant_writes (Array a) h =
     let small = vt_small a.elem in
-    then_writes (align_writes 8) (then_writes (ignored_writes 4 ((array_len a + 7) / 8 % 2 ^ 32)) (then_writes (ignored_writes 4 0) (then_writes (unit_writes 2 (vt_of a.elem + 8192) (omega (arith, small)))
+    then_writes (align_writes 8) (then_writes (ignored_writes 4 ((array_len a + 7) / 8 % 2 ^ 32))
+    (then_writes (ignored_writes 4 0) (then_writes (unit_writes 2 (vt_of a.elem + 8192) (omega (arith, small)))
     (then_writes (ignored_writes 2 0) (then_writes (ignored_writes 2 0) (then_writes (ignored_writes 2 0)
-    (with_writes 8192 (then_writes (unit_writes 4 8192 (omega arith)) (then_writes (given_writes (inl refl)) (then_writes (referent_writes true) (array_writes a h.0 h.1 h.2)))))))))))
+    (with_writes 8192 (then_writes (unit_writes 4 8192 (omega arith))
+    (then_writes (given_writes (inl refl)) (then_writes (referent_writes true) (array_writes a h.0 h.1 h.2)))))))))))
 
 -- The result of `read_array` is that of the decoder.
 abbrev AsRead : Result (ArrayValue Scalar) WireFault → Cursor → Option (ArrayValue Scalar × Cursor) → Type 0
@@ -147,7 +149,8 @@ untyped t a old end none e stretch =
 abbrev done : ArrayValue Scalar → Cursor → Option (ArrayValue Scalar × Cursor)
 done a s = Some (a, s)
 
-array_answers : (t : VarType) (result : Result (ArrayValue Scalar) WireFault) (old new : Cursor) → IsArrayFront t result old new → AsRead result new (array_at t old)
+array_answers : (t : VarType) (result : Result (ArrayValue Scalar) WireFault) (old new : Cursor) → IsArrayFront t result old new
+    → AsRead result new (array_at t old)
 array_answers t (Ok a) old new h =
     let s = h.1 in
     let again = (array_reads t).again old.position s.text new.rest a h.0 s.form in
@@ -159,9 +162,11 @@ array_answers t (Err BadVarType) old new h = no_array t old (λ a end e stretch.
 array_answers t (Err Memory) old new h = tt
 
 -- The result made of it: the array, or the conversion of each error.
-pub array_told : (P : WireFault → StubFault → Type 0) (t : VarType) (from : Result (ArrayValue Scalar) WireFault) (to : Result (ArrayValue Scalar) StubFault) (old new : Cursor)
+pub array_told : (P : WireFault → StubFault → Type 0) (t : VarType) (from : Result (ArrayValue Scalar) WireFault) (to : Result (ArrayValue Scalar) StubFault)
+    (old new : Cursor)
     → IsArrayFront t from old new → MatchResult from (λ a. to ≡ Ok a) (λ e. IsErrAnd to (P e))
-    → ((f : StubFault) → P BadStub f → f ≡ faults.BadStub) → ((f : StubFault) → P BadVarType f → f ≡ faults.BadStub) → ((f : StubFault) → P Memory f → f ≡ faults.Memory)
+    → ((f : StubFault) → P BadStub f → f ≡ faults.BadStub) → ((f : StubFault) → P BadVarType f → f ≡ faults.BadStub)
+    → ((f : StubFault) → P Memory f → f ≡ faults.Memory)
     → ReadsField to new (array_at t old)
 array_told P t (Ok a) to old new h is stub type memory = rw is (array_answers t (Ok a) old new h)
 array_told P t (Err e) (Ok a) old new h is stub type memory = absurd is
@@ -170,7 +175,8 @@ array_told P t (Err BadVarType) (Err f) old new h is stub type memory = rw (type
 array_told P t (Err Memory) (Err f) old new h is stub type memory = rw (memory f is) tt
 
 -- `Memory` is the result only of `Memory`.
-pub array_starved : (P : WireFault → StubFault → Type 0) (t : VarType) (from : Result (ArrayValue Scalar) WireFault) (to : Result (ArrayValue Scalar) StubFault) (old new : Cursor)
+pub array_starved : (P : WireFault → StubFault → Type 0) (t : VarType) (from : Result (ArrayValue Scalar) WireFault) (to : Result (ArrayValue Scalar) StubFault)
+    (old new : Cursor)
     → IsArrayFront t from old new → MatchResult from (λ a. to ≡ Ok a) (λ e. IsErrAnd to (P e))
     → ((f : StubFault) → P BadStub f → f ≡ faults.BadStub) → ((f : StubFault) → P BadVarType f → f ≡ faults.BadStub)
     → OnMemory to (IsSome (sf_type_of t) × (32 ≤ length old.rest))

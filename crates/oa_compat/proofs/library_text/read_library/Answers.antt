@@ -17,4 +17,5 @@ returns-in_err-parse c =
     rw (p.1, p.2)
     (parse_read c.args.bytes.now c.in_err-parse.field-0.0 c.in-Ok.ensures.cases.1
     (subst (λ (bs : List ℕ). AnswersText bs (Err c.in_err-parse.field-0.0)) c.in-Ok.ensures.cases.0 c.in_err-parse.ensures.exact)
-    (subst (λ (bs : List ℕ). (t : TreeValue) → IsTree bs t → AnswersTree t (Err c.in_err-parse.field-0.0)) c.in-Ok.ensures.cases.0 c.in_err-parse.ensures.found))
+    (subst (λ (bs : List ℕ). (t : TreeValue) → IsTree bs t → AnswersTree t (Err c.in_err-parse.field-0.0)) c.in-Ok.ensures.cases.0
+    c.in_err-parse.ensures.found))

@@ -10,11 +10,13 @@ returns-in_err-default c =
     c.from_residual.ensures
     ∙ sym
     (searches.default_before c.args.old.now.items (slice_get c.args.old.now.items c.args.place)
-    ∙ ap (λ (o : Option ℕ). option_map (λ (i : InterfaceValue). i.guid) (option_and_then as_interface (option_and_then (slice_get c.args.old.now.items) o))) (sym c.in_err-default.ensures))
+    ∙ ap (λ (o : Option ℕ). option_map (λ (i : InterfaceValue). i.guid) (option_and_then as_interface (option_and_then (slice_get c.args.old.now.items) o)))
+    (sym c.in_err-default.ensures))
 
 pub returns : goal.returns
 returns c =
     c.guid_of.ensures ∙ ap (option_map (λ (i : InterfaceValue). i.guid)) c.interface_at.ensures
     ∙ sym
     (searches.default_before c.args.old.now.items (slice_get c.args.old.now.items c.args.place)
-    ∙ ap (λ (o : Option ℕ). option_map (λ (i : InterfaceValue). i.guid) (option_and_then as_interface (option_and_then (slice_get c.args.old.now.items) o))) (sym c.in_ok-default.ensures))
+    ∙ ap (λ (o : Option ℕ). option_map (λ (i : InterfaceValue). i.guid) (option_and_then as_interface (option_and_then (slice_get c.args.old.now.items) o)))
+    (sym c.in_ok-default.ensures))

@@ -5,4 +5,5 @@ use Rattle.oa_sema.specs.promise.Repeats.{first_answer}
 use Rattle.oa_compat.proofs.lost.first_class.Given as goal
 
 abbrev pub invariant-items : goal.invariant-items
-invariant-items l = first_answer (lost_class l.fn.new l.fn.old) (classes_of (drop l.place l.fn.old.items)) ≡ first_answer (lost_class l.fn.new l.fn.old) (classes_of l.fn.old.items)
+invariant-items l = first_answer (lost_class l.fn.new l.fn.old) (classes_of (drop l.place l.fn.old.items)) ≡ first_answer (lost_class l.fn.new l.fn.old)
+    (classes_of l.fn.old.items)

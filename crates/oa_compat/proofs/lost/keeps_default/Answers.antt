@@ -10,7 +10,10 @@ use Rattle.oa_compat.proofs.lost.keeps_default.Goals as goal
 pub returns : goal.returns
 returns c =
     c.eq.ensures
-    ∙ ap (λ (o : Option (List ℕ)). option_eq same o c.guid_of-after.result) (c.default_before.ensures ∙ ap (λ (o : Option Item). option_and_then (default_guid c.args.old.now.items) (option_and_then as_class o)) c.requires.there)
+    ∙ ap (λ (o : Option (List ℕ)). option_eq same o c.guid_of-after.result)
+    (c.default_before.ensures ∙ ap (λ (o : Option Item). option_and_then (default_guid c.args.old.now.items) (option_and_then as_class o)) c.requires.there)
     ∙ ap (option_eq same (default_guid c.args.old.now.items c.args.was.now))
-    (c.guid_of-after.ensures ∙ ap (option_map (λ (i : InterfaceValue). i.guid)) (c.default_interface.ensures ∙ ap (λ (g : List ℕ). option_and_then (default_interface c.args.new.now.items) (class_of c.args.new.now g)) (ap (λ (k : _). k.guid) c.was.view_is))
+    (c.guid_of-after.ensures ∙ ap (option_map (λ (i : InterfaceValue). i.guid))
+    (c.default_interface.ensures ∙ ap (λ (g : List ℕ). option_and_then (default_interface c.args.new.now.items) (class_of c.args.new.now g))
+    (ap (λ (k : _). k.guid) c.was.view_is))
     ∙ default_now c.args.new.now.items (class_of c.args.new.now c.args.was.now.guid) c.args.now.now c.requires.found)

@@ -10,14 +10,16 @@ returns-then-is_some c =
     let f = lost_form c.args.now.now c.args.was.now c.args.puts in
     let x = get_or c.args.places.now c.places.place-index 0 in
     each_found f c.args.places.now c.places.place-index (first_answer f c.args.places.now) x c.lost_form-lost.result c.places-test.true
-    (get_or_default c.args.places.now c.places.place-index 0 x c.places-test.true) c.places.invariant c.lost_form-lost.ensures (sym c.is_some.ensures ∙ c.if-is_some.true)
+    (get_or_default c.args.places.now c.places.place-index 0 x c.places-test.true) c.places.invariant c.lost_form-lost.ensures
+    (sym c.is_some.ensures ∙ c.if-is_some.true)
 
 pub places-preserved : goal.places-preserved
 places-preserved c =
     let f = lost_form c.args.now.now c.args.was.now c.args.puts in
     let x = get_or c.args.places.now c.places.place-index 0 in
     each_on f c.args.places.now c.places.place-index (first_answer f c.args.places.now) x c.lost_form-lost.result c.places-test.true
-    (get_or_default c.args.places.now c.places.place-index 0 x c.places-test.true) c.places.invariant c.lost_form-lost.ensures (sym c.is_some.ensures ∙ c.if-is_some.false)
+    (get_or_default c.args.places.now c.places.place-index 0 x c.places-test.true) c.places.invariant c.lost_form-lost.ensures
+    (sym c.is_some.ensures ∙ c.if-is_some.false)
 
 pub returns : goal.returns
 returns c =

@@ -14,7 +14,8 @@ returns-then-any_keeps c =
     let f : SFits w32 c.was.inside.id = search rules in
     let id : to_z w32 (of_z w32 c.was.inside.id) ≡ c.args.was.now.id = to_z-of_z f ∙ ap (λ (d : DeclarationValue). d.id) c.was.view_is in
     kept_none c.args.now.now c.args.was.now c.any_keeps.result
-    (c.any_keeps.ensures ∙ ap (list_any (is_kept_by c.args.was.now)) (c.places_with.ensures ∙ ap (λ z. forms_with z c.args.now.now) id) ∙ among_forms c.args.now.now c.args.was.now)
+    (c.any_keeps.ensures ∙ ap (list_any (is_kept_by c.args.was.now)) (c.places_with.ensures ∙ ap (λ z. forms_with z c.args.now.now) id)
+    ∙ among_forms c.args.now.now c.args.was.now)
     c.if-any_keeps.true
 
 pub returns-else-any_keeps : goal.returns-else-any_keeps
@@ -23,5 +24,6 @@ returns-else-any_keeps c =
     let id : to_z w32 (of_z w32 c.was.inside.id) ≡ c.args.was.now.id = to_z-of_z f ∙ ap (λ (d : DeclarationValue). d.id) c.was.view_is in
     ap (λ (z : ℤ). Some z) id
     ∙ lost_some c.args.now.now c.args.was.now c.any_keeps.result
-    (c.any_keeps.ensures ∙ ap (list_any (is_kept_by c.args.was.now)) (c.places_with.ensures ∙ ap (λ z. forms_with z c.args.now.now) id) ∙ among_forms c.args.now.now c.args.was.now)
+    (c.any_keeps.ensures ∙ ap (list_any (is_kept_by c.args.was.now)) (c.places_with.ensures ∙ ap (λ z. forms_with z c.args.now.now) id)
+    ∙ among_forms c.args.now.now c.args.was.now)
     c.if-any_keeps.false

@@ -12,17 +12,24 @@ members-init c = of_groups c.args.now.now c.args.was.now c.groups-groups.result.
 
 pub returns-then-is_some : goal.returns-then-is_some
 returns-then-is_some c =
-    each_found (of_places c.args.now.now c.args.was.now) c.groups-groups.result.now c.members.places-index (lost_member c.args.now.now c.args.was.now) c.places-item.result c.lost_of_member-lost.result c.members-test.true
+    each_found (of_places c.args.now.now c.args.was.now) c.groups-groups.result.now c.members.places-index
+    (lost_member c.args.now.now c.args.was.now) c.places-item.result c.lost_of_member-lost.result c.members-test.true
     c.places-item.is c.members.invariant
-    (c.lost_of_member-lost.ensures ∙ ap (λ (ps : List ℕ). first_answer (lost_declaration c.args.now.now) (put_last (filter_map (slice_get (declarations c.args.was.now)) ps))) c.as_slice.ensures.value)
+    (c.lost_of_member-lost.ensures
+    ∙ ap (λ (ps : List ℕ). first_answer (lost_declaration c.args.now.now) (put_last (filter_map (slice_get (declarations c.args.was.now)) ps)))
+    c.as_slice.ensures.value)
     (sym c.is_some.ensures ∙ c.if-is_some.true)
 
 pub members-preserved : goal.members-preserved
 members-preserved c =
-    each_on (of_places c.args.now.now c.args.was.now) c.groups-groups.result.now c.members.places-index (lost_member c.args.now.now c.args.was.now) c.places-item.result c.lost_of_member-lost.result c.members-test.true
+    each_on (of_places c.args.now.now c.args.was.now) c.groups-groups.result.now c.members.places-index
+    (lost_member c.args.now.now c.args.was.now) c.places-item.result c.lost_of_member-lost.result c.members-test.true
     c.places-item.is c.members.invariant
-    (c.lost_of_member-lost.ensures ∙ ap (λ (ps : List ℕ). first_answer (lost_declaration c.args.now.now) (put_last (filter_map (slice_get (declarations c.args.was.now)) ps))) c.as_slice.ensures.value)
+    (c.lost_of_member-lost.ensures
+    ∙ ap (λ (ps : List ℕ). first_answer (lost_declaration c.args.now.now) (put_last (filter_map (slice_get (declarations c.args.was.now)) ps)))
+    c.as_slice.ensures.value)
     (sym c.is_some.ensures ∙ c.if-is_some.false)
 
 pub returns : goal.returns
-returns c = each_done (of_places c.args.now.now c.args.was.now) c.groups-groups.result.now c.members.places-index (lost_member c.args.now.now c.args.was.now) c.members-test.false c.members.invariant
+returns c = each_done (of_places c.args.now.now c.args.was.now) c.groups-groups.result.now c.members.places-index
+    (lost_member c.args.now.now c.args.was.now) c.members-test.false c.members.invariant

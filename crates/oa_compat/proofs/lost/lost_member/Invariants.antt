@@ -8,5 +8,6 @@ use Rattle.oa_compat.proofs.lost.lost_member.Given as goal
 
 abbrev pub invariant-members : goal.invariant-members
 invariant-members l =
-    first_answer (λ (ps : Vec ℕ Global). first_answer (lost_declaration l.fn.now) (put_last (filter_map (slice_get (declarations l.fn.was)) ps.items))) (drop l.places-index l.groups)
+    first_answer (λ (ps : Vec ℕ Global). first_answer (lost_declaration l.fn.now) (put_last (filter_map (slice_get (declarations l.fn.was)) ps.items)))
+    (drop l.places-index l.groups)
     ≡ lost_member l.fn.now l.fn.was

@@ -5,7 +5,8 @@ use Rattle.oa_formats.proofs.image.read_exactly.Goals as goal
 
 pub returns-then-is_done : goal.returns-then-is_done
 returns-then-is_done g c = record {
-  exact = read_to_its_end g.F.ReadImage.format c.args.bytes.now c.in-Ok.value c.read.new.r (all_bytes c.args.bytes.now (λ i. omega (arith, c.type_inv.bytes i))) (rw (← c.new-r.ensures) c.in-Ok.ensures) (c.if-is_done.ensures.0 refl);
+  exact = read_to_its_end g.F.ReadImage.format c.args.bytes.now c.in-Ok.value c.read.new.r (all_bytes c.args.bytes.now (λ i. omega (arith, c.type_inv.bytes i)))
+      (rw (← c.new-r.ensures) c.in-Ok.ensures) (c.if-is_done.ensures.0 refl);
 }
 
 pub returns-else-is_done : goal.returns-else-is_done
@@ -21,5 +22,7 @@ returns-else-is_done g c =
 
 pub returns-in-Err : goal.returns-in-Err
 returns-in-Err g c = record {
-  exact = rw c.placed.ensures (refused g.F.ReadImage.format c.args.bytes.now c.in-Err.fault c.read.new.r c.place_in-in-Err.result (rw (← c.new-r.ensures) c.in-Err.ensures) c.place_in-in-Err.ensures.within);
+  exact =
+      rw c.placed.ensures (refused g.F.ReadImage.format c.args.bytes.now c.in-Err.fault c.read.new.r c.place_in-in-Err.result
+      (rw (← c.new-r.ensures) c.in-Err.ensures) c.place_in-in-Err.ensures.within);
 }

@@ -16,5 +16,6 @@ invariant-turns g l = record {
   unbroken : (ahead g.R.Source.input l.reader).faulted ≡ false;
   unbroken_writer : (g.W.Sink.out l.writer).broken ≡ false;
   steady : (ahead g.R.Source.input l.fn.reader).steady ≡ true → (ahead g.R.Source.input l.reader).steady ≡ true;
-  going : SessionSoFar (frames l.framing) g.S.Responder.barrier (step g.S.Responder.barrier g.S.Responder.turn g.S.Responder.ends) (ahead g.R.Source.input l.fn.reader) (ahead g.R.Source.input l.reader) (g.W.Sink.out l.fn.writer) (g.W.Sink.out l.writer) l.fn.server l.server l.requests;
+  going : SessionSoFar (frames l.framing) g.S.Responder.barrier (step g.S.Responder.barrier g.S.Responder.turn g.S.Responder.ends)
+      (ahead g.R.Source.input l.fn.reader) (ahead g.R.Source.input l.reader) (g.W.Sink.out l.fn.writer) (g.W.Sink.out l.writer) l.fn.server l.server l.requests;
 }

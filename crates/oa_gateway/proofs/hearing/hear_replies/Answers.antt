@@ -14,4 +14,5 @@ pub returns-in-Ended : goal.returns-in-Ended
 returns-in-Ended c =
     let places = c.args.places.now in
     let d : NumberState = record { presence = 0; owed = 0 } in
-    λ inside e. nobodys places c.args.client d (Hears inside) c.requires (replies_wrong c.hear.result (place_number (get_or places c.args.client d)) inside c.in-Ended.is (c.hear.ensures inside))
+    λ inside e. nobodys places c.args.client d (Hears inside) c.requires
+    (replies_wrong c.hear.result (place_number (get_or places c.args.client d)) inside c.in-Ended.is (c.hear.ensures inside))

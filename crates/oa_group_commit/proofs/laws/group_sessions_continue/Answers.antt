@@ -14,7 +14,8 @@ returns-clause-called g c start mid new first last after calls call was is = (
 )
 
 pub returns-clause-goes_on : goal.returns-clause-goes_on
-returns-clause-goes_on g c start mid new first last after calls call was is going = session_goes_on toy_machine {g = g.D.Disk} start mid new first last after calls call was is going
+returns-clause-goes_on g c start mid new first last after calls call was is going =
+    session_goes_on toy_machine {g = g.D.Disk} start mid new first last after calls call was is going
 
 pub returns-clause-late : goal.returns-clause-late
 returns-clause-late g c start now first last calls call was stopped told = session_late toy_machine g.D.Disk start now first last calls call was stopped told

@@ -16,7 +16,8 @@ returns-in-Ok-clause-begins c state kept =
     let holds = subst (λ (d : MemoryDisk). HoldsState server_machine state (memory_contents d)) (sym c.new-fuse.ensures.disk) kept.holds in
     let same = c.in_ok-library.ensures.kept state kept.holds kept.begins.checked in
     let engine = c.in-Ok.server.engine in
-    let host = serves fuse library state barrier (λ d. refl) holds kept.unlocked same engine.storage engine.host c.in-Ok.ensures.library c.in-Ok.ensures.bank c.in-Ok.ensures.opened in
+    let host = serves fuse library state barrier (λ d. refl) holds kept.unlocked same engine.storage engine.host c.in-Ok.ensures.library c.in-Ok.ensures.bank
+    c.in-Ok.ensures.opened in
     record {
       fuse = fuse;
       within = c.new-fuse.ensures.disk;
@@ -24,7 +25,8 @@ returns-in-Ok-clause-begins c state kept =
       begins = record {
         host = host;
         found = begun_on fuse library state engine.host engine.storage c.in-Ok.ensures.library host c.in-Ok.ensures.opened;
-        over = sits fuse library state barrier (λ d. refl) holds kept.unlocked same c.an_opening_finds_what_was_kept.ensures.begins engine.storage engine.host.table c.in-Ok.ensures.opened;
+        over = sits fuse library state barrier (λ d. refl) holds kept.unlocked same c.an_opening_finds_what_was_kept.ensures.begins engine.storage
+            engine.host.table c.in-Ok.ensures.opened;
       };
     }
 
@@ -57,8 +59,10 @@ returns-in_default c = record {
       let fuse = c.new-fuse.result in
       let barrier = subst (λ (d : MemoryDisk). NothingPending memory_contents memory_image d) (sym c.new-fuse.ensures.disk) c.requires.barrier in
       let holds = subst (λ (d : MemoryDisk). HoldsState server_machine state (memory_contents d)) (sym c.new-fuse.ensures.disk) kept.holds in
-      never_refused fuse c.in_ok-library.library state barrier (λ d. refl) holds kept.unlocked (c.in_ok-library.ensures.kept state kept.holds kept.begins.checked) kept.begins _ c.in-Err.fault c.in-Err.ensures.refused r;
+      never_refused fuse c.in_ok-library.library state barrier (λ d. refl) holds kept.unlocked
+      (c.in_ok-library.ensures.kept state kept.holds kept.begins.checked) kept.begins _ c.in-Err.fault c.in-Err.ensures.refused r;
 }
 
 pub returns-in_err-library-clause-wanting : goal.returns-in_err-library-clause-wanting
-returns-in_err-library-clause-wanting c = let p = err_from_is_err_and c.from_residual.result c.from_residual.ensures.1 in rw (p.1, p.2) (λ state kept. c.in_err-library.ensures.wanting state kept.holds kept.begins.checked)
+returns-in_err-library-clause-wanting c = let p = err_from_is_err_and c.from_residual.result c.from_residual.ensures.1 in
+    rw (p.1, p.2) (λ state kept. c.in_err-library.ensures.wanting state kept.holds kept.begins.checked)

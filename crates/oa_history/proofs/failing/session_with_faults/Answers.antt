@@ -19,7 +19,9 @@ returns-in_ok-told-in-Ok-clause-session_with_faults c before kept =
     let disk = c.args.disk in
     let calls = c.args.calls.now in
     let told = c.in_ok-told-in-Ok.told.items in
-    let begins = subst (λ (r : Result FaultyServer (MemoryDisk × DeviceFault)). IfOk r (λ fused. (state : State) → IsRecoverable disk state → BeginsOver disk c.args.first_failing fused.server state)) c.in-Ok.is c.in_ok-fused.ensures.begins in
+    let begins =
+    subst (λ (r : Result FaultyServer (MemoryDisk × DeviceFault)). IfOk r
+    (λ fused. (state : State) → IsRecoverable disk state → BeginsOver disk c.args.first_failing fused.server state)) c.in-Ok.is c.in_ok-fused.ensures.begins in
     let from = begins before kept in
     let fuse = from.fuse in
     let first = c.in-Ok.fused.server.engine in
@@ -28,11 +30,13 @@ returns-in_ok-told-in-Ok-clause-session_with_faults c before kept =
     let answered : Answered first.storage first.host calls told last.storage last.host = c.in_ok-told-in-Ok.ensures.answered in
     let made = subst (λ (s : State). Answered first.storage s calls told last.storage last.host) from.begins.host answered in
     let work = all_answered (ghosts_of last.storage) fuse before c.sessions_go_on.ensures.called c.sessions_go_on.ensures.goes_on c.sessions_go_on.ensures.late
-    first.storage last.storage before last.host [] calls told (at_start server_machine (ghosts_of last.storage) fuse before first.storage from.begins.over) made in
+    first.storage last.storage before last.host [] calls told (at_start server_machine (ghosts_of last.storage) fuse before first.storage from.begins.over)
+    made in
     let session = session_of server_machine (ghosts_of last.storage) fuse before last.storage (told_calls calls told) last.host work in
     let zero : moments_of fuse.disk ≡ 0 = ap moments_of from.within ∙ c.requires.start in
     let later : moments_of fuse.disk ≤ moments_of now.disk = omega (arith, zero) in
-    let images = all_kept server_machine (ghosts_of last.storage) fuse before c.a_crash_keeps_what_was_acknowledged.ensures.stopped c.a_crash_keeps_what_was_acknowledged.ensures.all now (told_calls calls told) last.host session later
+    let images = all_kept server_machine (ghosts_of last.storage) fuse before c.a_crash_keeps_what_was_acknowledged.ensures.stopped
+    c.a_crash_keeps_what_was_acknowledged.ensures.all now (told_calls calls told) last.host session later
     (λ t l below is. counts_now (memory_history now.disk) t l below is) in
     let one = c.sessions_go_on.ensures.one fuse now before last.host (told_calls calls told) session in
     let back_is : c.into_inner-back.result ≡ inner_of now = c.into_inner-back.ensures ∙ ap inner_of c.into_disk.ensures in
@@ -58,7 +62,9 @@ returns-in_ok-told-in-Ok-clause-session_with_faults c before kept =
 pub returns-in-Err-clause-session_with_faults : goal.returns-in-Err-clause-session_with_faults
 returns-in-Err-clause-session_with_faults c before kept =
     let disk = c.args.disk in
-    let refused = subst (λ (r : Result FaultyServer (MemoryDisk × DeviceFault)). IfErr r (λ e. (state : State) → IsRecoverable disk state → HoldsAlone e.0 state)) c.in-Err.is c.in_ok-fused.ensures.refused in
+    let refused =
+    subst (λ (r : Result FaultyServer (MemoryDisk × DeviceFault)). IfErr r (λ e. (state : State) → IsRecoverable disk state → HoldsAlone e.0 state)) c.in-Err.is
+    c.in_ok-fused.ensures.refused in
     let unopened = IfErr-at_err _ c.in-Err.is c.in_ok-fused.ensures.tells in
     let holds = refused before kept in
     record {

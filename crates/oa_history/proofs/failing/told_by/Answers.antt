@@ -17,11 +17,14 @@ calls-preserved c =
     let mid = c.calls.server.engine in
     let new = c.run.new.self.engine in
     let one : CallOutcome = record { replies = c.in_ok-replies.replies; failures = c.failures-failures.result } in
-    answered_more old.storage old.host c.args.calls.now c.calls.call-index c.calls.told.items c.push.new.self.items mid.storage mid.host c.call-item.result one new.storage new.host
-    c.calls-test.true (sym c.call-item.is) c.in_ok-push.ensures.items c.calls.invariant (rw (← c.as_slice.ensures.value) c.in_ok-replies.ensures.serves) (c.failures-failures.ensures ∙ ap (failures_with (λ (m : MemoryDisk). m.ledger.failures)) c.disk.ensures)
+    answered_more old.storage old.host c.args.calls.now c.calls.call-index c.calls.told.items c.push.new.self.items mid.storage mid.host c.call-item.result one
+    new.storage new.host
+    c.calls-test.true (sym c.call-item.is) c.in_ok-push.ensures.items c.calls.invariant (rw (← c.as_slice.ensures.value) c.in_ok-replies.ensures.serves)
+    (c.failures-failures.ensures ∙ ap (failures_with (λ (m : MemoryDisk). m.ledger.failures)) c.disk.ensures)
 
 pub returns-clause-answered : goal.returns-clause-answered
 returns-clause-answered c =
     let old = c.args.server.now.engine in
     let new = c.calls.server.engine in
-    subst (λ (l : List ServerCall). Answered old.storage old.host l c.calls.told.items new.storage new.host) (take_all c.calls.call-index c.args.calls.now c.calls-test.false) c.calls.invariant
+    subst (λ (l : List ServerCall). Answered old.storage old.host l c.calls.told.items new.storage new.host)
+    (take_all c.calls.call-index c.args.calls.now c.calls-test.false) c.calls.invariant

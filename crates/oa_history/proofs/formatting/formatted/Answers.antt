@@ -25,7 +25,8 @@ returns-clause-formatted c =
           either);
       torn = subst (λ (n : ℕ). IsTornAt disk c.args.tear (min c.args.moment n) image) c.moments.ensures
           (subst (λ (n : ℕ). IsTornAt disk c.args.tear n image) c.min.ensures c.in_ok-left.ensures.torn);
-      calls = subst (λ (text : List ℕ). moments_of disk ≤ 2 * format_calls text) c.text.ensures.text (let made = c.in_default.ensures.after.calls refl in omega (arith, c.requires.fresh.start, made));
+      calls = subst (λ (text : List ℕ). moments_of disk ≤ 2 * format_calls text) c.text.ensures.text
+          (let made = c.in_default.ensures.after.calls refl in omega (arith, c.requires.fresh.start, made));
     }
 
 pub returns-clause-kept : goal.returns-clause-kept

@@ -25,7 +25,9 @@ returns-clause-lived c =
 pub returns-clause-wanting : goal.returns-clause-wanting
 returns-clause-wanting c =
     let state = state_of c.args.bank c.args.library.now first_table in
-    IfErr-weaker c.run_history_on.result _ _ (λ fault is. unmade c.args.bank c.args.disk.first.size fault (is state c.in_ok-disk.ensures.kept)) c.run_history_on.ensures.wanting
+    IfErr-weaker c.run_history_on.result _ _ (λ fault is. unmade c.args.bank c.args.disk.first.size fault (is state c.in_ok-disk.ensures.kept))
+    c.run_history_on.ensures.wanting
 
 pub returns-in_err-disk-clause-wanting : goal.returns-in_err-disk-clause-wanting
-returns-in_err-disk-clause-wanting c = let p = err_from_is_err_and c.from_residual.result c.from_residual.ensures.1 in rw (p.1, p.2) c.in_err-disk.ensures.wanting
+returns-in_err-disk-clause-wanting c = let p = err_from_is_err_and c.from_residual.result c.from_residual.ensures.1 in
+    rw (p.1, p.2) c.in_err-disk.ensures.wanting

@@ -20,8 +20,10 @@ steps-preserved c = record {
       let lives = c.steps.invariant.lives first kept in
       let told = c.in_ok-told.ensures.stepped lives.0 lives.2 in (
         told.0,
-        lives_more (memory_contents c.args.disk) first c.args.steps.now c.steps.step-index c.steps.heard.items c.push.new.self.items (memory_contents c.steps.disk) lives.0
-            c.step-item.result c.in_ok-told.told (memory_contents c.in_ok-told.left) told.0 c.steps-test.true (sym c.step-item.is) c.in_ok-push.ensures.items lives.1 told.1,
+        lives_more (memory_contents c.args.disk) first c.args.steps.now c.steps.step-index c.steps.heard.items c.push.new.self.items
+            (memory_contents c.steps.disk) lives.0
+            c.step-item.result c.in_ok-told.told (memory_contents c.in_ok-told.left) told.0 c.steps-test.true
+            (sym c.step-item.is) c.in_ok-push.ensures.items lives.1 told.1,
         told.2,
       );
 }
@@ -37,7 +39,8 @@ returns-clause-lived c first kept =
     record {
       left = memory_contents disk;
       last = lives.0;
-      lives = subst (λ (ss : List Step). HistorySteps (memory_contents c.args.disk) first ss c.steps.heard.items (memory_contents disk) lives.0) (take_all c.steps.step-index c.args.steps.now c.steps-test.false) lives.1;
+      lives = subst (λ (ss : List Step). HistorySteps (memory_contents c.args.disk) first ss c.steps.heard.items (memory_contents disk) lives.0)
+          (take_all c.steps.step-index c.args.steps.now c.steps-test.false) lives.1;
       end = disk;
       holds_left = refl;
       begins = c.in_ok-opened.ensures.begins lives.0 held;
@@ -46,10 +49,13 @@ returns-clause-lived c first kept =
     }
 
 pub returns-in_err-told-clause-wanting : goal.returns-in_err-told-clause-wanting
-returns-in_err-told-clause-wanting c = let p = err_from_is_err_and c.from_residual.result c.from_residual.ensures.1 in rw (p.1, p.2) (λ first kept. let lives = c.steps.invariant.lives first kept in c.in_err-told.ensures.wanting lives.0 lives.2)
+returns-in_err-told-clause-wanting c = let p = err_from_is_err_and c.from_residual.result c.from_residual.ensures.1 in
+    rw (p.1, p.2) (λ first kept. let lives = c.steps.invariant.lives first kept in c.in_err-told.ensures.wanting lives.0 lives.2)
 
 pub returns-in_err-text-clause-wanting : goal.returns-in_err-text-clause-wanting
-returns-in_err-text-clause-wanting c = let p = err_from_is_err_and c.from_residual-in_err-text.result c.from_residual-in_err-text.ensures.1 in rw (p.1, p.2) (λ first kept. let lives = c.steps.invariant.lives first kept in c.in_err-text.ensures.wanting lives.0 lives.2.holds)
+returns-in_err-text-clause-wanting c = let p = err_from_is_err_and c.from_residual-in_err-text.result c.from_residual-in_err-text.ensures.1 in
+    rw (p.1, p.2) (λ first kept. let lives = c.steps.invariant.lives first kept in c.in_err-text.ensures.wanting lives.0 lives.2.holds)
 
 pub returns-in_err-opened-clause-wanting : goal.returns-in_err-opened-clause-wanting
-returns-in_err-opened-clause-wanting c = let p = err_from_is_err_and c.from_residual-in_err-opened.result c.from_residual-in_err-opened.ensures.1 in rw (p.1, p.2) (λ first kept. let lives = c.steps.invariant.lives first kept in c.in_err-opened.ensures.wanting lives.0 lives.2)
+returns-in_err-opened-clause-wanting c = let p = err_from_is_err_and c.from_residual-in_err-opened.result c.from_residual-in_err-opened.ensures.1 in
+    rw (p.1, p.2) (λ first kept. let lives = c.steps.invariant.lives first kept in c.in_err-opened.ensures.wanting lives.0 lives.2)

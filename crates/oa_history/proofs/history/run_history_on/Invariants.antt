@@ -8,5 +8,6 @@ use Rattle.oa_history.proofs.history.run_history_on.Given as goal
 abbrev pub invariant-steps : goal.invariant-steps
 invariant-steps l = record {
   settled : IsFreshDisk l.disk;
-  lives : (first : State) → IsRecoverable l.fn.disk first → (state : State) × HistorySteps (memory_contents l.fn.disk) first (take l.step-index l.steps) l.heard.items (memory_contents l.disk) state × IsRecoverable l.disk state;
+  lives : (first : State) → IsRecoverable l.fn.disk first → (state : State)
+      × HistorySteps (memory_contents l.fn.disk) first (take l.step-index l.steps) l.heard.items (memory_contents l.disk) state × IsRecoverable l.disk state;
 }

@@ -19,7 +19,8 @@ use Rattle.oa_history.proofs.Leaving.{leaves, min_at}
 use Rattle.oa_history.proofs.stopping.stopped.Goals as goal
 
 pub returns-in_ok-answers-in-Calls-clause-stopped : goal.returns-in_ok-answers-in-Calls-clause-stopped
-returns-in_ok-answers-in-Calls-clause-stopped c = with_cut c.cut.result c.cut.ensures.heard c.cut.ensures.torn c.cut.ensures.left (λ r heard torn may before kept.
+returns-in_ok-answers-in-Calls-clause-stopped c = with_cut c.cut.result c.cut.ensures.heard c.cut.ensures.torn c.cut.ensures.left
+    (λ r heard torn may before kept.
     let session = c.args.session.now in
     let image = memory_contents r.1 in
     let disk = c.into_disk.result in
@@ -28,7 +29,8 @@ returns-in_ok-answers-in-Calls-clause-stopped c = with_cut c.cut.result c.cut.en
     let calls = made_calls c.as_slice.result.now c.in_ok-answers-in-Calls.answers.items in
     let begins = c.in_ok-server.ensures.begins before kept in
     let made = subst (λ (s : State). CallSequence Serves first.storage s calls last.storage last.host) begins.host c.in_ok-answers-in-Calls.ensures.made in
-    let left = leaves server_machine CanBegin opened_again c.no_trace_of_groups.ensures c.what_was_served_is_served_again.ensures.groups c.what_was_served_is_served_again.ensures.opened _
+    let left = leaves server_machine CanBegin opened_again c.no_trace_of_groups.ensures c.what_was_served_is_served_again.ensures.groups
+    c.what_was_served_is_served_again.ensures.opened _
     c.a_crash_keeps_what_was_acknowledged.ensures.stopped c.a_crash_keeps_what_was_acknowledged.ensures.all
     c.args.disk calls before kept.begins (min session.moment (moments_of disk)) session.moment image (omega (arith, c.requires.start))
     Serves (requests_are_served _) c.sessions_go_on.ensures.late first.storage last.storage last.host disk begins.over made c.into_disk.ensures
@@ -57,7 +59,8 @@ returns-in_ok-answers-in-Calls-clause-stopped c = with_cut c.cut.result c.cut.en
     ))
 
 pub returns-in_ok-written-in-Stream-clause-stopped : goal.returns-in_ok-written-in-Stream-clause-stopped
-returns-in_ok-written-in-Stream-clause-stopped c = with_cut c.cut-in-Stream.result c.cut-in-Stream.ensures.heard c.cut-in-Stream.ensures.torn c.cut-in-Stream.ensures.left (λ r heard torn may before kept.
+returns-in_ok-written-in-Stream-clause-stopped c =
+    with_cut c.cut-in-Stream.result c.cut-in-Stream.ensures.heard c.cut-in-Stream.ensures.torn c.cut-in-Stream.ensures.left (λ r heard torn may before kept.
     let session = c.args.session.now in
     let image = memory_contents r.1 in
     let disk = c.into_disk-in-Stream.result in
@@ -66,7 +69,8 @@ returns-in_ok-written-in-Stream-clause-stopped c = with_cut c.cut-in-Stream.resu
     let asked = c.in_ok-written-in-Stream.ensures.written in
     let begins = c.in_ok-server.ensures.begins before kept in
     let made = subst (λ (s : State). CallSequence Serves first.storage s asked.0 last.storage last.host) begins.host asked.2 in
-    let left = leaves server_machine CanBegin opened_again c.no_trace_of_groups.ensures c.what_was_served_is_served_again.ensures.groups c.what_was_served_is_served_again.ensures.opened _
+    let left = leaves server_machine CanBegin opened_again c.no_trace_of_groups.ensures c.what_was_served_is_served_again.ensures.groups
+    c.what_was_served_is_served_again.ensures.opened _
     c.a_crash_keeps_what_was_acknowledged.ensures.stopped c.a_crash_keeps_what_was_acknowledged.ensures.all
     c.args.disk asked.0 before kept.begins (min session.moment (moments_of disk)) session.moment image (omega (arith, c.requires.start))
     Serves (requests_are_served _) c.sessions_go_on.ensures.late first.storage last.storage last.host disk begins.over made c.into_disk-in-Stream.ensures
@@ -95,7 +99,8 @@ returns-in_ok-written-in-Stream-clause-stopped c = with_cut c.cut-in-Stream.resu
     ))
 
 pub returns-in_ok-written-in-Frames-clause-stopped : goal.returns-in_ok-written-in-Frames-clause-stopped
-returns-in_ok-written-in-Frames-clause-stopped c = with_cut c.cut-in-Frames.result c.cut-in-Frames.ensures.heard c.cut-in-Frames.ensures.torn c.cut-in-Frames.ensures.left (λ r heard torn may before kept.
+returns-in_ok-written-in-Frames-clause-stopped c =
+    with_cut c.cut-in-Frames.result c.cut-in-Frames.ensures.heard c.cut-in-Frames.ensures.torn c.cut-in-Frames.ensures.left (λ r heard torn may before kept.
     let session = c.args.session.now in
     let image = memory_contents r.1 in
     let disk = c.into_disk-in-Frames.result in
@@ -106,7 +111,8 @@ returns-in_ok-written-in-Frames-clause-stopped c = with_cut c.cut-in-Frames.resu
     let asked = c.in_ok-written-in-Frames.ensures.written (is_over_store _ first.storage sits) in
     let made = subst (λ (s : State). CallSequence ServesShared first.storage (shared s []) asked.0 last.storage asked.1) begins.host asked.3 in
     let again = c.what_was_served_is_served_again.ensures in
-    let left = leaves shared_machine CanBeginShared opened_again_for_many c.many_clients.ensures.others (groups_begin_for_many again.turn) (λ one. again.opened one.state) _
+    let left = leaves shared_machine CanBeginShared opened_again_for_many c.many_clients.ensures.others (groups_begin_for_many again.turn)
+    (λ one. again.opened one.state) _
     c.many_clients.ensures.stopped (λ old new first calls last session m le. session_ended shared_machine _ _ old new first calls last session m le)
     c.args.disk asked.0 (shared before []) kept.begins (min session.moment (moments_of disk)) session.moment image (omega (arith, c.requires.start))
     ServesShared (clients_are_served _) c.many_clients.ensures.late first.storage last.storage asked.1 disk sits made c.into_disk-in-Frames.ensures
@@ -126,7 +132,8 @@ returns-in_ok-written-in-Frames-clause-stopped c = with_cut c.cut-in-Frames.resu
           asks = asked.2;
           made = made;
           disk = c.into_disk-in-Frames.ensures;
-          stops = subst (λ (s : Shared). KeepsDurablePrefix shared_machine session.moment asked.0 (shared before []) s) (without_locks left.after left.unlocked) left.stops;
+          stops = subst (λ (s : Shared). KeepsDurablePrefix shared_machine session.moment asked.0 (shared before []) s)
+              (without_locks left.after left.unlocked) left.stops;
         });
         torn = rw heard.1 torn;
         holds = left.holds;
@@ -135,4 +142,5 @@ returns-in_ok-written-in-Frames-clause-stopped c = with_cut c.cut-in-Frames.resu
     ))
 
 pub returns-in_err-server-clause-wanting : goal.returns-in_err-server-clause-wanting
-returns-in_err-server-clause-wanting c = let p = err_from_is_err_and c.from_residual.result c.from_residual.ensures.1 in rw (p.1, p.2) (λ before kept. c.in_err-server.ensures.wanting before kept)
+returns-in_err-server-clause-wanting c = let p = err_from_is_err_and c.from_residual.result c.from_residual.ensures.1 in
+    rw (p.1, p.2) (λ before kept. c.in_err-server.ensures.wanting before kept)

@@ -21,7 +21,8 @@ returns-clause-survived c state new =
     }
 
 pub returns-in_err-told-clause-wanting : goal.returns-in_err-told-clause-wanting
-returns-in_err-told-clause-wanting c = let p = err_from_is_err_and c.from_residual.result c.from_residual.ensures.1 in rw (p.1, p.2) (λ state new. c.in_err-told.ensures.wanting state new)
+returns-in_err-told-clause-wanting c = let p = err_from_is_err_and c.from_residual.result c.from_residual.ensures.1 in
+    rw (p.1, p.2) (λ state new. c.in_err-told.ensures.wanting state new)
 
 pub returns-in_err-text-clause-wanting : goal.returns-in_err-text-clause-wanting
 returns-in_err-text-clause-wanting c =

@@ -40,7 +40,8 @@ returns-clause-upgraded c =
       gate = calls.3;
       was = subst (λ (l : List ℕ). IsStoreAt One calls.2 calls.3 l brought.was.table found) same.library_same
           (subst (λ (t : TableValue). IsStoreAt One calls.2 calls.3 calls.0 t found) same.table_same calls.4);
-      calls = subst (λ (t : TableValue). moments_of disk + length brought.was.library ≤ 16 + calls.3 + 2 * checkpoint_calls brought.was.library t) same.table_same
+      calls = subst (λ (t : TableValue). moments_of disk + length brought.was.library ≤ 16 + calls.3 + 2 * checkpoint_calls brought.was.library t)
+          same.table_same
           (subst (λ (l : List ℕ). moments_of disk + length l ≤ 16 + calls.3 + 2 * checkpoint_calls l calls.1) same.library_same made);
     }
 
@@ -52,7 +53,8 @@ returns-clause-kept c behind state become =
     let left = subst (λ (n : ℕ). memory_image_since disk n image) last c.in_ok-left.ensures.left in
     let brought = c.in_default.ensures.done refl in
     let is = brought.each image (only_now (memory_history disk) image left) in
-    let same = one_store (memory_contents c.args.disk) brought.was.library (canonical state.library) brought.was.table (held_of state) (One, brought.was.store) (One, become.was) in
+    let same = one_store (memory_contents c.args.disk) brought.was.library (canonical state.library) brought.was.table (held_of state) (One, brought.was.store)
+    (One, become.was) in
     record {
       holds = subst (λ (n : ℕ). IsStoreIn (Two n) image (canonical state.library) (held_of state)) become.banks
           (subst (λ (l : List ℕ). IsStoreIn (Two c.args.bank) image l (held_of state)) same.library_same
@@ -74,10 +76,12 @@ returns-in-Err-clause-wanting c state become =
       table = held_of state;
       store = become.was;
       short = (is_read c.marked_is_read.ensures state.library become.begins.checked).short;
-      fits = subst (λ (n : ℕ). FitsBank n (held_of state)) (sym become.banks) (subst (λ (t : TableValue). FitsBank state.bank t) (sym held) become.begins.serves.small);
+      fits = subst (λ (n : ℕ). FitsBank n (held_of state)) (sym become.banks)
+          (subst (λ (t : TableValue). FitsBank state.bank t) (sym held) become.begins.serves.small);
     } in
     unbrought bank size found c.in-Err.fault (λ is. c.in-Err.ensures.small.exactly.0 (ap Err is))
-    (law.none bank size found (contents_size size (memory_history disk) disk.whole) can) (law.new bank size found can) (λ place. law.damaged bank size place found can) (c.in-Err.ensures.refused.says refl)
+    (law.none bank size found (contents_size size (memory_history disk) disk.whole) can) (law.new bank size found can)
+    (λ place. law.damaged bank size place found can) (c.in-Err.ensures.refused.says refl)
 
 pub returns-in_err-left-clause-wanting : goal.returns-in_err-left-clause-wanting
 returns-in_err-left-clause-wanting c = let p = err_from_is_err_and c.from_residual.result c.from_residual.ensures.1 in rw (p.1, p.2) (λ state become. tt)

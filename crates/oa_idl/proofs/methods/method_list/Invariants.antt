@@ -9,4 +9,5 @@ use Rattle.oa_idl.proofs.Loop.{with_front}
 use Rattle.oa_idl.proofs.methods.method_list.Given as goal
 
 abbrev pub invariant-loop : goal.invariant-loop
-invariant-loop l = with_front l.all.items (until (passes (codes "}")) nowhere method_at one_more closing_at (l.room - l.counter) l.count l.r) ≡ until (passes (codes "}")) nowhere method_at one_more closing_at l.room l.before l.fn.r
+invariant-loop l = with_front l.all.items (until (passes (codes "}")) nowhere method_at one_more closing_at (l.room - l.counter) l.count l.r) ≡ until
+    (passes (codes "}")) nowhere method_at one_more closing_at l.room l.before l.fn.r

@@ -9,4 +9,6 @@ use Rattle.oa_idl.proofs.Loop.{with_front}
 use Rattle.oa_idl.proofs.parameters.parameters.Given as goal
 
 abbrev pub invariant-loop : goal.invariant-loop
-invariant-loop l = with_front l.all.items (until (passes (codes ")")) nowhere next_parameter_at one_more (last_parameter_at l.kind) (l.room - l.counter) l.count l.r) ≡ until (passes (codes ")")) nowhere next_parameter_at one_more (last_parameter_at l.kind) l.room 0 l.fn.r
+invariant-loop l =
+    with_front l.all.items (until (passes (codes ")")) nowhere next_parameter_at one_more (last_parameter_at l.kind) (l.room - l.counter) l.count l.r) ≡ until
+    (passes (codes ")")) nowhere next_parameter_at one_more (last_parameter_at l.kind) l.room 0 l.fn.r

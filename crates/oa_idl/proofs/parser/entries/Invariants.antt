@@ -9,4 +9,5 @@ use Rattle.oa_idl.proofs.Loop.{with_front}
 use Rattle.oa_idl.proofs.parser.entries.Given as goal
 
 abbrev pub invariant-loop : goal.invariant-loop
-invariant-loop l = with_front l.all.items (until (passes (codes "}")) nowhere entry_at entry_grow last_entry_at (l.room - l.counter) l.seen l.r) ≡ until (passes (codes "}")) nowhere entry_at entry_grow last_entry_at l.room no_entry l.fn.r
+invariant-loop l = with_front l.all.items (until (passes (codes "}")) nowhere entry_at entry_grow last_entry_at (l.room - l.counter) l.seen l.r) ≡ until
+    (passes (codes "}")) nowhere entry_at entry_grow last_entry_at l.room no_entry l.fn.r

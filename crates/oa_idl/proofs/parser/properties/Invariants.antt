@@ -7,4 +7,5 @@ use Rattle.oa_idl.proofs.Loop.{with_front}
 use Rattle.oa_idl.proofs.parser.properties.Given as goal
 
 abbrev pub invariant-loop : goal.invariant-loop
-invariant-loop l = with_front l.all.items (until ends_properties nowhere property_at one_more methods_at (l.room - l.counter) l.count l.r) ≡ until ends_properties nowhere property_at one_more methods_at l.room 0 l.fn.r
+invariant-loop l = with_front l.all.items (until ends_properties nowhere property_at one_more methods_at (l.room - l.counter) l.count l.r)
+    ≡ until ends_properties nowhere property_at one_more methods_at l.room 0 l.fn.r

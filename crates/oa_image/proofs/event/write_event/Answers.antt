@@ -6,7 +6,8 @@ use Rattle.oa_formats.proofs.Adding.{gave}
 use Rattle.oa_image.proofs.event.write_event.Goals as goal
 
 -- bytes of which none is left out and for all of which there is room
-laid : (old new : OutputCursor) (before after bytes : List ℕ) (start : ℕ) → Adds bytes old new before after → old.skip ≡ 0 → old.at ≡ start → start + length bytes ≤ length before
+laid : (old new : OutputCursor) (before after bytes : List ℕ) (start : ℕ) → Adds bytes old new before after → old.skip ≡ 0 → old.at ≡ start
+    → start + length bytes ≤ length before
     → after ≡ take start before ++ (bytes ++ drop (start + length bytes) before)
 laid old new before after bytes start adds none at room =
     let text : drop old.skip bytes ≡ bytes = ap (λ (n : ℕ). drop n bytes) none in

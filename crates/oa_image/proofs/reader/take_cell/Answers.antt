@@ -18,7 +18,8 @@ returns-in_default-clause-takes c =
 pub keep-requires-clause-valid : goal.keep-requires-clause-valid
 keep-requires-clause-valid c =
     let found = rw (c.deref.ensures.value, c.in-Some.is) at c.in_ok-cell.ensures in
-    cell_opens c.args.table.now c.args.object c.push.new.self c.in-Some.cell c.requires.between.1 c.in_ok-push.ensures.items c.requires.between.0 found.0 found.1
+    cell_opens c.args.table.now c.args.object c.push.new.self c.in-Some.cell c.requires.between.1 c.in_ok-push.ensures.items c.requires.between.0 found.0
+    found.1
 
 pub returns-clause-takes : goal.returns-clause-takes
 returns-clause-takes c =
@@ -27,4 +28,5 @@ returns-clause-takes c =
     let bytes = c.args.bytes.now in
     let found = rw (c.deref.ensures.value, c.in-Some.is) at c.in_ok-cell.ensures in
     comes (with_at_hand o t) c.keep.new.table bytes (cell.image c.in-Some.cell) c.in-Some.len found.2 found.3 (cell_bytes c.in-Some.cell)
-    (c.in_ok-keep.ensures.taken ∙ cell_taken t o c.push.new.self c.in-Some.cell c.requires.between.1 c.in_ok-push.ensures.items (take c.in-Some.len bytes) found.3)
+    (c.in_ok-keep.ensures.taken ∙ cell_taken t o c.push.new.self c.in-Some.cell c.requires.between.1 c.in_ok-push.ensures.items
+    (take c.in-Some.len bytes) found.3)

@@ -12,7 +12,8 @@ invariant-groups g l = record {
   inside : l.at < l.size;
   stored : IsStored l.table;
   kept : length l.ahead.buffer.items ≡ length l.fn.buffer.items;
-  so_far : IsTrue (g.D.Disk.is_honest l.disk) → (before : List (List ℕ)) × AreGroupsTo (from_place l.body (g.D.Disk.contents l.fn.disk)) l.from before l.at × ReplaysAll before l.fn.first l.table;
+  so_far : IsTrue (g.D.Disk.is_honest l.disk) → (before : List (List ℕ)) × AreGroupsTo (from_place l.body (g.D.Disk.contents l.fn.disk)) l.from before l.at
+      × ReplaysAll before l.fn.first l.table;
   gate : IsTrue (g.D.Disk.is_honest l.disk) → IsTrue l.opened ↔ (slice_index (g.D.Disk.contents l.fn.disk) (l.body + l.at) ≡ 1);
   ahead : IsAhead g.D.Disk l.disk l.ahead;
   after : AfterReads {T = Unit {0}} g.D.Disk (2 + (l.at - l.from)) l.fn.disk l.disk (Ok tt);

@@ -14,4 +14,5 @@ returns-in-Err-clause-answers g c =
 
 pub returns-clause-answers : goal.returns-clause-answers
 returns-clause-answers g c =
-    rw (parted_together g.S.SharedResponder.barrier c.args.client c.args.body.now (search rules)) (told_once g.S.SharedResponder.turn c.args.client _ _ _ _ _ _ c.in_default.ensures.answers)
+    rw (parted_together g.S.SharedResponder.barrier c.args.client c.args.body.now (search rules))
+    (told_once g.S.SharedResponder.turn c.args.client _ _ _ _ _ _ c.in_default.ensures.answers)

@@ -3,7 +3,12 @@ use Rattle.oa_mux.proofs.Talks.{ends_all, ends_lost, ends_more, ends_start}
 use Rattle.oa_mux.proofs.serving.end_all.Goals as goal
 
 pub ends-init : goal.ends-init
-ends-init g c = record { ready = c.requires.ready; unbroken = c.requires.unbroken; count = search rules; going = ends_start g.S.SharedResponder.barrier g.S.SharedResponder.turn _ _ _ c.requires.unbroken }
+ends-init g c = record {
+  ready = c.requires.ready;
+  unbroken = c.requires.unbroken;
+  count = search rules;
+  going = ends_start g.S.SharedResponder.barrier g.S.SharedResponder.turn _ _ _ c.requires.unbroken;
+}
 
 pub ends-preserved : goal.ends-preserved
 ends-preserved g c =
@@ -18,7 +23,9 @@ ends-preserved g c =
     }
 
 pub returns-in_err-end_next-clause-ends : goal.returns-in_err-end_next-clause-ends
-returns-in_err-end_next-clause-ends g c = ends_lost g.S.SharedResponder.barrier g.S.SharedResponder.turn c.from_residual.result _ _ _ _ _ _ _ _ _ _ c.from_residual.ensures.0 c.ends.invariant.going c.in_err-end_next.ensures.ends
+returns-in_err-end_next-clause-ends g c = ends_lost g.S.SharedResponder.barrier g.S.SharedResponder.turn c.from_residual.result _ _ _ _ _ _ _ _ _ _
+    c.from_residual.ensures.0 c.ends.invariant.going c.in_err-end_next.ensures.ends
 
 pub returns-clause-ends : goal.returns-clause-ends
-returns-clause-ends g c = let all = c.ends.invariant.count in let over = c.ends-test.false in ends_all g.S.SharedResponder.barrier g.S.SharedResponder.turn _ _ _ _ _ _ (omega (arith, all, over)) c.ends.invariant.going
+returns-clause-ends g c = let all = c.ends.invariant.count in let over = c.ends-test.false in
+    ends_all g.S.SharedResponder.barrier g.S.SharedResponder.turn _ _ _ _ _ _ (omega (arith, all, over)) c.ends.invariant.going

@@ -22,13 +22,16 @@ parts-preserved g c =
 pub returns-in-Over-clause-serves : goal.returns-in-Over-clause-serves
 returns-in-Over-clause-serves g c =
     over_closes g.S.SharedResponder.barrier g.S.SharedResponder.turn c.close.result c.in-Over.why _ _ _ _ _ _ _ _ _ _
-    (far_over g.S.SharedResponder.barrier g.S.SharedResponder.turn _ _ _ _ _ _ _ _ _ _ _ _ _ _ _ c.parts.invariant.going c.in-Over.ensures.progresses) c.close.ensures.closes c.close.ensures.rise
+    (far_over g.S.SharedResponder.barrier g.S.SharedResponder.turn _ _ _ _ _ _ _ _ _ _ _ _ _ _ _ c.parts.invariant.going c.in-Over.ensures.progresses)
+    c.close.ensures.closes c.close.ensures.rise
 
 pub returns-in-Unwritten-clause-serves : goal.returns-in-Unwritten-clause-serves
-returns-in-Unwritten-clause-serves g c = far_lost g.S.SharedResponder.barrier g.S.SharedResponder.turn _ _ _ _ _ _ _ _ _ _ _ _ _ c.parts.invariant.going c.in-Unwritten.ensures.progresses
+returns-in-Unwritten-clause-serves g c = far_lost g.S.SharedResponder.barrier g.S.SharedResponder.turn _ _ _ _ _ _ _ _ _ _ _ _ _ c.parts.invariant.going
+    c.in-Unwritten.ensures.progresses
 
 pub returns : goal.returns
 returns g c = record {
-  serves = far_used g.S.SharedResponder.barrier g.S.SharedResponder.turn c.close-2.result _ _ _ _ _ _ _ _ _ _ _ _ c.parts-test.false c.parts.invariant.unbroken c.parts.invariant.going c.close-2.ensures.closes c.close-2.ensures.rise;
+  serves = far_used g.S.SharedResponder.barrier g.S.SharedResponder.turn c.close-2.result _ _ _ _ _ _ _ _ _ _ _ _ c.parts-test.false c.parts.invariant.unbroken
+      c.parts.invariant.going c.close-2.ensures.closes c.close-2.ensures.rise;
   ready = c.close-2.ensures.ready;
 }

@@ -9,5 +9,6 @@ invariant-parts g l = record {
   ready : g.S.SharedResponder.ready l.server;
   unbroken : (ahead g.R.Source.input l.reader).faulted ≡ false;
   unbroken_writer : (g.W.Sink.out l.writer).broken ≡ false;
-  going : SharedSoFar g.S.SharedResponder.barrier g.S.SharedResponder.turn starting l.streams (read_ahead l.reader) (ahead g.R.Source.input l.fn.reader) (ahead g.R.Source.input l.reader) (g.W.Sink.out l.fn.writer) (g.W.Sink.out l.writer) l.fn.server l.server l.counter;
+  going : SharedSoFar g.S.SharedResponder.barrier g.S.SharedResponder.turn starting l.streams (read_ahead l.reader) (ahead g.R.Source.input l.fn.reader)
+      (ahead g.R.Source.input l.reader) (g.W.Sink.out l.fn.writer) (g.W.Sink.out l.writer) l.fn.server l.server l.counter;
 }

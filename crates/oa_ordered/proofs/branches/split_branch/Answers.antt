@@ -9,5 +9,6 @@ returns-clause-same g c =
     let lt : c.args.branch < length roomy = rw c.make_room.ensures.items c.requires.branch in
     let read = c.index_mut.result.now in
     ap concat_rows c.in-Ok.ensures.items
-    ∙ (split_at roomy c.args.branch (c.args.branch + 1) c.split_off.new.self c.in_ok-upper.upper (omega arith) lt (c.in_ok-upper.ensures.ok ∙ row_is roomy c.args.branch read read lt c.index_mut.ensures.value)
+    ∙ (split_at roomy c.args.branch (c.args.branch + 1) c.split_off.new.self c.in_ok-upper.upper (omega arith) lt
+    (c.in_ok-upper.ensures.ok ∙ row_is roomy c.args.branch read read lt c.index_mut.ensures.value)
     ∙ ap concat_rows c.make_room.ensures.items)

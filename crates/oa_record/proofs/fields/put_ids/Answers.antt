@@ -10,7 +10,14 @@ pub ids-preserved : goal.ids-preserved
 ids-preserved c =
     let id : ℤ = get_or c.args.ids.now c.ids.id-index (pos 0) in
     let fits : FitsSigned w32 id = grind arith in
-    rw (c.in_ok-extend_from_slice.ensures.items, c.signed_bytes.ensures, to_z-of_z w32 id fits, c.ids.invariant, take_more c.args.ids.now c.ids.id-index (pos 0) c.ids-test.true)
+    rw (
+      c.in_ok-extend_from_slice.ensures.items,
+      c.signed_bytes.ensures,
+      to_z-of_z w32 id fits,
+      c.ids.invariant,
+      take_more c.args.ids.now c.ids.id-index
+          (pos 0) c.ids-test.true,
+    )
     (flat_map_more signed_word c.args.out.now.items (take c.ids.id-index c.args.ids.now) id)
 
 pub returns : goal.returns

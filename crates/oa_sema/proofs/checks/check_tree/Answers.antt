@@ -12,8 +12,10 @@ use Rattle.oa_sema.proofs.checks.check_tree.Goals as goal
 pub returns-in_err-check_contents : goal.returns-in_err-check_contents
 returns-in_err-check_contents c =
     let t = c.args.tree.now in
-    refused (tree_breach t) (λ (k : Checked). (k.names ≡ map (λ i. folded_name (item_name i)) t.items) × (k.guids ≡ map item_guid t.items)) c.in_err-check_contents.field-0.0 c.from_residual-in_err-check_contents.result
+    refused (tree_breach t) (λ (k : Checked). (k.names ≡ map (λ i. folded_name (item_name i)) t.items) × (k.guids ≡ map item_guid t.items))
+    c.in_err-check_contents.field-0.0 c.from_residual-in_err-check_contents.result
     c.from_residual-in_err-check_contents.ensures.0 c.from_residual-in_err-check_contents.ensures.1
     (for_memory c.in_err-check_contents.field-0.0
-    (λ h. no_breach_before (key_breaches t) (option_or (option_map UnknownInterface (interface_breach t.items)) (form_breaches t.items)) c.in_ok-checked.ensures.0 ∙ h)
+    (λ h. no_breach_before (key_breaches t) (option_or (option_map UnknownInterface (interface_breach t.items)) (form_breaches t.items))
+    c.in_ok-checked.ensures.0 ∙ h)
     c.in_err-check_contents.ensures)

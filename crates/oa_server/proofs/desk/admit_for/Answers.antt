@@ -8,7 +8,8 @@ returns-clause-held g c is =
     let desk = c.args.desk.now in
     rw c.push_reserved.ensures.items
     (none_told _ _ _ _ _
-    (lifted_taken {g = g.D.Disk} desk.open_group.size c.args.client c.args.body.now (record { client = c.args.client; why = None }) refl desk.askers.items desk.owners [] desk.open_group.replies.items c.admit.new.open_group.replies.items desk.open_group.batch c.admit.new.open_group.batch
+    (lifted_taken {g = g.D.Disk} desk.open_group.size c.args.client c.args.body.now (record { client = c.args.client; why = None }) refl desk.askers.items
+    desk.owners [] desk.open_group.replies.items c.admit.new.open_group.replies.items desk.open_group.batch c.admit.new.open_group.batch
     c.args.store.now c.admit.new.store c.args.host.now c.admit.new.host c.requires.ready.each c.requires.none
     (λ state change kind asks. true≢false (sym kind ∙ c.requires.plain)) c.requires.ready.ready.late (c.admit.ensures.held is)))
 
@@ -16,6 +17,7 @@ pub returns-clause-told : goal.returns-clause-told
 returns-clause-told g c is =
     let desk = c.args.desk.now in
     rw c.push_reserved.ensures.items
-    (lifted_taken {g = g.D.Disk} desk.open_group.size c.args.client c.args.body.now (record { client = c.args.client; why = None }) refl desk.askers.items desk.owners c.admit.new.open_group.replies.items desk.open_group.replies.items [] desk.open_group.batch c.admit.new.open_group.batch
+    (lifted_taken {g = g.D.Disk} desk.open_group.size c.args.client c.args.body.now (record { client = c.args.client; why = None }) refl desk.askers.items
+    desk.owners c.admit.new.open_group.replies.items desk.open_group.replies.items [] desk.open_group.batch c.admit.new.open_group.batch
     c.args.store.now c.admit.new.store c.args.host.now c.admit.new.host c.requires.ready.each c.requires.none
     (λ state change kind asks. true≢false (sym kind ∙ c.requires.plain)) c.requires.ready.ready.late (c.admit.ensures.told is))

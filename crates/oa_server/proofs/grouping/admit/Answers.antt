@@ -12,7 +12,8 @@ returns-then-not-is_full-clause-held g c is =
       reply = c.in-Ok.reply;
       event = said.turn.event;
       held =
-          held_one c.args.store.now c.turn_held.new.store c.args.body.now c.in-Ok.reply c.args.host.now c.turn_held.new.host open_group.replies.items c.push_reserved-in-Ok.new.self.items open_group.batch c.turn_held.new.batch said.turn
+          held_one c.args.store.now c.turn_held.new.store c.args.body.now c.in-Ok.reply c.args.host.now c.turn_held.new.host open_group.replies.items
+          c.push_reserved-in-Ok.new.self.items open_group.batch c.turn_held.new.batch said.turn
           (search rules) said.holds.going said.holds.carries said.calls said.holds.goes (search rules);
       short = search rules;
       nothing = refl;
@@ -28,7 +29,8 @@ returns-else-not-is_full-clause-told g c is =
       event = said.turn.event;
       mid = grouping c.turn_held.new.store c.turn_held.new.host c.push_reserved-in-Ok.new.self.items c.turn_held.new.batch;
       held =
-          held_one c.args.store.now c.turn_held.new.store c.args.body.now c.in-Ok.reply c.args.host.now c.turn_held.new.host open_group.replies.items c.push_reserved-in-Ok.new.self.items open_group.batch c.turn_held.new.batch said.turn
+          held_one c.args.store.now c.turn_held.new.store c.args.body.now c.in-Ok.reply c.args.host.now c.turn_held.new.host open_group.replies.items
+          c.push_reserved-in-Ok.new.self.items open_group.batch c.turn_held.new.batch said.turn
           (search rules) said.holds.going said.holds.carries said.calls said.holds.goes (search rules);
       full = search rules;
       settled = c.commit_group.ensures.settled;

@@ -12,4 +12,5 @@ pub returns-clause-kept : goal.returns-clause-kept
 returns-clause-kept g c = found_again c.one_tree.ensures (is_read c.marked_is_read.ensures)
 
 pub returns-clause-joins : goal.returns-clause-joins
-returns-clause-joins g c = opening_joins {g = g.D.Disk} (λ d t f honest le is. g.met.D.Disk.counts_now d t f honest le is) (λ d f honest left. g.met.D.Disk.only_now d f honest left) (λ d honest. g.met.D.Disk.contents_is_image d honest)
+returns-clause-joins g c = opening_joins {g = g.D.Disk} (λ d t f honest le is. g.met.D.Disk.counts_now d t f honest le is)
+    (λ d f honest left. g.met.D.Disk.only_now d f honest left) (λ d honest. g.met.D.Disk.contents_is_image d honest)

@@ -21,7 +21,8 @@ returns-clause-called g c start mid new first last after calls call was is = (
 )
 
 pub returns-clause-goes_on : goal.returns-clause-goes_on
-returns-clause-goes_on g c start mid new first last after calls call was is going = session_goes_on shared_machine {g = g.D.Disk} start mid new first last after calls call was is going
+returns-clause-goes_on g c start mid new first last after calls call was is going =
+    session_goes_on shared_machine {g = g.D.Disk} start mid new first last after calls call was is going
 
 pub returns-clause-late : goal.returns-clause-late
 returns-clause-late g c start now first last calls call was stopped told = session_late shared_machine g.D.Disk start now first last calls call was stopped told
@@ -30,4 +31,5 @@ pub returns-clause-one : goal.returns-clause-one
 returns-clause-one g c start now first last calls session = one_fault shared_machine g.D.Disk start now first last calls session
 
 pub returns-clause-stopped : goal.returns-clause-stopped
-returns-clause-stopped g c old new first calls last session m f later since = session_stopped shared_machine g.D.Disk.moment g.D.Disk.image_since old new first calls last session m f later since
+returns-clause-stopped g c old new first calls last session m f later since =
+    session_stopped shared_machine g.D.Disk.moment g.D.Disk.image_since old new first calls last session m f later since

@@ -6,7 +6,8 @@ use Rattle.oa_server.proofs.Mapping.{mapped, mapped_all, mapped_step}
 use Rattle.oa_server.proofs.open_group.take_back.Goals as goal
 
 pub loop-reply-preserved : goal.loop-reply-preserved
-loop-reply-preserved c = mapped_step aborted_reply c.args.replies.now c.loop-reply.replies c.loop-reply.reply-index c.bare.result _ c.loop-reply.invariant c.loop-reply-test.true
+loop-reply-preserved c = mapped_step aborted_reply c.args.replies.now c.loop-reply.replies c.loop-reply.reply-index c.bare.result _ c.loop-reply.invariant
+    c.loop-reply-test.true
     (c.bare.ensures ∙ ap (λ (tag : ℕ). refusal tag stg_e_writefault None) c.tag.ensures)
 
 pub returns : goal.returns

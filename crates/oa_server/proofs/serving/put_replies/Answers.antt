@@ -11,12 +11,14 @@ replies-init g c = record { written = puts_none (frames c.args.framing).spelled 
 pub replies-preserved : goal.replies-preserved
 replies-preserved g c = record {
   written =
-      put_one (frames c.args.framing).spelled c.args.replies.now c.replies.reply-index c.reply-item.result c.replies-test.true (sym c.reply-item.is) _ _ _ c.replies.invariant.written
+      put_one (frames c.args.framing).spelled c.args.replies.now c.replies.reply-index c.reply-item.result c.replies-test.true
+      (sym c.reply-item.is) _ _ _ c.replies.invariant.written
       (rw c.body.ensures.value at (rw c.head.ensures at c.in_ok-put_reply.ensures));
 }
 
 pub returns-in_err-put_reply : goal.returns-in_err-put_reply
 returns-in_err-put_reply g c =
     let p = err_from_is_err_and c.from_residual.result c.from_residual.ensures.1 in
-    rw p.1 (put_fails (frames c.args.framing).spelled c.args.replies.now c.replies.reply-index c.reply-item.result c.replies-test.true (sym c.reply-item.is) _ _ _ c.replies.invariant.written
+    rw p.1 (put_fails (frames c.args.framing).spelled c.args.replies.now c.replies.reply-index c.reply-item.result c.replies-test.true
+    (sym c.reply-item.is) _ _ _ c.replies.invariant.written
     (rw c.body.ensures.value at (rw c.head.ensures at c.in_err-put_reply.ensures)))

@@ -7,5 +7,6 @@ use Rattle.oa_server.proofs.serving.put_replies.Given as goal
 
 abbrev pub invariant-replies : goal.invariant-replies
 invariant-replies g l = record {
-  written : Writes (g.W.Sink.out l.fn.writer) (g.W.Sink.out l.writer) (spelled_all (frames l.framing).spelled (map reply_record (take l.reply-index l.replies)));
+  written : Writes (g.W.Sink.out l.fn.writer) (g.W.Sink.out l.writer)
+      (spelled_all (frames l.framing).spelled (map reply_record (take l.reply-index l.replies)));
 }

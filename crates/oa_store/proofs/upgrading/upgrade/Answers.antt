@@ -70,5 +70,12 @@ returns-in_err-map_err-clause-refused g c =
       most = λ h.
           let h1 = sym c.migrate.ensures.after.honest ∙ h in
           let there = c.in_ok-old.ensures.found.store h1 in
-          inr (c.in_ok-old.old.library.items, c.in_ok-old.old.table, c.in_ok-old.old.chosen, there.0, there.1, omega (arith, there.2, c.migrate.ensures.after.calls h1));
+          inr (
+            c.in_ok-old.old.library.items,
+            c.in_ok-old.old.table,
+            c.in_ok-old.old.chosen,
+            there.0,
+            there.1,
+            omega (arith, there.2, c.migrate.ensures.after.calls h1),
+          );
     })

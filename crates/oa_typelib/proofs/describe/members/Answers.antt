@@ -10,4 +10,6 @@ pub returns : goal.returns
 returns c =
     c.loop-places.invariant
     ∙ ap (map member_description)
-    (ap (flat_map (λ (ps : Vec ℕ Global). put_last (filter_map (slice_get (declarations c.args.interface.now)) ps.items))) (take_all c.loop-places.places-index c.groups-groups.result.now c.loop-places-test.false) ∙ in_order c.args.interface.now c.groups-groups.result.now c.groups-groups.ensures)
+    (ap (flat_map (λ (ps : Vec ℕ Global). put_last (filter_map (slice_get (declarations c.args.interface.now)) ps.items)))
+    (take_all c.loop-places.places-index c.groups-groups.result.now c.loop-places-test.false)
+    ∙ in_order c.args.interface.now c.groups-groups.result.now c.groups-groups.ensures)

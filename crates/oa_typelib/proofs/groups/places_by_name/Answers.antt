@@ -7,6 +7,10 @@ use Rattle.oa_typelib.proofs.groups.places_by_name.Goals as goal
 
 pub names-preserved : goal.names-preserved
 names-preserved c = record {
-  keys = c.in_ok-add.ensures.keys ∙ rw (c.in_ok-units.ensures, c.names.invariant.keys) (sym (keys_grow same nat_list_eq_equiv (λ (n : Bor (List ℕ)). folded_name n.now) c.args.names.now c.names.place c.index-names-place.result c.names-test.true c.index-names-place.is));
-  places = c.in_ok-add.ensures.places ∙ rw (c.in_ok-units.ensures, c.names.invariant.keys, c.names.invariant.places) (sym (places_grow same nat_list_eq_equiv (λ (n : Bor (List ℕ)). folded_name n.now) c.args.names.now c.names.place c.index-names-place.result c.names-test.true c.index-names-place.is));
+  keys = c.in_ok-add.ensures.keys ∙ rw (c.in_ok-units.ensures, c.names.invariant.keys)
+      (sym (keys_grow same nat_list_eq_equiv (λ (n : Bor (List ℕ)). folded_name n.now) c.args.names.now c.names.place c.index-names-place.result
+      c.names-test.true c.index-names-place.is));
+  places = c.in_ok-add.ensures.places ∙ rw (c.in_ok-units.ensures, c.names.invariant.keys, c.names.invariant.places)
+      (sym (places_grow same nat_list_eq_equiv (λ (n : Bor (List ℕ)). folded_name n.now) c.args.names.now c.names.place c.index-names-place.result
+      c.names-test.true c.index-names-place.is));
 }

@@ -28,7 +28,8 @@ pub invariant_of-result : goal.invariant_of-result
 invariant_of-result c =
     let tree = c.mark-tree.result in
     let items : tree.items ≡ map marked_item c.args.tree.items = ap (λ (t : TreeValue). t.items) c.mark-tree.ensures in
-    let names : c.args.names.now ≡ folded_names tree.items = c.requires.names ∙ sym (kept (λ (i : Item). folded_name (item_name i)) name_kept c.args.tree.items) ∙ ap folded_names (sym items) in
+    let names : c.args.names.now ≡ folded_names tree.items = c.requires.names ∙ sym (kept (λ (i : Item). folded_name (item_name i)) name_kept c.args.tree.items)
+    ∙ ap folded_names (sym items) in
     let text = c.in_ok-text.ensures.1.0 in
     let breach = length_of_marked c.args.tree tree c.mark-tree.ensures ∙ c.in_ok-text.ensures.0 in (
       (
@@ -40,7 +41,8 @@ invariant_of-result c =
       subst IsTyped (sym c.mark-tree.ensures) (marked_typed c.args.tree c.requires.text),
       subst (λ (bs : List ℕ). IsTree bs tree) (sym text)
           (subst (λ (t : TreeValue). IsTree (canonical t) t) (sym c.mark-tree.ensures)
-          (c.marked_is_read.ensures c.requires.text.0 c.args.tree c.requires.text.1 (subst (λ (t : TreeValue). MayBeText (canonical t)) c.mark-tree.ensures (fits_text tree c.in_ok-text.ensures.0)))),
+          (c.marked_is_read.ensures c.requires.text.0 c.args.tree c.requires.text.1
+          (subst (λ (t : TreeValue). MayBeText (canonical t)) c.mark-tree.ensures (fits_text tree c.in_ok-text.ensures.0)))),
       (
         c.requires.text.0,
         record {

@@ -9,6 +9,7 @@ loop-declaration-preserved c =
     let all = c.args.declarations.now in
     let n = c.loop-declaration.declaration-index in
     let declaration = c.declaration-item.result in
-    seen_more (λ (n : Bor (List ℕ)). n.now) (λ (d : DeclarationValue). d.name) c.loop-declaration.names.items c.push.new.self.items (take n all) (take (n + 1) all) _ declaration
+    seen_more (λ (n : Bor (List ℕ)). n.now) (λ (d : DeclarationValue). d.name) c.loop-declaration.names.items c.push.new.self.items (take n all)
+    (take (n + 1) all) _ declaration
     c.loop-declaration.invariant c.in_ok-push.ensures.items (ap (λ (d : DeclarationValue). d.name) c.declaration.view_is)
     (take_more all n declaration c.loop-declaration-test.true ∙ ap (λ (d : DeclarationValue). take n all ++ d ∷ []) (sym c.declaration-item.is))

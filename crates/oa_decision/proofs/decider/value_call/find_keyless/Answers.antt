@@ -19,4 +19,5 @@ returns-then-lets-clause-found c =
     let same = c.deref.ensures.value ∙ ap (λ (x : InterfaceValue). x.properties) (c.behind-interface.view_is ∙ c.interface.ensures) in
     let at = subst (λ (ps : List Property). slice_get ps place ≡ Some p) same
     (slice_get_read c.deref.result.now (length c.deref.result.now) place p refl c.in_ok-property.ensures.lookup.3.0 c.in_ok-property.ensures.lookup.1) in
-    keyless i c.args.dispid c.args.access c.in_ok-form.form places place p all (only_one places 0 c.if-places-ne1.false) at c.in_ok-form.ensures (sym c.lets.ensures ∙ c.if-lets.true)
+    keyless i c.args.dispid c.args.access c.in_ok-form.form places place p all (only_one places 0 c.if-places-ne1.false) at c.in_ok-form.ensures
+    (sym c.lets.ensures ∙ c.if-lets.true)

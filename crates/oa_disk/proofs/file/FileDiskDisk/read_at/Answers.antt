@@ -14,8 +14,10 @@ returns-clause-read c =
     let self = c.args.self.now in
     let old = self.history in
     let bytes = c.get.new.bytes in
-    let inside : c.args.at + length bytes ≤ length (contents_after old.first old.calls old.written) = omega (arith, c.requires, contents_size self.size (recorded_history old) self.whole) in
-    on_ok_weaker c.get.result (λ is h. agrees_holds (contents_after old.first old.calls old.written) c.args.at bytes old.honest inside (subst (λ (b : Bool). IsTrue b) (ap (λ (r : Record). r.honest) is) h)) (at_ok _ _ c.get.result c.get.ensures.noted)
+    let inside : c.args.at + length bytes ≤ length (contents_after old.first old.calls old.written) =
+    omega (arith, c.requires, contents_size self.size (recorded_history old) self.whole) in
+    on_ok_weaker c.get.result (λ is h. agrees_holds (contents_after old.first old.calls old.written) c.args.at bytes old.honest inside
+    (subst (λ (b : Bool). IsTrue b) (ap (λ (r : Record). r.honest) is) h)) (at_ok _ _ c.get.result c.get.ensures.noted)
 
 pub returns-clause-stays : goal.returns-clause-stays
 returns-clause-stays c h =
@@ -33,6 +35,11 @@ pub returns-clause-honest : goal.returns-clause-honest
 returns-clause-honest c =
     let old = c.args.self.now.history in record {
       before = search rules;
-      kept = on_ok_weaker c.get.result (λ is h holds. subst (λ (b : Bool). IsTrue b) (sym (ap (λ (r : Record). r.honest) is)) (holds_agrees (contents_after old.first old.calls old.written) c.args.at c.get.new.bytes old.honest h holds)) (at_ok _ _ c.get.result c.get.ensures.noted);
-      same = at_err _ _ _ c.get.result (λ e is. ap (λ (r : Record). r.honest) is.0 ∙ agrees_none (contents_after old.first old.calls old.written) c.args.at old.honest) c.get.ensures.noted;
+      kept =
+          on_ok_weaker c.get.result (λ is h holds. subst (λ (b : Bool). IsTrue b) (sym (ap (λ (r : Record). r.honest) is))
+          (holds_agrees (contents_after old.first old.calls old.written) c.args.at c.get.new.bytes old.honest h holds))
+          (at_ok _ _ c.get.result c.get.ensures.noted);
+      same =
+          at_err _ _ _ c.get.result (λ e is. ap (λ (r : Record). r.honest) is.0
+          ∙ agrees_none (contents_after old.first old.calls old.written) c.args.at old.honest) c.get.ensures.noted;
     }

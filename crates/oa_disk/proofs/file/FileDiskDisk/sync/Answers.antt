@@ -11,7 +11,8 @@ use Rattle.oa_disk.proofs.file.FileDiskDisk.sync.Goals as goal
 pub returns-clause-syncs : goal.returns-clause-syncs
 returns-clause-syncs c =
     let self = c.args.self.now in
-    on_ok_weaker c.flush.result (λ is h. sync_syncs self.size (recorded_history self.history) self.whole _ (ap (λ (r : Record). recorded_history r) is)) (at_ok _ _ c.flush.result c.flush.ensures.noted)
+    on_ok_weaker c.flush.result (λ is h. sync_syncs self.size (recorded_history self.history) self.whole _ (ap (λ (r : Record). recorded_history r) is))
+    (at_ok _ _ c.flush.result c.flush.ensures.noted)
 
 pub returns-clause-images : goal.returns-clause-images
 returns-clause-images c h image left =
@@ -24,7 +25,8 @@ returns-clause-images c h image left =
 pub returns-clause-stay : goal.returns-clause-stay
 returns-clause-stay c =
     let self = c.args.self.now in
-    at_err _ _ _ c.flush.result (λ e is h. (read_stays self.size (recorded_history self.history) self.whole _ (ap (λ (r : Record). recorded_history r) is.0)).stay) c.flush.ensures.noted
+    at_err _ _ _ c.flush.result (λ e is h. (read_stays self.size (recorded_history self.history) self.whole _
+    (ap (λ (r : Record). recorded_history r) is.0)).stay) c.flush.ensures.noted
 
 pub returns-clause-time : goal.returns-clause-time
 returns-clause-time c h =

@@ -11,7 +11,8 @@ pub returns-clause-written : goal.returns-clause-written
 returns-clause-written c =
     let self = c.args.self.now in
     let is = ap (λ (r : Record). recorded_history r) c.put.ensures.noted in
-    on_ok c.put.result (λ h. write_holds self.size (recorded_history self.history) self.whole _ c.args.at c.args.bytes.now c.requires (λ i. (c.type_inv.bytes i).fits) is)
+    on_ok c.put.result (λ h. write_holds self.size (recorded_history self.history) self.whole _ c.args.at c.args.bytes.now c.requires
+    (λ i. (c.type_inv.bytes i).fits) is)
 
 pub returns-clause-writes : goal.returns-clause-writes
 returns-clause-writes c h =
@@ -23,12 +24,14 @@ pub returns-clause-any_bytes : goal.returns-clause-any_bytes
 returns-clause-any_bytes c =
     let self = c.args.self.now in
     let is = ap (λ (r : Record). recorded_history r) c.put.ensures.noted in
-    on_ok c.put.result (λ h. write_all self.size (recorded_history self.history) self.whole _ c.args.at c.args.bytes.now c.requires (λ i. (c.type_inv.bytes i).fits) is)
+    on_ok c.put.result (λ h. write_all self.size (recorded_history self.history) self.whole _ c.args.at c.args.bytes.now c.requires
+    (λ i. (c.type_inv.bytes i).fits) is)
 
 pub returns-clause-time : goal.returns-clause-time
 returns-clause-time c h =
     let self = c.args.self.now in
-    time_is self.size (recorded_history self.history) self.whole (Write c.args.at _) c.args.bytes.now (refl, c.requires, (λ i. (c.type_inv.bytes i).fits)) _ (ap (λ (r : Record). recorded_history r) c.put.ensures.noted)
+    time_is self.size (recorded_history self.history) self.whole (Write c.args.at _) c.args.bytes.now (refl, c.requires, (λ i. (c.type_inv.bytes i).fits)) _
+    (ap (λ (r : Record). recorded_history r) c.put.ensures.noted)
 
 pub returns-clause-honest : goal.returns-clause-honest
 returns-clause-honest c =

@@ -17,7 +17,9 @@ returns-clause-bytes c =
     let self = c.args.self.now in
     let at = c.args.at in
     let w = c.overlay.new.window in
-    let inside : AllInside (length (zeros self.size)) c.deref.result.now = rw c.deref.ensures.value (inside_zeros self.size self.calls.items self.whole.inside) in
-    let shown = c.overlay.ensures.shown (zeros self.size) inside (zeros_hold self.size at c.clear.new.bytes (length c.args.bytes.now) c.requires c.clear.ensures) in
+    let inside : AllInside (length (zeros self.size)) c.deref.result.now =
+    rw c.deref.ensures.value (inside_zeros self.size self.calls.items self.whole.inside) in
+    let shown =
+    c.overlay.ensures.shown (zeros self.size) inside (zeros_hold self.size at c.clear.new.bytes (length c.args.bytes.now) c.requires c.clear.ensures) in
     subst (λ (k : List DeviceCall). HasBytesAt (contents_after (zeros self.size) k self.written.items) at w) c.deref.ensures.value
     (subst (λ (b : List ℕ). HasBytesAt (contents_after (zeros self.size) c.deref.result.now b) at w) c.deref-2.ensures.value shown)

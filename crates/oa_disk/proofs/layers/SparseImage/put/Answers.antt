@@ -10,7 +10,8 @@ invariant_of-self-2-clause-whole c =
     let self = c.args.self.now in
     let bytes = c.args.bytes.now in
     let call = Write c.args.at (length c.args.bytes.now) in
-    let is = one_more self.size self.calls.items self.written.items call bytes _ _ (c.push_reserved.ensures.items ∙ ap (λ l. l ++ call ∷ []) c.reserve.ensures.items) c.in_ok-extend_from_slice.ensures.items in
+    let is = one_more self.size self.calls.items self.written.items call bytes _ _
+    (c.push_reserved.ensures.items ∙ ap (λ l. l ++ call ∷ []) c.reserve.ensures.items) c.in_ok-extend_from_slice.ensures.items in
     whole_is self.size (layered self.size self.calls.items self.written.items) self.whole call bytes (refl, c.requires, λ i. (c.type_inv.bytes i).fits) _ is
 
 pub returns-clause-bytes : goal.returns-clause-bytes
@@ -18,5 +19,7 @@ returns-clause-bytes c =
     let self = c.args.self.now in
     let bytes = c.args.bytes.now in
     let call = Write c.args.at (length c.args.bytes.now) in
-    let is = one_more self.size self.calls.items self.written.items call bytes _ _ (c.push_reserved.ensures.items ∙ ap (λ l. l ++ call ∷ []) c.reserve.ensures.items) c.in_ok-extend_from_slice.ensures.items in
-    ap (λ (s : DiskState). s.contents) (state_is self.size (layered self.size self.calls.items self.written.items) self.whole call bytes (refl, c.requires, λ i. (c.type_inv.bytes i).fits) _ is)
+    let is = one_more self.size self.calls.items self.written.items call bytes _ _
+    (c.push_reserved.ensures.items ∙ ap (λ l. l ++ call ∷ []) c.reserve.ensures.items) c.in_ok-extend_from_slice.ensures.items in
+    ap (λ (s : DiskState). s.contents) (state_is self.size (layered self.size self.calls.items self.written.items) self.whole call bytes
+    (refl, c.requires, λ i. (c.type_inv.bytes i).fits) _ is)

@@ -10,7 +10,8 @@ returns-then-self-clause-brings c = passes_over c.args.self.now c.self.inside.ov
 
 pub returns-in_ok-extend_from_slice-in-Part-clause-brings : goal.returns-in_ok-extend_from_slice-in-Part-clause-brings
 returns-in_ok-extend_from_slice-in-Part-clause-brings c =
-    takes_part c.args.self.now c.self.inside.over c.self.inside.part.items c.extend_from_slice.new.self.items c.args.bytes.now (sym c.self.view_is) c.if-self.false
+    takes_part c.args.self.now c.self.inside.over c.self.inside.part.items c.extend_from_slice.new.self.items c.args.bytes.now
+    (sym c.self.view_is) c.if-self.false
     (subst (λ l. IsPartRecord (l ++ c.args.bytes.now)) c.deref.ensures.value c.in-Part.ensures) (search rules)
 
 pub returns-in-Ends-clause-brings : goal.returns-in-Ends-clause-brings

@@ -9,4 +9,5 @@ returns-in-Ok-clause-brings c =
     (brings_first _ _ _ _ c.new-found.ensures (some_taken _ _ c.args.bytes.now c.in_ok-step.ensures.taken c.requires.some) c.in_ok-step.ensures.brings)
 
 pub returns-in-Ok-clause-others : goal.returns-in-Ok-clause-others
-returns-in-Ok-clause-others c = λ other apart. ap (λ l. client_state l other) c.in-Ok.ensures.entries ∙ others_stay c.args.client c.self.inside.clients _ other apart ∙ ap (λ l. client_state l other) c.self.view_is
+returns-in-Ok-clause-others c = λ other apart. ap (λ l. client_state l other) c.in-Ok.ensures.entries
+    ∙ others_stay c.args.client c.self.inside.clients _ other apart ∙ ap (λ l. client_state l other) c.self.view_is

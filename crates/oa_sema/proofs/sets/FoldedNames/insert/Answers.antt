@@ -9,4 +9,5 @@ returns-clause-added c = rw (← c.self.view_is) (rw list_any-map (c.in_ok-inser
 pub returns-clause-keys : goal.returns-clause-keys
 returns-clause-keys c =
     rw (← c.self.view_is)
-    (ap (λ (ks : List (Vec ℕ Global)). map (λ k. k.items) ks) c.in_ok-insert.ensures.keys ∙ insert_key-map (λ (k : Vec ℕ Global). k.items) same c.args.name c.self.inside.keys.keys)
+    (ap (λ (ks : List (Vec ℕ Global)). map (λ k. k.items) ks) c.in_ok-insert.ensures.keys
+    ∙ insert_key-map (λ (k : Vec ℕ Global). k.items) same c.args.name c.self.inside.keys.keys)

@@ -8,5 +8,12 @@ returns-in-Memory g c = record { held = []; ended = rw c.in-Memory.is (refl, (re
 pub returns-in-Disk : goal.returns-in-Disk
 returns-in-Disk g c = record {
   held = map reply_record c.flush_held.new.open_group.replies.items;
-  ended = rw c.in-Disk.is (record { told = c.flush_held.new.open_group.replies.items; are = refl; size = c.flush_held.ensures.size; none = search rules; ended = search rules });
+  ended =
+      rw c.in-Disk.is (record {
+        told = c.flush_held.new.open_group.replies.items;
+        are = refl;
+        size = c.flush_held.ensures.size;
+        none = search rules;
+        ended = search rules;
+      });
 }

@@ -6,5 +6,9 @@ use Rattle.oa_server.proofs.serving.ServerStateResponder.flush_held.Goals as goa
 pub returns-in-Memory : goal.returns-in-Memory
 returns-in-Memory g c = record {
   ready = rw c.in-Memory.is tt;
-  finishes = record { held = []; ended = rw c.in-Memory.is (refl, (refl, refl)); put = puts_none (frames c.args.framing).spelled _ [] refl c.requires.unbroken };
+  finishes = record {
+    held = [];
+    ended = rw c.in-Memory.is (refl, (refl, refl));
+    put = puts_none (frames c.args.framing).spelled _ [] refl c.requires.unbroken;
+  };
 }

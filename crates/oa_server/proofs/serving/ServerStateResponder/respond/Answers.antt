@@ -11,7 +11,8 @@ returns-in-Memory g c =
       answers = record {
         replies = reply ∷ [];
         turned = rw c.in-Memory.is (refl, (c.ordinary_turn-reply.result, refl, c.ordinary_turn-reply.ensures.turn));
-        put = puts_one (frames c.args.framing).spelled c.put_reply.result _ _ (reply ∷ []) reply refl (rw c.body.ensures.value at (rw c.head.ensures at c.put_reply.ensures));
+        put = puts_one (frames c.args.framing).spelled c.put_reply.result _ _ (reply ∷ []) reply refl
+            (rw c.body.ensures.value at (rw c.head.ensures at c.put_reply.ensures));
       };
       ready = rw c.in-Memory.is tt;
     }
@@ -20,7 +21,15 @@ pub returns-then-not-admit : goal.returns-then-not-admit
 returns-then-not-admit g c = record {
   answers = record {
     replies = [];
-    turned = rw c.in-Disk.is (record { told = []; are = refl; size = c.admit.ensures.size; ready = c.admit.ensures.ready (search rules); taken = c.admit.ensures.held (search rules) });
+    turned =
+        rw c.in-Disk.is (record {
+          told = [];
+          are = refl;
+          size = c.admit.ensures.size;
+          ready = c.admit.ensures.ready (search rules);
+          taken = c.admit.ensures.held
+              (search rules);
+        });
     put = puts_none (frames c.args.framing).spelled _ [] refl c.requires.unbroken;
   };
   ready = c.admit.ensures.ready (search rules);

@@ -14,14 +14,24 @@ put_reply_of-requires-clause-short g c = omega (arith, c.body.ensures.small)
 pub returns-in-Memory-clause-answers : goal.returns-in-Memory-clause-answers
 returns-in-Memory-clause-answers g c = record {
   told = (c.args.client, reply_record c.turn_for-reply.result) ∷ [];
-  turned = rw c.in-Memory.is (refl, (Replies c.args.client c.turn_for-reply.result, refl, record { reply = c.turn_for-reply.result; told_is = refl; turn = c.turn_for-reply.ensures.turn }));
+  turned =
+      rw c.in-Memory.is (
+        refl,
+        (
+          Replies c.args.client c.turn_for-reply.result,
+          refl,
+          record { reply = c.turn_for-reply.result; told_is = refl; turn = c.turn_for-reply.ensures.turn },
+        ),
+      );
   put = puts_frame c.put_reply_of.result _ _ _ (rw c.body.ensures.value at (rw c.head.ensures at c.put_reply_of.ensures));
 }
 
 pub returns-then-not-ask_over-clause-answers : goal.returns-then-not-ask_over-clause-answers
 returns-then-not-ask_over-clause-answers g c = record {
   told = [];
-  turned = rw c.in-Disk.is (held_over {g = g.D.Disk} c.in-Disk.store c.ask_over.new.store c.args.self.now.host c.ask_over.new.host c.args.self.now.desk c.ask_over.new.desk c.args.client (Body c.args.body.now) c.ask_over.ensures.size (c.ask_over.ensures.held (search rules)));
+  turned =
+      rw c.in-Disk.is (held_over {g = g.D.Disk} c.in-Disk.store c.ask_over.new.store c.args.self.now.host c.ask_over.new.host c.args.self.now.desk
+      c.ask_over.new.desk c.args.client (Body c.args.body.now) c.ask_over.ensures.size (c.ask_over.ensures.held (search rules)));
   put = puts_nothing _ c.requires.unbroken;
 }
 
@@ -30,7 +40,8 @@ returns-else-not-ask_over-clause-answers g c = record {
   told = all_frames (told_at c.ask_over.new.desk);
   turned =
       rw c.in-Disk.is
-      (told_over {g = g.D.Disk} c.in-Disk.store c.ask_over.new.store c.args.self.now.host c.ask_over.new.host c.args.self.now.desk c.ask_over.new.desk c.put_told.new.desk c.args.client (Body c.args.body.now) c.put_told.ensures.cleared c.ask_over.ensures.size
+      (told_over {g = g.D.Disk} c.in-Disk.store c.ask_over.new.store c.args.self.now.host c.ask_over.new.host c.args.self.now.desk c.ask_over.new.desk
+      c.put_told.new.desk c.args.client (Body c.args.body.now) c.put_told.ensures.cleared c.ask_over.ensures.size
       (c.ask_over.ensures.told (search rules)));
   put = c.put_told.ensures.puts;
 }

@@ -15,14 +15,23 @@ put_reply_of-requires-in-Disk-clause-short g c = omega (arith, c.body-in-Disk.en
 pub ask_alone-reply-requires-clause-none : goal.ask_alone-reply-requires-clause-none
 ask_alone-reply-requires-clause-none g c =
     let now = c.requires.now in
-    none_told_of {g = g.D.Disk} c.in-Disk.store now.0.host c.args.self.now.host now.0.storage now.0.desk c.args.self.now.desk now.1 (rw c.in-Disk.is at now.2) (rw c.in-Disk.is at c.requires.ready)
+    none_told_of {g = g.D.Disk} c.in-Disk.store now.0.host c.args.self.now.host now.0.storage now.0.desk c.args.self.now.desk now.1 (rw c.in-Disk.is at now.2)
+    (rw c.in-Disk.is at c.requires.ready)
 
 pub returns-in-Memory-clause-answers : goal.returns-in-Memory-clause-answers
 returns-in-Memory-clause-answers g c =
     let reply = c.replace_for-reply.result in
     record {
       told = (c.args.client, reply_record reply) ∷ [];
-      turned = rw c.in-Memory.is (refl, (Replies c.args.client reply, refl, record { reply = reply; told_is = refl; turn = c.replace_for-reply.ensures.turn c.args.client c.args.self.now.desk.owners }));
+      turned =
+          rw c.in-Memory.is (
+            refl,
+            (
+              Replies c.args.client reply,
+              refl,
+              record { reply = reply; told_is = refl; turn = c.replace_for-reply.ensures.turn c.args.client c.args.self.now.desk.owners },
+            ),
+          );
       put = puts_frame c.put_reply_of.result _ _ _ (rw c.body.ensures.value at (rw c.head.ensures at c.put_reply_of.ensures));
     }
 
@@ -33,7 +42,8 @@ returns-in-Disk-clause-answers g c =
       told = (c.args.client, reply_record reply) ∷ [];
       turned =
           rw c.in-Disk.is
-          (alone_over {g = g.D.Disk} c.in-Disk.store c.ask_alone-reply.new.store c.args.self.now.host c.ask_alone-reply.new.host c.args.self.now.desk c.ask_alone-reply.new.desk c.args.client c.args.body.now reply c.ask_alone-reply.ensures.size
+          (alone_over {g = g.D.Disk} c.in-Disk.store c.ask_alone-reply.new.store c.args.self.now.host c.ask_alone-reply.new.host c.args.self.now.desk
+          c.ask_alone-reply.new.desk c.args.client c.args.body.now reply c.ask_alone-reply.ensures.size
           (c.ask_alone-reply.ensures.told c.args.client));
       put = puts_frame c.put_reply_of-in-Disk.result _ _ _ (rw c.body-in-Disk.ensures.value at (rw c.head-in-Disk.ensures at c.put_reply_of-in-Disk.ensures));
     }

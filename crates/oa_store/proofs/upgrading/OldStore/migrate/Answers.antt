@@ -19,8 +19,10 @@ returns-in_err-switch_to-clause-leaves g c = record {
       (λ f step. (
         first,
         g.met.D.Disk.contents_is_image old h,
-        moved self.size self.chosen held.gate (first_gate self.library.items self.table) self.library.items self.table first step.0 f held.store (held.settled step.0 step.1)
-            (subst (λ (l : List ℕ). IsMove self.chosen self.size (first_gate l self.table) l (unlocked_table self.table) step.0 f) c.deref.ensures.value step.2),
+        moved self.size self.chosen held.gate (first_gate self.library.items self.table) self.library.items self.table first step.0 f held.store
+            (held.settled step.0 step.1)
+            (subst (λ (l : List ℕ). IsMove self.chosen self.size (first_gate l self.table) l (unlocked_table self.table) step.0 f) c.deref.ensures.value
+            step.2),
       ));
   done = search rules;
 }
@@ -37,8 +39,10 @@ returns-clause-leaves g c = record {
       (λ f step. (
         first,
         g.met.D.Disk.contents_is_image old h,
-        moved self.size self.chosen held.gate (first_gate self.library.items self.table) self.library.items self.table first step.0 f held.store (held.settled step.0 step.1)
-            (subst (λ (l : List ℕ). IsMove self.chosen self.size (first_gate l self.table) l (unlocked_table self.table) step.0 f) c.deref.ensures.value step.2),
+        moved self.size self.chosen held.gate (first_gate self.library.items self.table) self.library.items self.table first step.0 f held.store
+            (held.settled step.0 step.1)
+            (subst (λ (l : List ℕ). IsMove self.chosen self.size (first_gate l self.table) l (unlocked_table self.table) step.0 f) c.deref.ensures.value
+            step.2),
       ));
   done = λ h f now.
       let self = c.args.self in
@@ -50,8 +54,10 @@ returns-clause-leaves g c = record {
         (
           1 - self.chosen,
           first_gate self.library.items self.table,
-          arrived self.size self.chosen held.gate (first_gate self.library.items self.table) self.library.items self.table first step.0 f held.store (held.settled step.0 step.1)
-              (subst (λ (l : List ℕ). IsMoved self.chosen self.size (first_gate l self.table) l (unlocked_table self.table) step.0 f) c.deref.ensures.value step.2),
+          arrived self.size self.chosen held.gate (first_gate self.library.items self.table) self.library.items self.table first step.0 f held.store
+              (held.settled step.0 step.1)
+              (subst (λ (l : List ℕ). IsMoved self.chosen self.size (first_gate l self.table) l (unlocked_table self.table) step.0 f) c.deref.ensures.value
+              step.2),
         ),
       );
 }

@@ -8,4 +8,10 @@ overflow_sub-result c = omega (arith, object_within c.args.self.now c.args.numbe
 
 pub returns : goal.returns
 returns c =
-    omega (arith, release_due c.args.number c.args.self.now (sym c.locked.ensures ∙ c.if-locked.false), c.size_of.ensures, c.self.invariant.sum, ap table_size c.self.view_is)
+    omega (
+      arith,
+      release_due c.args.number c.args.self.now (sym c.locked.ensures ∙ c.if-locked.false),
+      c.size_of.ensures,
+      c.self.invariant.sum,
+      ap table_size c.self.view_is,
+    )

@@ -14,11 +14,14 @@ pub returns-in-Some-Put-clause-turn : goal.returns-in-Some-Put-clause-turn
 returns-in-Some-Put-clause-turn c =
     inl (record {
       kind = c.requires.plain;
-      turn = c.put_value.ensures c.args.body.now (rw c.tag_of.ensures (drafted c.args.self.now c.args.body.now c.in-Some-Put.put (rw c.in-Some-Put.field-0-is at c.in-Some-Put.ensures)));
+      turn =
+          c.put_value.ensures c.args.body.now (rw c.tag_of.ensures
+          (drafted c.args.self.now c.args.body.now c.in-Some-Put.put (rw c.in-Some-Put.field-0-is at c.in-Some-Put.ensures)));
     })
 
 pub returns-in-Some-Answered-clause-released : goal.returns-in-Some-Answered-clause-released
-returns-in-Some-Answered-clause-released c = λ number of code. no_release c.args.self.now c.args.body.now c.one_request.ensures _ number c.in-Some-Answered.ensures of
+returns-in-Some-Answered-clause-released c =
+    λ number of code. no_release c.args.self.now c.args.body.now c.one_request.ensures _ number c.in-Some-Answered.ensures of
 
 pub returns-in-Some-Put-clause-released : goal.returns-in-Some-Put-clause-released
 returns-in-Some-Put-clause-released c = λ number of code. no_release c.args.self.now c.args.body.now c.one_request.ensures _ number c.in-Some-Put.ensures of
@@ -26,7 +29,8 @@ returns-in-Some-Put-clause-released c = λ number of code. no_release c.args.sel
 pub returns-in-Some-Put-clause-bank : goal.returns-in-Some-Put-clause-bank
 returns-in-Some-Put-clause-bank c =
     ordinary_bank c.args.self.now c.put_value.new.self c.args.body.now c.put_value.result
-    (c.put_value.ensures c.args.body.now (rw c.tag_of.ensures (drafted c.args.self.now c.args.body.now c.in-Some-Put.put (rw c.in-Some-Put.field-0-is at c.in-Some-Put.ensures))))
+    (c.put_value.ensures c.args.body.now (rw c.tag_of.ensures
+    (drafted c.args.self.now c.args.body.now c.in-Some-Put.put (rw c.in-Some-Put.field-0-is at c.in-Some-Put.ensures))))
 
 pub returns-in-None-clause-turn : goal.returns-in-None-clause-turn
 returns-in-None-clause-turn c = inl (record { kind = c.requires.plain; turn = c.other_turn.ensures.turn })

@@ -7,4 +7,5 @@ returns-in-Change-clause-released c = λ number of code.
     c.make.ensures.released number (releases c.args.body.now number of c.one_request.ensures c.args.self.now is.request is.asked _ _ is.decided_is) code
 
 pub returns-in-Change-clause-turn : goal.returns-in-Change-clause-turn
-returns-in-Change-clause-turn c = rw (c.in-Change.ensures.drafts.2) at (c.make.ensures.turn c.args.body.now (rw c.in-Change.ensures.drafts.2 c.in-Change.ensures.drafts.0))
+returns-in-Change-clause-turn c =
+    rw (c.in-Change.ensures.drafts.2) at (c.make.ensures.turn c.args.body.now (rw c.in-Change.ensures.drafts.2 c.in-Change.ensures.drafts.0))

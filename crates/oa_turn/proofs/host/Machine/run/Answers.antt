@@ -7,5 +7,7 @@ bodies-preserved c = record {
   room = search rules;
   count = search rules;
   bank = search rules;
-  so_far = rw c.push_reserved.ensures.items (run_step (λ b. b.items) c.args.bodies.now c.bodies.body-index c.body-item.result _ _ _ c.bodies.replies.items c.turn-reply.result c.bodies-test.true (sym c.body-item.is) c.bodies.invariant.so_far (search rules));
+  so_far =
+      rw c.push_reserved.ensures.items (run_step (λ b. b.items) c.args.bodies.now c.bodies.body-index c.body-item.result _ _ _ c.bodies.replies.items
+      c.turn-reply.result c.bodies-test.true (sym c.body-item.is) c.bodies.invariant.so_far (search rules));
 }

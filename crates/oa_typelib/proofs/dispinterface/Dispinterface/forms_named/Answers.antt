@@ -13,5 +13,6 @@ returns c =
     rw (← c.self.view_is)
     (c.at.ensures
     ∙ ap (λ (i : InterfaceValue). filter_map (slice_get (declarations i)) c.places.result.now) (c.again.ensures ∙ sym c.self.view_is)
-    ∙ ap (filter_map (slice_get (declarations c.self.inside.interface.now))) (c.places.ensures ∙ ap (λ (m : MembersValue). places_in (position (same c.args.name.now) m.by_name.keys) m.by_name.places) c.members.view_is)
+    ∙ ap (filter_map (slice_get (declarations c.self.inside.interface.now)))
+    (c.places.ensures ∙ ap (λ (m : MembersValue). places_in (position (same c.args.name.now) m.by_name.keys) m.by_name.places) c.members.view_is)
     ∙ with_name c.self.inside.members.now (declarations c.self.inside.interface.now) c.self.invariant.0 c.args.name.now)

@@ -11,4 +11,5 @@ use Rattle.oa_typelib.proofs.index.Index.of.Goals as goal
 pub returns : goal.returns
 returns c =
     rw (c.in_ok-all_members.ensures, c.in_ok-by_interface.ensures, c.in_ok-entered_rows.ensures)
-    (ap (λ (is : List Item). indexed_by (map members_in is) (map (λ (i : InterfaceValue). folded_name i.name) (interfaces_of is)) (map (entered_in (folded_names is)) is)) c.items_of-items.ensures)
+    (ap (λ (is : List Item). indexed_by (map members_in is) (map (λ (i : InterfaceValue). folded_name i.name) (interfaces_of is))
+    (map (entered_in (folded_names is)) is)) c.items_of-items.ensures)

@@ -6,4 +6,5 @@ use Rattle.oa_typelib.proofs.library.Library.place.Goals as goal
 
 pub returns : goal.returns
 returns c =
-    c.place.ensures ∙ ap (position (same c.args.guid.now)) (c.self.invariant.0.0 ∙ ap (λ (t : TreeValue). map item_guid t.items) c.self.view_is) ∙ position-map item_guid (same c.args.guid.now) c.args.self.now.items
+    c.place.ensures ∙ ap (position (same c.args.guid.now)) (c.self.invariant.0.0 ∙ ap (λ (t : TreeValue). map item_guid t.items) c.self.view_is)
+    ∙ position-map item_guid (same c.args.guid.now) c.args.self.now.items

@@ -1,10 +1,13 @@
 #!/usr/bin/env python3
-"""One word has one meaning: no public type of Rust, no definition of specs/ and no function of a crate's interface has a name that another has.
+"""One word has one meaning: no public type of Rust, no definition of specs/ and no function of a
+crate's interface has a name that another has.
 
-    python3 tools/names.py        prints the names that two things share, and ends with status 1 if there are any
+    python3 tools/names.py        prints the names that two things share, and ends with status 1 if
+        there are any
 
-A function and the definition that it computes may share a name, within a crate; so may a type and the definition of its values. Lemmas among the definitions,
-methods, fields and private functions are not looked at. ALLOWED lists the names that two things may share, each with the reason.
+A function and the definition that it computes may share a name, within a crate; so may a type and
+the definition of its values. Lemmas among the definitions, methods, fields and private functions
+are not looked at. ALLOWED lists the names that two things may share, each with the reason.
 """
 import collections
 import os
@@ -18,7 +21,22 @@ import spec  # noqa: E402
 
 COMBINATOR = "one combinator, over words (oa_idl), over bytes (oa_ndr) or for formats (oa_formats)"
 ALLOWED = {
-    **dict.fromkeys(("Then", "and_then", "bind", "choose", "fail", "give", "given", "made", "nothing", "with", "◌▸◌"), COMBINATOR),
+    **dict.fromkeys(
+        (
+            "Then",
+            "and_then",
+            "bind",
+            "choose",
+            "fail",
+            "give",
+            "given",
+            "made",
+            "nothing",
+            "with",
+            "◌▸◌",
+        ),
+        COMBINATOR,
+    ),
     "◌>>=◌": "what Rust's `?` does, for each type of errors, and for parsers and decoders",
 }
 
@@ -53,12 +71,15 @@ def exported(crate):
         text = file.read()
     names = set()
     for of, some in EXPORT.findall(text):
-        names |= set(filter(None, map(str.strip, some.split(",")))) if some else {of.split("::")[-1]}
+        names |= (
+            set(filter(None, map(str.strip, some.split(",")))) if some else {of.split("::")[-1]}
+        )
     return names, set(re.findall(r"^pub mod (\w+);", text, re.MULTILINE))
 
 
 def items():
-    """The public types, and the functions that a crate's interface has, by their names: each with the file."""
+    """The public types, and the functions that a crate's interface has, by their names: each with
+    the file."""
     types, functions, roots = collections.defaultdict(set), collections.defaultdict(set), {}
     for crate, path, text in sources():
         names, modules = roots.setdefault(crate, exported(crate))

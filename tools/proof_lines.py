@@ -4,9 +4,10 @@
     python3 tools/proof_lines.py --check [FILE ..]    lists longer lines
     python3 tools/proof_lines.py --write [FILE ..]    breaks them, where the parts of a term meet
 
-Without files: all .antt files of the crates' proofs. `rattle fmt` gives the new lines their indentation, and writes a list that is broken with an item a line. A file
-is written only if it has the tokens that it had, but for the separators at the ends of such lists. No break is made inside a text that an edit of
-crates/*/must-fail or crates/*/wrong-bodies replaces.
+Without files: all .antt files of the crates' proofs. `rattle fmt` gives the new lines their
+indentation, and writes a list that is broken with an item a line. A file is written only if it has
+the tokens that it had, but for the separators at the ends of such lists. No break is made inside a
+text that an edit of crates/*/must-fail or crates/*/wrong-bodies replaces.
 """
 import argparse
 import concurrent.futures
@@ -44,7 +45,9 @@ def cited(path):
     if not crate:
         return []
     name, texts = os.path.relpath(path, crate[0]), []
-    for edit in glob.glob(f"{crate[0]}/must-fail/*.edit") + glob.glob(f"{crate[0]}/wrong-bodies/*.edit"):
+    for edit in glob.glob(f"{crate[0]}/must-fail/*.edit") + glob.glob(
+        f"{crate[0]}/wrong-bodies/*.edit"
+    ):
         with open(edit, encoding="utf-8") as file:
             lines = file.read().split("\n")
         if f"file: {name}" in lines:
@@ -53,7 +56,8 @@ def cited(path):
 
 
 def opened_before(line):
-    """For each place of a line, the brackets that are open before it; a brace counts as `r` in a record, and as `{` does a text."""
+    """For each place of a line, the brackets that are open before it; a brace counts as `r` in a
+    record, and as `{` does a text."""
     stack, stacks = [], []
     for at, sign in enumerate(line):
         stacks.append(tuple(stack))
@@ -72,18 +76,34 @@ def opened_before(line):
 
 
 def cost(line, at, stack):
-    """Returns the cost of a break in place of the space there, or None if there is to be none. One in an implicit argument costs much."""
+    """Returns the cost of a break in place of the space there, or None if there is to be none. One
+    in an implicit argument costs much."""
     before, after = line[:at].split()[-1] if line[:at].split() else "", line[at + 1 :].split(" ")[0]
     if not before or not after or "{text" in stack:
         return None
     # (no break between a binder's names, or of `let` and `in` from what they begin with)
     head = line[:at]
     binder = max(head.rfind("λ "), head.rfind("∀ "))
-    if binder >= 0 and not re.search(r"\.(\s|$)", head[binder:]) or head.endswith(" λ") or before == "λ":
+    if (
+        binder >= 0
+        and not re.search(r"\.(\s|$)", head[binder:])
+        or head.endswith(" λ")
+        or before == "λ"
+    ):
         return None
-    if before in ("let", "record", "elim", "use", "pub", *OPERATORS[:-1]) or before in JOINS or after in ("in", "=", "where", ":", "["):
+    if (
+        before in ("let", "record", "elim", "use", "pub", *OPERATORS[:-1])
+        or before in JOINS
+        or after in ("in", "=", "where", ":", "[")
+    ):
         return None
-    if before == ":" or before == "=" and after == "record" or re.search(r"\(\w[\w' ]*$", head) and re.match(r"[\w' ]*: ", line[at + 1 :]):
+    if (
+        before == ":"
+        or before == "="
+        and after == "record"
+        or re.search(r"\(\w[\w' ]*$", head)
+        and re.match(r"[\w' ]*: ", line[at + 1 :])
+    ):
         return None
     if before == "in" or before == "=" and stack[-1:] != ("r",) or after in JOINS:
         kind = 0
@@ -96,7 +116,13 @@ def cost(line, at, stack):
     else:
         kind = 8
     short = len(head.strip())
-    return 12 * len(stack) + 40 * stack.count("{") + kind + 0.08 * (WIDTH - at) + (20 if short < LEAST and kind else 0)
+    return (
+        12 * len(stack)
+        + 40 * stack.count("{")
+        + kind
+        + 0.08 * (WIDTH - at)
+        + (20 if short < LEAST and kind else 0)
+    )
 
 
 def broken(line, texts):
@@ -143,7 +169,8 @@ def formatted(text):
 
 
 def tokens(text):
-    """The tokens of a text, without the separators that a broken list has at its ends; lines that use one module count as one."""
+    """The tokens of a text, without the separators that a broken list has at its ends; lines that
+    use one module count as one."""
     with tempfile.TemporaryDirectory(prefix="proof_lines") as folder:
         path = f"{folder}/it.antt"
         with open(path, "w", encoding="utf-8") as file:
@@ -158,11 +185,15 @@ def tokens(text):
         if it in (",", ";") and following in (")", "]", "}") or it == "|" and kept[-1:] == ["["]:
             continue
         kept.append(it)
-    return re.sub(r"\n(use\n[^\n]+\n\.\n\{)((?:\n[^\n}]+)*)\n\}(?=\n)", one_use, "\n" + "\n".join(kept) + "\n")
+    return re.sub(
+        r"\n(use\n[^\n]+\n\.\n\{)((?:\n[^\n}]+)*)\n\}(?=\n)", one_use, "\n" + "\n".join(kept) + "\n"
+    )
 
 
 def one_use(line):
-    return "\n" + "\n".join(f"{line[1]} {name}" for name in line[2].split("\n") if name not in ("", ","))
+    return "\n" + "\n".join(
+        f"{line[1]} {name}" for name in line[2].split("\n") if name not in ("", ",")
+    )
 
 
 def wrapped(path):
@@ -190,7 +221,9 @@ def wrapped(path):
 
 
 def main():
-    parser = argparse.ArgumentParser(description=__doc__, formatter_class=argparse.RawDescriptionHelpFormatter)
+    parser = argparse.ArgumentParser(
+        description=__doc__, formatter_class=argparse.RawDescriptionHelpFormatter
+    )
     parser.add_argument("--check", action="store_true", help="list the lines that are too long")
     parser.add_argument("--write", action="store_true", help="break them")
     parser.add_argument("files", nargs="*", metavar="FILE")

@@ -65,7 +65,6 @@ DURABLE_CRATES = (
     "oa_disk",
     "oa_journal",
     "oa_store",
-    "oa_keeper",
     "oa_group_commit",
     "oa_server",
     "oa_history",
@@ -82,11 +81,19 @@ PROMISE = re.compile(r"^(\d)\. (.*?)(?=^\d\. |^#|^\S|\Z)", re.MULTILINE | re.DOT
 
 # the subjects of IsCrashHistory, each with the crates that define it
 SUBJECTS = {
-    "a library: its text, its canonical text, its checks, its members, its description": "tokens idl printer sema typelib compat description",
-    "decisions on requests, and their effect on the table": "bind coerce decision turn table fits",
-    "encodings of values, events and tables, the disk, the store": "formats image disk journal store keeper",
-    "sessions over streams, commit groups, locks and their owners, recovery, crashes": "stream frame mux group_commit owners server history",
-    "values, and their bytes in a request or reply": "array bstr variant ndr wire_text wire_array wire_variant",
+    "a library: its text, its canonical text, its checks, its members": (
+        "tokens idl printer sema typelib compat"
+    ),
+    "decisions on requests, and their effect on the table": "bind coerce decision turn table",
+    "encodings of values, events and tables, the disk, the store": (
+        "formats image disk journal store"
+    ),
+    "sessions over streams, commit groups, locks and their owners, recovery, crashes": (
+        "stream frame mux group_commit server history"
+    ),
+    "values, and their bytes in a request or reply": (
+        "array bstr variant ndr wire_text wire_array wire_variant"
+    ),
     "codes, limits, types and their numbers": "model",
     "requests and replies": "record",
 }

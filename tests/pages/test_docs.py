@@ -133,7 +133,9 @@ class Docs(Cases):
         self.tell("the pictures", done.returncode == 0, done.stdout)
 
     def test_one_word_has_one_meaning(self):
-        done = subprocess.run([sys.executable, f"{ROOT}/tools/names.py"], capture_output=True, text=True)
+        done = subprocess.run(
+            [sys.executable, f"{ROOT}/tools/names.py"], capture_output=True, text=True
+        )
         self.tell("names with one meaning", done.returncode == 0, done.stdout + done.stderr)
 
     def test_how_much_there_is_to_read(self):
@@ -145,12 +147,18 @@ class Docs(Cases):
         )
 
     def test_a_definition_in_the_wrong_folder(self):
-        """spec.py names a definition of specs/promise/ that no promise needs, and one outside that a promise needs; a lemma that one carries is needed."""
+        """spec.py names a definition of specs/promise/ that no promise needs, and one outside that
+        a promise needs; a lemma that one carries is needed."""
         files = {
-            "promise/Sums": "use Rattle.low.specs.Parts.{added}\nuse Rattle.low.specs.promise.Laws.{law}\n\n"
-            "-- the promise\nabbrev pub total : List ℕ → ℕ\ntotal xs = added xs law\n\nabbrev pub spare : ℕ\nspare = 1\n",
+            "promise/Sums": "use Rattle.low.specs.Parts.{added}\n"
+            "use Rattle.low.specs.promise.Laws.{law}\n\n"
+            "-- the promise\nabbrev pub total : List ℕ → ℕ\ntotal xs = added xs law\n\n"
+            "abbrev pub spare : ℕ\nspare = 1\n",
             "promise/Laws": "pub law : ⊤\nlaw = tt\n",
-            "Parts": "abbrev pub added : List ℕ → ⊤ → ℕ\nadded xs t = 0\n\nabbrev pub other : ℕ\nother = 2\n",
+            "Parts": (
+                "abbrev pub added : List ℕ → ⊤ → ℕ\nadded xs t = 0\n\nabbrev pub other : ℕ\n"
+                "other = 2\n"
+            ),
         }
         with tempfile.TemporaryDirectory() as root:
             for name, text in files.items():
@@ -160,7 +168,11 @@ class Docs(Cases):
                     file.write(text)
             found = spec.Book(root).misplaced([("low.specs.promise.Sums", "total")])
         told = [(it.split(":")[0], "into" in it) for it in found]
-        self.tell("a spare one, and one that is missing", told == [("low.specs.promise.Sums.spare", False), ("low.specs.Parts.added", True)], found)
+        self.tell(
+            "a spare one, and one that is missing",
+            told == [("low.specs.promise.Sums.spare", False), ("low.specs.Parts.added", True)],
+            found,
+        )
 
     def test_the_book_of_the_promises(self):
         done = subprocess.run(

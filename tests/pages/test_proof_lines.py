@@ -6,7 +6,7 @@ import sys
 import tempfile
 import unittest
 
-from running import ROOT, Cases
+from tests.support.running import ROOT, Cases
 
 sys.path.append(f"{ROOT}/tools")
 import proof_lines
@@ -15,7 +15,10 @@ TOOL = f"{ROOT}/tools/proof_lines.py"
 NAMES = [f"a_name_that_is_rather_long_{it}" for it in range(8)]
 USED = f"use Rattle.std.specs.Prelude.{{{', '.join(NAMES)}}}\n"
 SIGNATURE = "f : {A : Type 0} → A → A\n"
-SUM = f"f a = let x = {' '.join(NAMES[:3])} in {' ∙ '.join(f'({it} x (λ y. y))' for it in NAMES[:6])}\n"
+SUM = (
+    f"f a = let x = {' '.join(NAMES[:3])} in "
+    f"{' ∙ '.join(f'({it} x (λ y. y))' for it in NAMES[:6])}\n"
+)
 RECORD = f"f a = record {{ {'; '.join(f'{it} = a' for it in NAMES)} }}\n"
 
 
@@ -81,7 +84,9 @@ class Cited(Cases):
                 file.write("file: proofs/One.antt\nold: f a = a\nnew: f a = b\n")
             root, proof_lines.ROOT = proof_lines.ROOT, room
             try:
-                found = [proof_lines.cited(f"{room}/crates/it/proofs/{it}.antt") for it in ("One", "Two")]
+                found = [
+                    proof_lines.cited(f"{room}/crates/it/proofs/{it}.antt") for it in ("One", "Two")
+                ]
             finally:
                 proof_lines.ROOT = root
             self.tell("texts", found == [["f a = a"], []], found)

@@ -114,8 +114,8 @@ def text_at(root, commit, path):
 
 
 def says_the_same(root, commit, path, until=None):
-    """Returns whether a file of code, definitions or proofs is the one of a commit but for
-    comments, and for the lines that it is laid out in: as it is now, or at another commit."""
+    """Returns whether a file of code, definitions or proofs says what it said at a commit: as it
+    is now, or at another commit. Comments and the division into lines do not count."""
     says = {".antt": said_by, ".rt": code_of}.get(os.path.splitext(path)[1])
     before = text_at(root, commit, path) if says else None
     after = None if before is None else text_at(root, until, path)

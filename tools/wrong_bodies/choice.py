@@ -143,29 +143,36 @@ def changed_crates(root, commit, folders=FOLDERS, until=None):
     }
 
 
-def read_renaming(root):
-    """Returns the two commits of the last renaming, and the new names of crates by their old ones;
-    None if there is no such file."""
+def read_renamings(root):
+    """Returns the renamings, the oldest first: each its two commits, and the new names of crates by
+    their old ones."""
     if not os.path.isfile(f"{root}/{RENAMED}"):
-        return None
+        return []
     with open(f"{root}/{RENAMED}", encoding="utf-8") as it:
         lines = [line.split() for line in it if not line.startswith("#")]
-    pairs = [line for line in lines if len(line) == 2]
-    return (*pairs[0], dict(pairs[1:])) if pairs else None
+    found = []
+    for line in (it for it in lines if len(it) == 2):
+        if all(re.fullmatch("[0-9a-f]{40}", it) for it in line):
+            found.append((*line, {}))
+        elif found:
+            found[-1][2].update([line])
+    return found
 
 
 def changed_but_for_names(root, commit, folders=FOLDERS):
-    """Returns what `changed_crates` does; of a commit before the last renaming, the crates that had
-    changed before it, or have changed since then."""
-    renaming = read_renaming(root)
-    if renaming is None:
-        return changed_crates(root, commit, folders)
-    before, after, names = renaming
-    earlier = changed_crates(root, commit, folders, before)
-    later = changed_crates(root, after, folders)
-    if earlier is None or later is None:
-        return changed_crates(root, commit, folders)
-    return {names.get(it, it) for it in earlier} | later
+    """Returns what `changed_crates` does, but without what renamings changed: the crates that have
+    changed before, between and after these."""
+    changed = set()
+    for before, after, names in read_renamings(root):
+        earlier = changed_crates(root, commit, folders, before)
+        if (
+            earlier is not None
+            and git(root, "merge-base", "--is-ancestor", after, "HEAD") is not None
+        ):
+            changed = {names.get(it, it) for it in changed | earlier}
+            commit = after
+    later = changed_crates(root, commit, folders)
+    return None if later is None else changed | later
 
 
 class Choice:

@@ -592,6 +592,12 @@ def renaming(root):
     write(f"{root}/{RENAMED}", f"{before} {after}\n")
     choice = Choice(root, renamed, True)
     tell("a crate that changed before a renaming", choice.whole == {"steps"}, choice.why)
+    tried_over(root, steps=before, upper=older)
+    choice = Choice(root, renamed, True)
+    tell("a crate that changed before the first of two", choice.whole == {"upper"}, choice.why)
+    write(f"{root}/{RENAMED}", f"{older} {newer}\nabove upper\n{before} {after}\n")
+    choice = Choice(root, renamed, True)
+    tell("a crate that changed between two", choice.whole == {"upper"}, choice.why)
 
 
 def main():

@@ -36,7 +36,7 @@ PARTS = {
     )
 }
 # the parts that need no program
-PROGRAMLESS = {"docs", "figures", "style"}
+PROGRAMLESS = {"docs", "figures", "python", "style"}
 # the parts outside tests/program that look for lost or changed data
 ONCE = {
     "client_forks",

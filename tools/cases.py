@@ -35,8 +35,8 @@ PARTS = {
         for path in sorted(glob.glob(f"{ROOT}/tests/*/test_*.py"))
     )
 }
-# the parts that need no program
-PROGRAMLESS = {"docs", "figures", "style"}
+# the parts that need no program: those of the pages, except their examples
+PROGRAMLESS = {it for it in PARTS if PARTS[it].startswith("tests.pages.")} - {"examples"}
 # the parts outside tests/program that look for lost or changed data
 ONCE = {
     "client_forks",

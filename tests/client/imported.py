@@ -148,6 +148,21 @@ def used(oaut, library, program):
     return classes, puts, gets, wrong
 
 
+def converted(path, out, room, wine):
+    """The run of a converter over a text or a file."""
+    from tests.client.clients import ENVIRONMENT
+    from tests.com.under_wine import windows
+
+    if path.endswith(".idl"):
+        words = [sys.executable, "-m", "oaut", "import", path, "-o", out]
+        return subprocess.run(words, env=ENVIRONMENT, capture_output=True, timeout=600)
+    words = ["wine", f"{room}/tlb2idl.exe", windows(path), "-o", windows(out)]
+    done = subprocess.run(
+        words, env=wine.env, stdin=subprocess.DEVNULL, capture_output=True, timeout=600
+    )
+    return done
+
+
 def main():
     parser = argparse.ArgumentParser(
         description=__doc__, formatter_class=argparse.RawDescriptionHelpFormatter
@@ -157,8 +172,8 @@ def main():
     given = parser.parse_args()
     if given.program:
         os.environ["OAUT_PROGRAM"] = os.path.abspath(given.program)
-    from tests.client.clients import ENVIRONMENT, PROGRAM, oaut
-    from tests.com.under_wine import COM, Wine, built, windows
+    from tests.client.clients import PROGRAM, oaut
+    from tests.com.under_wine import COM, Wine, built
 
     texts = [
         it
@@ -181,18 +196,7 @@ def main():
                 out = f"{room}/out.idl"
                 if os.path.exists(out):
                     os.remove(out)
-                if path in texts:
-                    words = [sys.executable, "-m", "oaut", "import", path, "-o", out]
-                    done = subprocess.run(words, env=ENVIRONMENT, capture_output=True, timeout=600)
-                else:
-                    words = ["wine", f"{room}/tlb2idl.exe", windows(path), "-o", windows(out)]
-                    done = subprocess.run(
-                        words,
-                        env=wine.env,
-                        stdin=subprocess.DEVNULL,
-                        capture_output=True,
-                        timeout=600,
-                    )
+                done = converted(path, out, room, wine)
                 report = done.stderr.decode("utf-8", "replace").replace("\r", "")
                 counts = counted(report)
                 if done.returncode or counts is None:
@@ -207,9 +211,8 @@ def main():
                 classes, puts, gets = classes + told[0], puts + told[1], gets + told[2]
                 worst += [f"{name}: {it}" for it in told[3]]
                 interfaces, coclasses, kept, reasons = counts
-                totals.update(
-                    {"interfaces": interfaces, "coclasses": coclasses, "kept": kept, **reasons}
-                )
+                sizes = {"interfaces": interfaces, "coclasses": coclasses, "kept": kept}
+                totals.update({**sizes, **reasons})
                 row = " | ".join(str(reasons[it] or "") for it in (*REASONS, "rest"))
                 print(f"| {name} | {interfaces}, {coclasses} | {kept} | {row} |", flush=True)
         finally:

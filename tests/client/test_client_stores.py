@@ -146,6 +146,9 @@ class Stores(ClientCases):
                         [item.Count, item.Name],
                         [I4(last), name],
                     )
+                    item.Name = "a" * 131_072
+                    item.Grid = Array(I2, [(2, -1), (3, 5)], range(1, 7))
+                    item.Count = 7
 
     def test_a_server_that_is_killed(self):
         with kept(self) as (_, serve):

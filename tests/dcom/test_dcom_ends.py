@@ -83,8 +83,8 @@ class Ends(Scripted):
         self.script("again", *words, env=served.settings(), least=least)
 
     def with_more(self):
-        """A library with an interface, a coclass and a member more, whose new interface comes before
-        the others."""
+        """A library with an interface, a coclass and a member more, whose new interface comes
+        before the others."""
         with open(f"{ROOT}/examples/full.idl") as file:
             text = file.read()
         guid = "11223344-5566-7788-99AA-BBCCDDEEFF0"

@@ -365,8 +365,8 @@ class Round:
         self.visits.append(visit)
         return visit
 
-    def play(self):
-        """All clients to their ends, and what happens meanwhile."""
+    def begin(self):
+        """Starts the gateway of a round."""
         for it in os.listdir(self.gateway.room):
             if it.startswith("log."):
                 os.unlink(f"{self.gateway.room}/{it}")
@@ -381,6 +381,31 @@ class Round:
             self.gateway.variables["SYNC_ERROR"] = FAULTS[self.kind]
         self.gateway.start()
         self.watcher = Watcher(self.gateway)
+
+    def check_end(self, status, struck):
+        with open(f"{self.gateway.room}/said") as file:
+            said = file.read()
+        if "Sanitizer" in said or "runtime error" in said:
+            raise Wrong(said[-3000:])
+        faulted = any(
+            struct.unpack_from("<I", it, 4)[0] == WRITE_FAULT
+            for visit in self.visits
+            for it in visit.replies
+        )
+        due = {"gateway": (-9,), "both": (-9,), "device": (0, 3), "full": (0, 3)}.get(
+            self.kind, (0,)
+        )
+        if (
+            struck
+            and status not in due
+            and not (self.kind in ("gateway", "both") and status == 0)
+            or (faulted and status != 3)
+        ):
+            raise Wrong(f"the gateway's status is {status}: {said[-1000:]}")
+
+    def play(self):
+        """All clients to their ends, and what happens meanwhile."""
+        self.begin()
         begun, live, left = time.monotonic(), [], CLIENTS + self.dice.randrange(8)
         strikes = begun + self.dice.uniform(0.02, 0.5)
         struck = self.kind in ("nothing", *FAULTS)
@@ -419,25 +444,7 @@ class Round:
             self.gateway.process.terminate()
         status = self.gateway.process.wait(SECONDS)
         self.watcher.thread.join(SECONDS)
-        with open(f"{self.gateway.room}/said") as file:
-            said = file.read()
-        if "Sanitizer" in said or "runtime error" in said:
-            raise Wrong(said[-3000:])
-        faulted = any(
-            struct.unpack_from("<I", it, 4)[0] == WRITE_FAULT
-            for visit in self.visits
-            for it in visit.replies
-        )
-        due = {"gateway": (-9,), "both": (-9,), "device": (0, 3), "full": (0, 3)}.get(
-            self.kind, (0,)
-        )
-        if (
-            struck
-            and status not in due
-            and not (self.kind in ("gateway", "both") and status == 0)
-            or (faulted and status != 3)
-        ):
-            raise Wrong(f"the gateway's status is {status}: {said[-1000:]}")
+        self.check_end(status, struck)
 
     def strike(self):
         """Ends who is to be ended."""
@@ -665,6 +672,18 @@ class Round:
         raise Wrong(f"the store holds none of the {len(self.states)} states that it may hold")
 
 
+def note(seen, it):
+    """Counts what a round had."""
+    seen["rounds"] += 1
+    seen[it.kind] += 1
+    seen["connections"] += len(it.visits)
+    seen["bad lines"] += it.bad_lines
+    seen["requests"] += sum(len(visit.bodies) for visit in it.visits)
+    seen["replies"] += sum(len(visit.replies) for visit in it.visits)
+    seen["watched"] += len(it.watcher.lines)
+    seen["unanswered"] += sum(len(visit.bodies) - len(visit.replies) for visit in it.visits)
+
+
 def rounds(first, count, tells=lambda *_: None):
     """Plays rounds from a seed on, each ten over one store. Gives what was counted; raises
     Wrong."""
@@ -689,15 +708,7 @@ def rounds(first, count, tells=lambda *_: None):
             model = Replay().model
             LIBRARIES[LIBRARY] = model.library
             LIBRARIES[model.library.text()] = model.library
-            sockets = (
-                "listen",
-                "alone",
-                "listen-hex",
-                "listen-read",
-                "control",
-                "metrics",
-                "watch",
-            )
+            sockets = "listen alone listen-hex listen-read control metrics watch".split()
             with Gateway(
                 "--report",
                 "0",
@@ -720,16 +731,7 @@ def rounds(first, count, tells=lambda *_: None):
                     except (Wrong, AssertionError) as fault:
                         raise Wrong(f"round {seed}, {it.kind}: {fault}") from fault
                     goes_on()
-                    seen["rounds"] += 1
-                    seen[it.kind] += 1
-                    seen["connections"] += len(it.visits)
-                    seen["bad lines"] += it.bad_lines
-                    seen["requests"] += sum(len(visit.bodies) for visit in it.visits)
-                    seen["replies"] += sum(len(visit.replies) for visit in it.visits)
-                    seen["watched"] += len(it.watcher.lines)
-                    seen["unanswered"] += sum(
-                        len(visit.bodies) - len(visit.replies) for visit in it.visits
-                    )
+                    note(seen, it)
                     tells(seed, it.kind, seen)
     return seen
 

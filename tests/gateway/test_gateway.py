@@ -1364,7 +1364,8 @@ class Noise(Cases):
         return data
 
     def is_served(self, gateway, number):
-        """Whether a client gets its turn behind those that have gone, whose locks are given back."""
+        """Whether a client gets its turn behind those that have gone, whose locks are given
+        back."""
         served, until = False, time.monotonic() + SECONDS
         # until who has gone has left its place, and its locks are given back
         while not served and time.monotonic() < until:
@@ -1662,7 +1663,8 @@ class Behind(Cases):
     """What stands before the gateway, as docs/operations/gateway.md has it."""
 
     def asked(self, room, port, name):
-        """What the gateway answers to a client with the certificate of this name, or without one."""
+        """What the gateway answers to a client with the certificate of this name, or without
+        one."""
         import ssl
 
         context = ssl.create_default_context(cafile=f"{room}/server.pem")

@@ -109,6 +109,33 @@ def _index(folder, files):
         file.writelines(entries)
 
 
+def _set_up(until, root):
+    """Has the scripts of its packages run."""
+    script = (
+        "set -e; export DEBIAN_FRONTEND=noninteractive LC_ALL=C; mount -t proc proc /proc; "
+        "dpkg --force-depends --force-unsafe-io --install /packages/base-passwd_*.deb "
+        "/packages/base-files_*.deb; "
+        "dpkg --force-depends --force-unsafe-io --install /packages/*.deb; rm -r /packages"
+    )
+    done = _ran(
+        until,
+        [
+            "unshare",
+            "--mount",
+            "--pid",
+            "--fork",
+            "--kill-child",
+            "chroot",
+            root,
+            "/bin/sh",
+            "-c",
+            script,
+        ],
+    )
+    if done.returncode:
+        raise Missing(f"its packages are not set up: {done.stdout[-300:]}{done.stderr[-300:]}")
+
+
 def made(room, more):
     """A fresh root in a folder: Debian's essential packages, apt and systemd, installed as their
     scripts do it; and a repository in it, /repository, of `more` packages with what they depend on,
@@ -155,29 +182,7 @@ def made(room, more):
         os.rename(f"{cache}/archives/{it}", f"{root}/repository/{it}")
     _index(f"{root}/repository", glob.glob(f"{root}/repository/*.deb"))
     shutil.rmtree(cache)
-    script = (
-        "set -e; export DEBIAN_FRONTEND=noninteractive LC_ALL=C; mount -t proc proc /proc; "
-        "dpkg --force-depends --force-unsafe-io --install /packages/base-passwd_*.deb "
-        "/packages/base-files_*.deb; "
-        "dpkg --force-depends --force-unsafe-io --install /packages/*.deb; rm -r /packages"
-    )
-    done = _ran(
-        until,
-        [
-            "unshare",
-            "--mount",
-            "--pid",
-            "--fork",
-            "--kill-child",
-            "chroot",
-            root,
-            "/bin/sh",
-            "-c",
-            script,
-        ],
-    )
-    if done.returncode:
-        raise Missing(f"its packages are not set up: {done.stdout[-300:]}{done.stderr[-300:]}")
+    _set_up(until, root)
     with open(f"{root}/etc/apt/sources.list", "w") as file:
         file.write("deb [trusted=yes] file:/repository ./\n")
     return root

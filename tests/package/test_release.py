@@ -92,6 +92,23 @@ def needed(names):
     return sorted(found)
 
 
+def list_packages(folder, names):
+    """Has a root know these packages as this machine does."""
+    with open(f"{folder}/var/lib/dpkg/status", "w") as file:
+        shown = (
+            "Package: ${Package}\nStatus: ${Status}\nMaintainer: ${Maintainer}\n"
+            "Architecture: ${Architecture}\nVersion: ${Version}\nDescription: ${binary:Summary}\n\n"
+        )
+        file.write(
+            subprocess.run(
+                ["dpkg-query", "-W", "-f", shown, *names],
+                capture_output=True,
+                text=True,
+                check=True,
+            ).stdout
+        )
+
+
 def fresh_root(folder):
     """A root of Debian that has these packages and nothing else, of this machine's own files."""
     names = needed(PACKAGES)
@@ -150,19 +167,7 @@ def fresh_root(folder):
     for it in ("null", "zero", "urandom"):
         with open(f"{folder}/dev/{it}", "w"):
             pass
-    with open(f"{folder}/var/lib/dpkg/status", "w") as file:
-        shown = (
-            "Package: ${Package}\nStatus: ${Status}\nMaintainer: ${Maintainer}\n"
-            "Architecture: ${Architecture}\nVersion: ${Version}\nDescription: ${binary:Summary}\n\n"
-        )
-        file.write(
-            subprocess.run(
-                ["dpkg-query", "-W", "-f", shown, *names],
-                capture_output=True,
-                text=True,
-                check=True,
-            ).stdout
-        )
+    list_packages(folder, names)
 
 
 def in_root(folder, script, *files):

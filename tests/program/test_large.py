@@ -117,7 +117,8 @@ class Large(Cases):
             )
 
     def laid(self, room, head, last):
-        """Writes the store; returns where its groups begin, and the lengths of its library and table."""
+        """Writes the store; returns where its groups begin, and the lengths of its library and
+        table."""
         library = run_in(room, ["check", "lib.idl"])[1]
         table = 8 + HUGE * (4 + len(head) + full.LONGEST)
         body = store.body_of(2, 1, store.MOST_BANK)

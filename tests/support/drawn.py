@@ -104,9 +104,8 @@ class Session:
             return self.scalar(None if declared == VARIANT else declared)
         return self.array() if roll > 0.95 else self.scalar()
 
-    def call(self, put=False, arrays=False):
-        """A call of a property, most often of one that is there; with `arrays` of one that holds an
-        array."""
+    def callee(self):
+        """An object, one of its interfaces most often, and the members of it."""
         dice = self.dice
         known = sorted(self.model.objects)
         of = (
@@ -124,6 +123,13 @@ class Session:
             else dice.choice([ITEM, FIRST_ONE])
         )
         members = library.members(guid if guid in offered else offered[0])
+        return of, guid, members
+
+    def call(self, put=False, arrays=False):
+        """A call of a property, most often of one that is there; with `arrays` of one that holds an
+        array."""
+        dice = self.dice
+        of, guid, members = self.callee()
         fitting = [
             it
             for it in sorted(members)

@@ -1,5 +1,6 @@
 """Libraries of the model: their canonical text, what a second one has to keep of the first, and
 random changes of one. Written from docs/reference/idl.md and docs/reference/library.md alone."""
+import collections
 import copy
 import uuid
 
@@ -216,6 +217,10 @@ def changed(library, dice):
     return new
 
 
+# what a change is made of: places in a library, and GUIDs, a DISPID and a type for what is new
+Drawn = collections.namedtuple("Drawn", "guid members dispid member class_ face own free vt")
+
+
 def change(new, dice, number):
     guid = dice.choice([*new.interfaces])
     members = new.members(guid)
@@ -225,39 +230,47 @@ def change(new, dice, number):
     free, vt = max(members) + 1, dice.choice([I4, BSTR, VARIANT, ARRAY + I2, BOOL, UI8])
     roll = dice.choice("keeps keeps loses".split())
     what = dice.choice(range(9))
-    if roll == "keeps":
-        if what < 3:
-            members[free] = [
-                Member(f"New{number}", vt),
-                Member(
-                    f"New{number}",
-                    vt,
-                    (Parameter("Key", dice.choice([I4, VARIANT]), dice.random() < 0.5),),
-                ),
-                Member(f"New{number}", None, (Parameter("Key", vt),), method=True),
-            ][what]
-        elif what == 3:
-            new.interfaces[face] = (
-                f"DNew{number}",
-                {1: Member("Count", vt), 2: Member("Only", I4, (Parameter("Row", I2),), ("put",))},
-            )
-        elif what == 4:
-            new.classes[own] = (f"New{number}", [guid], guid)
-        elif what == 5:
-            faces = new.classes[class_][1]
-            if guid not in faces:
-                faces.insert(dice.randint(0, len(faces)), guid)
-        elif what == 6:
-            member.name = other_letters(member.name)
-        elif what == 7:
-            members[dispid] = members.pop(dispid)
-        else:
-            new.version, new.name, new.guid = (
-                (dice.randint(0, 65_535), number),
-                f"Demo{number}",
-                own,
-            )
-    elif what == 0 and len(members) > 1:
+    drawn = Drawn(guid, members, dispid, member, class_, face, own, free, vt)
+    act = widen if roll == "keeps" else narrow
+    act(new, dice, number, what, drawn)
+
+
+def widen(new, dice, number, what, drawn):
+    """A change of a library after which it still has all that it had."""
+    guid, members, dispid, member, class_, face, own, free, vt = drawn
+    if what < 3:
+        members[free] = [
+            Member(f"New{number}", vt),
+            Member(
+                f"New{number}",
+                vt,
+                (Parameter("Key", dice.choice([I4, VARIANT]), dice.random() < 0.5),),
+            ),
+            Member(f"New{number}", None, (Parameter("Key", vt),), method=True),
+        ][what]
+    elif what == 3:
+        new.interfaces[face] = (
+            f"DNew{number}",
+            {1: Member("Count", vt), 2: Member("Only", I4, (Parameter("Row", I2),), ("put",))},
+        )
+    elif what == 4:
+        new.classes[own] = (f"New{number}", [guid], guid)
+    elif what == 5:
+        faces = new.classes[class_][1]
+        if guid not in faces:
+            faces.insert(dice.randint(0, len(faces)), guid)
+    elif what == 6:
+        member.name = other_letters(member.name)
+    elif what == 7:
+        members[dispid] = members.pop(dispid)
+    else:
+        new.version, new.name, new.guid = ((dice.randint(0, 65_535), number), f"Demo{number}", own)
+
+
+def narrow(new, dice, number, what, drawn):
+    """One after which it lacks something, if there is enough of it."""
+    guid, members, dispid, member, class_, face, own, free, vt = drawn
+    if what == 0 and len(members) > 1:
         del members[dispid]
     elif what == 1:
         member.vt = I8 if member.vt != I8 else I2

@@ -157,15 +157,11 @@ class Over:
         got = self.run(refuse=nth)
         if got.status == 5:
             tried.ends += 1
+            kept = self.store is None or self.store.is_as_laid()
             return (
-                (got[:3] == NO_MEMORY and (self.store is None or self.store.is_as_laid())),
+                got[:3] == NO_MEMORY and kept,
                 nth,
-                (
-                    got,
-                    "a store that was changed"
-                    if self.store and not self.store.is_as_laid()
-                    else "",
-                ),
+                (got, "" if kept else "a store that was changed"),
             )
         replies = replies_of(got.out, self.framing)
         starving = [

@@ -345,12 +345,21 @@ def answers():
         )
 
 
+def lists_of(root):
+    """Crates, the labels of their edits, and what is chosen now and for a commit."""
+    crates = ["steps", "above"]
+    labels = [f"{name}/{count}" for name in crates for count in range(31)]
+    chosen = lambda: Choice(root, labels, True)
+    of_part = lambda head: [
+        it for it, part in parts_of(labels, {}).items() if part == int(head, 16) % PARTS
+    ]
+    return crates, labels, chosen, of_part
+
+
 def choices(root):
     """Checks the choice, commit by commit, if nothing but the commits changes: each edit comes
     again and again."""
-    crates, below = ["steps", "above"], {"steps": [], "above": ["steps"]}
-    labels, seen = [f"{name}/{count}" for name in crates for count in range(31)], {}
-    chosen = lambda: Choice(root, labels, True)
+    crates, labels, chosen, of_part = lists_of(root)
     tried_over(root, steps=git(root, "rev-parse", "HEAD"), above=git(root, "rev-parse", "HEAD"))
     sizes = collections.Counter(parts_of(labels, {}).values())
     tell(
@@ -368,6 +377,17 @@ def choices(root):
     # (each of a part's ends is half an edit off at most)
     equally = max(took.values()) - min(took.values()) <= 2 * max(seconds.values())
     tell("the parts take equally long", sorted(took) == [*range(PARTS)] and equally, took)
+    the_lines_of_the_file(root)
+    the_commits(root)
+    the_files_that_count(root)
+    the_words_that_count(root)
+    the_lines_of_crates(root)
+    what_is_written(root)
+
+
+def the_lines_of_the_file(root):
+    crates, labels, chosen, of_part = lists_of(root)
+    seconds = {"steps": 9, "above": 2}
     head = git(root, "rev-parse", "HEAD")
     tried_over(root, seconds, steps=head, above=head)
     tell(
@@ -382,10 +402,12 @@ def choices(root):
     ):
         write(f"{root}/{TRIED}", f"{line}\n")
         tell(f"'{line}' is no line", chosen().whole == {*crates})
+
+
+def the_commits(root):
+    crates, labels, chosen, of_part = lists_of(root)
+    seen, head = {}, git(root, "rev-parse", "HEAD")
     tried_over(root, steps=head, above=head)
-    of_part = lambda head: [
-        it for it, part in parts_of(labels, {}).items() if part == int(head, 16) % PARTS
-    ]
     for count in range(400):
         # (of 250 times once, one of the parts is not among 40 commits)
         if count >= 40 and len(seen) == len(labels):
@@ -409,6 +431,10 @@ def choices(root):
         "without the gate all are tried",
         all(Choice(root, labels, False).is_tried(it) for it in labels),
     )
+
+
+def the_files_that_count(root):
+    crates, labels, chosen, of_part = lists_of(root)
     for path, is_counted in (
         ("src/lib.rt", True),
         ("specs/S.antt", True),
@@ -425,6 +451,10 @@ def choices(root):
         )
         git(root, "checkout", "-q", ".")
         git(root, "clean", "-qfd")
+
+
+def the_words_that_count(root):
+    crates, labels, chosen, of_part = lists_of(root)
     write(
         f"{root}/crates/above/specs/S.antt",
         "-- one\nuse steps.specs.S.{a, b}\na : X → Y\na = { x = 1 }\n",
@@ -471,7 +501,11 @@ def choices(root):
             chosen().why,
         )
     git(root, "checkout", "-q", ".")
-    # each crate by its own line
+
+
+def the_lines_of_crates(root):
+    """Each crate by its own line."""
+    crates, labels, chosen, of_part = lists_of(root)
     older = git(root, "rev-parse", "HEAD")
     write(f"{root}/crates/steps/src/lib.rt", SOURCE + "\nconst CHANGED_AGAIN: u32 = 2;\n")
     newer = commit(root, "the lower crate changed")
@@ -517,7 +551,12 @@ def choices(root):
     tried_over(root, steps=newer, above=older)
     os.remove(f"{root}/{TRIED}")
     tell("no file has all tried", chosen().whole == {*crates})
-    # what is written
+
+
+def what_is_written(root):
+    crates, labels, chosen, of_part = lists_of(root)
+    below = {"steps": [], "above": ["steps"]}
+    older = git(root, "rev-parse", "HEAD")
     commit(root, "without the file")
     tell(
         "one crate was tried over a commit",

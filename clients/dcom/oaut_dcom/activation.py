@@ -72,7 +72,8 @@ def _resolve(exporter: Exporter, opnum: int, at: Reader, address: str) -> bytes:
 def _made(
     exporter: Exporter, asked: orpc.Activation, as_class: bool, address: str
 ) -> Steps[orpc.Made]:
-    """Activates an object, or the factory of a coclass. Makes no object if it would have none of the interfaces."""
+    """Activates an object, or the factory of a coclass. Makes no object if it would have none of
+    the interfaces."""
     coclass = exporter.class_of(asked.clsid)
     kind = FACTORY if as_class else HUB if coclass == HUB_CLASS else OBJECT
     faces = [exporter.face_of(iid, kind, coclass) for iid in asked.iids]
@@ -93,9 +94,7 @@ def _made(
 
 
 def _refreshed(
-    exporter: Exporter,
-    refresh: typing.Callable[[], Steps[bool]],
-    asked: orpc.Activation,
+    exporter: Exporter, refresh: typing.Callable[[], Steps[bool]], asked: orpc.Activation
 ) -> Steps[None]:
     """Reads the library again if it does not have what a client requests."""
     known = exporter.has_coclass(asked.clsid)

@@ -1,7 +1,7 @@
 """A connection: its PDUs, its presentation and security contexts, and its calls under way.
 
-Calls of one connection run at once, and each reply is sent when it is ready (PFC_CONC_MPX of C706 chapter 12). When the most calls are running, further ones
-wait in the socket."""
+Calls of one connection run at once, and each reply is sent when it is ready (PFC_CONC_MPX of C706
+chapter 12). When the most calls are running, further ones wait in the socket."""
 from __future__ import annotations
 
 import asyncio

@@ -52,7 +52,8 @@ _NO_TEXT = struct.pack("<III", 0, 0xFFFF_FFFF, 0)
 
 
 class Told(typing.NamedTuple):
-    """The result of an Invoke: an HRESULT, the argument at fault, a field, and the EXCEPINFO's source and description."""
+    """The result of an Invoke: an HRESULT, the argument at fault, a field, and the EXCEPINFO's
+    source and description."""
 
     code: int
     argument: int = 0

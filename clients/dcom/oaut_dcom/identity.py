@@ -1,8 +1,9 @@
-"""The common parts of a store's references, in a file that outlives this program: the OXID, and a table of the GUIDs of interfaces and coclasses that only
-grows.
+"""The common parts of a store's references, in a file that outlives this program: the OXID, and a
+table of the GUIDs of interfaces and coclasses that only grows.
 
-A reference (IPID) has places of this table in it. So it keeps its meaning when the server gets another library. A store whose file is another one gets a new
-OXID: its numbers may have been given before, and references to the old store are refused."""
+A reference (IPID) has places of this table in it. So it keeps its meaning when the server gets
+another library. A store whose file is another one gets a new OXID: its numbers may have been given
+before, and references to the old store are refused."""
 from __future__ import annotations
 
 import contextlib

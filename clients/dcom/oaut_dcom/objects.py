@@ -1,7 +1,8 @@
 """The exported objects, and their references.
 
-An IPID contains the kind, the object's number, the coclass, the interface and the exporter. So a reference takes no memory here, is not counted, and
-survives a restart of this program: the store has the object, and no reference keeps it."""
+An IPID contains the kind, the object's number, the coclass, the interface and the exporter. So a
+reference takes no memory here, is not counted, and survives a restart of this program: the store
+has the object, and no reference keeps it."""
 from __future__ import annotations
 
 import struct
@@ -229,7 +230,8 @@ class Exporter:
     # ---- interfaces and objects
 
     def face_of(self, iid: bytes, kind: int, coclass: int) -> typing.Optional[int]:
-        """The number of an interface in the IPID of a kind of object, or None if the object does not have it."""
+        """The number of an interface in the IPID of a kind of object, or None if the object does
+        not have it."""
         if iid == IID_IUNKNOWN:
             return UNKNOWN
         if iid == IID_ITYPECOMP:

@@ -1,4 +1,5 @@
-"""DCOM's additions to RPC (MS-DCOM section 2.2): ORPCTHIS and ORPCTHAT, OBJREFs, string bindings, and the properties of activation."""
+"""DCOM's additions to RPC (MS-DCOM section 2.2): ORPCTHIS and ORPCTHAT, OBJREFs, string bindings,
+and the properties of activation."""
 from __future__ import annotations
 
 import struct

@@ -106,7 +106,8 @@ class Context:
         raise NotImplementedError
 
     def open(self, whole: bytes, place: int, end: int) -> bytes:
-        """Returns the bytes between an offset of a PDU and its trailer. Raises Denied if the signature is wrong."""
+        """Returns the bytes between an offset of a PDU and its trailer. Raises Denied if the
+        signature is wrong."""
         raise NotImplementedError
 
     def close(self, flags: int, call: int, number: int, left: int, stub: bytes) -> bytes:

@@ -1,7 +1,8 @@
 """wireVARIANTs in a stub (MS-OAUT section 2.2.29): if each ends, and those by reference.
 
-A field of the server's record has the same bytes: both begin at a multiple of 8, so what is aligned in one is aligned in the other. A field is copied and not
-interpreted. The walk moves past types that the server does not have, so that the server refuses them with its own code and index."""
+A field of the server's record has the same bytes: both begin at a multiple of 8, so what is aligned
+in one is aligned in the other. A field is copied and not interpreted. The walk moves past types
+that the server does not have, so that the server refuses them with its own code and index."""
 from __future__ import annotations
 
 import struct

@@ -169,6 +169,91 @@ class Transport(asyncio.Transport):
         pass
 
 
+class Talk:
+    """What a client sends over a connection: each PDU is spoiled now and then, and cut in two."""
+
+    def __init__(self, rng, spoiled, connection, transport):
+        self.rng, self.spoiled = rng, spoiled
+        self.connection, self.transport = connection, transport
+        self.level, self.outer = rng.choice((5, 6, 6, 2)), rng.random() < 0.4
+        self.client, self.kind = Ntlm(mic=rng.random() < 0.7), 9 if self.outer else 10
+        self.number = 1
+
+    def send(self, kind_of, body, token=b"", flags=3):
+        tail = (
+            (bytes(-len(body) % 4) + wire.TRAILER.pack(self.kind, self.level, 0, 0, 7) + token)
+            if token
+            else b""
+        )
+        data = self.spoiled(
+            wire.HEADER.pack(
+                5, 0, kind_of, flags, 0x10, 16 + len(body) + len(tail), len(token), self.number
+            )
+            + body
+            + tail
+        )
+        cut = self.rng.randrange(len(data) + 1) if self.rng.random() < 0.2 else len(data)
+        self.connection.data_received(data[:cut]) if cut else None
+        if cut < len(data) and not self.transport.gone:
+            self.connection.data_received(data[cut:])
+
+    def bind(self, contexts):
+        first = self.client.negotiate
+        if self.outer:
+            der, lists = spnego.der, self.rng.choice(
+                (spnego.NTLM_OID, bytes.fromhex("06092a864886f712010202") + spnego.NTLM_OID)
+            )
+            first = der(
+                0x60,
+                spnego.SPNEGO_OID
+                + der(0xA0, der(0x30, der(0xA0, der(0x30, lists)) + der(0xA2, der(4, first)))),
+            )
+        self.send(
+            wire.BIND,
+            struct.pack(
+                "<HHIBxH", 5840, self.rng.choice((5840, 1432, 100)), self.rng.choice((0, 5)), 1, 0
+            )
+            + contexts,
+            self.spoiled(first),
+            7,
+        )
+
+    def authenticate(self, contexts):
+        """Answers the server's challenge. Returns whether one has come."""
+        told = self.transport.out and not self.transport.gone and self.transport.out[-1]
+        if not told or b"NTLMSSP\0\2" not in told:
+            return False
+        try:
+            token = self.client.authenticate(told[told.index(b"NTLMSSP\0\2") :])
+        except struct.error:
+            token = b"NTLMSSP\0"
+        if self.outer:
+            token = spnego.der(0xA1, spnego.der(0x30, spnego.der(0xA2, spnego.der(4, token))))
+            self.send(
+                wire.ALTER,
+                struct.pack("<HHIBxH", 5840, 5840, 0, 1, 0) + contexts,
+                self.spoiled(token),
+            )
+        else:
+            self.send(wire.AUTH3, b"    ", self.spoiled(token))
+        return True
+
+    def request(self, out, part, opnum, ipid):
+        """A call whose stub is a part."""
+        part = part[:5000] + bytes(-len(part[:5000]) % 16)
+        trailer = wire.TRAILER.pack(self.kind, self.level, self.rng.choice((0, 0, 4, 255)), 0, 7)
+        flags = self.rng.choice((3, 3, 3, 1, 2, 0)) | (0x80 if ipid else 0)
+        head = struct.pack("<IHH", len(part), 0, opnum) + ipid
+        head = (
+            wire.HEADER.pack(5, 0, 0, flags, 0x10, 16 + len(head) + len(part) + 24, 16, self.number)
+            + head
+        )
+        sealed = out.cipher(part) if self.level == 6 else part
+        self.connection.data_received(
+            self.spoiled(head + sealed + trailer + out.mac(head + part + trailer))
+        )
+
+
 class Fuzz:
     def __init__(self, program, library, seed):
         self.rng = random.Random(seed)
@@ -208,9 +293,17 @@ class Fuzz:
 
     def stubs(self, exporter):
         """Calls of each kind that are right: port, interface, method, IPID, stub."""
-        item, hub = exporter.ref(objects.OBJECT, 1, 0), exporter.ref(objects.HUB)
-        back, guid = argument(item), lambda *them: Writer().raw(THIS + b"".join(them)).done()
-        number = lambda *them: Writer().raw(THIS).u32(*them).done()
+        return [
+            *self.calls_of_objects(exporter),
+            *self.calls_of_the_hub(exporter),
+            *self.calls_of_references(exporter),
+            *self.calls_of_types(exporter),
+            *self.calls_of_ports(exporter),
+        ]
+
+    def calls_of_objects(self, exporter):
+        item = exporter.ref(objects.OBJECT, 1, 0)
+        back = argument(item)
         grid = array_field(2, [(2, -1), (3, 5)], [1, 2, 3, 4, 5, 6])
         cells = array_field(12, [(4, 1)], [(1, None), (14, (3, 0x80, 5)), None, (8, b"x\0")])
         by_text = (
@@ -224,7 +317,7 @@ class Fuzz:
             struct.pack("<IIHHHHII", 4, 0, 0x6014, 0, 0, 0, 0x6000, 0x20000)
             + array_field(20, [(2, 0)], [5, 6])[20:]
         )
-        found = [
+        return [
             (False, IDISPATCH, 6, item.ipid, invoke(*it))
             for it in (
                 (1, GET),
@@ -243,7 +336,11 @@ class Fuzz:
                 (7, PUT, (back,), (-3,)),
             )
         ]
-        found += [
+
+    def calls_of_the_hub(self, exporter):
+        back = argument(exporter.ref(objects.OBJECT, 1, 0))
+        hub = exporter.ref(objects.HUB)
+        return [
             (False, IDISPATCH, 6, hub.ipid, invoke(*it))
             for it in (
                 (0, GET, (1,)),
@@ -261,11 +358,17 @@ class Fuzz:
                 (11, METHOD, ("DItem", back)),
             )
         ]
+
+    def calls_of_references(self, exporter):
+        item = exporter.ref(objects.OBJECT, 1, 0)
+        hub = exporter.ref(objects.HUB)
+        number = lambda *them: Writer().raw(THIS).u32(*them).done()
+        guid = lambda *them: Writer().raw(THIS + b"".join(them)).done()
         names = Writer().raw(THIS).guid(bytes(16)).u32(2, orpc.SET, orpc.SET)
         for name in ("Cell\0", "Key\0"):
             names.u32(len(name), 0, len(name)).raw(name.encode("utf-16-le"))
         names = names.u32(2, 0).done()
-        found += [
+        found = [
             (False, IDISPATCH, opnum, ref.ipid, stub)
             for ref in (item, hub)
             for opnum, stub in ((3, THIS), (4, number(0, 0)), (5, names))
@@ -282,6 +385,12 @@ class Fuzz:
             (False, codes.IID_ICLASSFACTORY, 3, factory, guid(IDISPATCH)),
             (False, codes.IID_ICLASSFACTORY, 4, factory, number(1)),
         ]
+        return found
+
+    def calls_of_types(self, exporter):
+        number = lambda *them: Writer().raw(THIS).u32(*them).done()
+        guid = lambda *them: Writer().raw(THIS + b"".join(them)).done()
+        found = []
         for kind in (0, 0x1_0000, 0x2_0000):
             info = exporter.ipid(objects.TYPE, kind)
             calls = (
@@ -320,7 +429,10 @@ class Fuzz:
             (False, codes.IID_IENUMVARIANT, it, exporter.ipid(objects.ENUMERATOR, 1), number(2))
             for it in (3, 4, 5, 6)
         ]
-        found += [
+        return found
+
+    def calls_of_ports(self, exporter):
+        found = [
             (
                 False,
                 codes.IID_IPROVIDECLASSINFO,
@@ -441,90 +553,22 @@ class Fuzz:
 
             connection, transport = Connection(server, resolver), Transport()
             connection.connection_made(transport)
-            level, outer = rng.choice((5, 6, 6, 2)), rng.random() < 0.4
-            client, kind = Ntlm(mic=rng.random() < 0.7), 9 if outer else 10
-            first = client.negotiate
-            if outer:
-                der, lists = spnego.der, rng.choice(
-                    (spnego.NTLM_OID, bytes.fromhex("06092a864886f712010202") + spnego.NTLM_OID)
-                )
-                first = der(
-                    0x60,
-                    spnego.SPNEGO_OID
-                    + der(0xA0, der(0x30, der(0xA0, der(0x30, lists)) + der(0xA2, der(4, first)))),
-                )
-            call = [1]
-
-            def send(kind_of, body, token=b"", flags=3):
-                tail = (
-                    (bytes(-len(body) % 4) + wire.TRAILER.pack(kind, level, 0, 0, 7) + token)
-                    if token
-                    else b""
-                )
-                data = spoiled(
-                    wire.HEADER.pack(
-                        5, 0, kind_of, flags, 0x10, 16 + len(body) + len(tail), len(token), call[0]
-                    )
-                    + body
-                    + tail
-                )
-                cut = rng.randrange(len(data) + 1) if rng.random() < 0.2 else len(data)
-                connection.data_received(data[:cut]) if cut else None
-                if cut < len(data) and not transport.gone:
-                    connection.data_received(data[cut:])
-
+            talk = Talk(rng, spoiled, connection, transport)
             contexts = struct.pack("<HBx", 0, 1) + iid + bytes(4) + wire.NDR
-            send(
-                wire.BIND,
-                struct.pack(
-                    "<HHIBxH", 5840, rng.choice((5840, 1432, 100)), rng.choice((0, 5)), 1, 0
-                )
-                + contexts,
-                spoiled(first),
-                7,
-            )
-            if transport.out and not transport.gone and b"NTLMSSP\0\2" in transport.out[-1]:
-                answer = transport.out[-1]
-                try:
-                    token = client.authenticate(answer[answer.index(b"NTLMSSP\0\2") :])
-                except struct.error:
-                    token = b"NTLMSSP\0"
-                if outer:
-                    token = spnego.der(
-                        0xA1, spnego.der(0x30, spnego.der(0xA2, spnego.der(4, token)))
-                    )
-                    send(
-                        wire.ALTER,
-                        struct.pack("<HHIBxH", 5840, 5840, 0, 1, 0) + contexts,
-                        spoiled(token),
-                    )
-                else:
-                    send(wire.AUTH3, b"    ", spoiled(token))
-                out = Half(client.key, b"client-to-server")
+            talk.bind(contexts)
+            if talk.authenticate(contexts):
+                out = Half(talk.client.key, b"client-to-server")
                 for _ in range(rng.choice((1, 2, 3, 3, 24))):
                     if transport.gone:
                         break
                     while self.store.later and rng.random() < 0.3:
                         self.store.hand(*self.store.later.pop(0))
-                    call[0] += rng.random() < 0.98
+                    talk.number += rng.random() < 0.98
                     part = self.spoil(stub) if rng.random() < 0.5 else stub
-                    part = part[:5000] + bytes(-len(part[:5000]) % 16)
-                    trailer = wire.TRAILER.pack(kind, level, rng.choice((0, 0, 4, 255)), 0, 7)
-                    flags = rng.choice((3, 3, 3, 1, 2, 0)) | (0x80 if ipid else 0)
-                    head = struct.pack("<IHH", len(part), 0, opnum) + ipid
-                    head = (
-                        wire.HEADER.pack(
-                            5, 0, 0, flags, 0x10, 16 + len(head) + len(part) + 24, 16, call[0]
-                        )
-                        + head
-                    )
-                    sealed = out.cipher(part) if level == 6 else part
-                    connection.data_received(
-                        spoiled(head + sealed + trailer + out.mac(head + part + trailer))
-                    )
+                    talk.request(out, part, opnum, ipid)
             for _ in range(rng.randrange(3)):
                 if not transport.gone:
-                    send(rng.randrange(20), self.spoil(contexts))
+                    talk.send(rng.randrange(20), self.spoil(contexts))
             for it in transport.out:
                 at = 0
                 while at < len(it):

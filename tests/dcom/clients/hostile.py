@@ -249,7 +249,7 @@ def extensions():
 
 
 def references(draw):
-    """Thousands of references that nobody was given, and pings of them."""
+    """Thousands of references that nobody was given."""
     ref = create()
     unknown = Dce(iid=codes.IID_IREMUNKNOWN)
     refused = 0
@@ -281,6 +281,10 @@ def references(draw):
             told[fault.args] += 1
     tell("3,000 IPIDs of its own", all(it == "a reply" or it[0] == "fault" for it in told), told)
     tell("it goes on", Proxy(item.call, ref.ipid).get(1) == 0)
+
+
+def pings(draw):
+    """Pings of thousands of objects that nobody was given."""
     nobody = Dce(port=RESOLVER, iid=codes.IID_IOBJECTEXPORTER, level=1)
     for _ in range(100):
         stub = (
@@ -379,7 +383,9 @@ def main():
     order()
     trailers()
     extensions()
-    references(random.Random(93))
+    draw = random.Random(93)
+    references(draw)
+    pings(draw)
     contexts()
     small()
     tell("others are served at the end", Proxy(Dce().call, create().ipid).get(1) == 0)

@@ -137,6 +137,11 @@ def the_cells():
         except numbers.Misfit as misfit:
             got = misfit.code
         tell(f"cells: {name}", got == wanted, (got, wanted))
+
+
+def the_null_texts_of_arrays():
+    from oaut.wire import array_field, scalar_field
+
     # a null text with the pointee that some clients write after its null referent, in an array by
     # value and by reference
     cells = [(8, None), (3, 7), (8, None), (8, b"a\0"), (3, 8)]
@@ -161,6 +166,11 @@ def the_cells():
         )
     got = variants.by_value(moved.done())
     tell("null texts in an array by reference", got[4:] == wanted[4:], got)
+
+
+def the_values_for_scripts():
+    from oaut.wire import array_field, scalar_field
+
     scripted = (
         (scalar_field(20, 5), scalar_field(3, 5)),
         (scalar_field(21, 1 << 40), scalar_field(6, (1 << 40) * 10000)),
@@ -309,6 +319,21 @@ def the_users(folder):
     secret = "joe:0123456789abcdef0123456789abcdeX"
     said = raised(lambda: made(good + secret), users.UsersFault)
     tell("a wrong line is named by its number alone", "line 6" in said and "0123" not in said, said)
+
+
+def the_files_of_users(folder):
+    path = f"{folder}/users"
+    good = (
+        f"# a comment\n\njoe:{secrets.token_hex(16)}\nann@OAUT.TEST:kerberos\n"
+        "*@OTHER.TEST:kerberos\n"
+    )
+
+    def made(content, mode=0o600):
+        with open(path, "w") as file:
+            file.write(content)
+        os.chmod(path, mode)
+        return users.Users(path)
+
     tell("a folder is refused", raised(lambda: users.Users(folder), users.UsersFault))
     os.mkfifo(f"{folder}/pipe", 0o600)
     tell(
@@ -423,6 +448,7 @@ def the_identity(folder):
         with open(path) as file:
             tell(f"it is left as it is: {name}", file.read() == content)
     the_files_of_the_identity(folder)
+    the_state_that_another_has_replaced(folder)
 
 
 def the_stores_of_the_identity(folder):
@@ -493,6 +519,13 @@ def the_files_of_the_identity(folder):
     os.rename(other, path)
     two = identity.Identity(path, "1.1")
     tell("the state is the one of before", two.oxid == one.oxid)
+    two.close()
+
+
+def the_state_that_another_has_replaced(folder):
+    room = f"{folder}/state.d"
+    path = f"{room}/state"
+    two = identity.Identity(path, "1.1")
     new = secrets.token_bytes(16)
     os.rename(room, f"{room}.away")
     said = [
@@ -596,11 +629,11 @@ def the_rest():
     )
 
 
-def the_times(folder):
-    """When a connection has to end, by a clock of the test's own."""
+def timed_server(folder):
+    """A server, its clock, and what makes a connection of nobody and of a user."""
     from oaut.library import Coclass, Interface, Library
     from oaut_dcom import connection, objects
-    from tests.support.fuzz import Transport
+    from tests.dcom.clients.fuzz import Transport
 
     path = f"{folder}/of_times"
     with open(os.open(path, os.O_CREAT | os.O_WRONLY, 0o600), "w") as file:
@@ -627,6 +660,14 @@ def the_times(folder):
         one.user = "JOE"
         return one
 
+    return of, clock, made, known
+
+
+def the_times(folder):
+    """When a connection has to end, by a clock of the test's own."""
+    from tests.dcom.clients.fuzz import Transport
+
+    of, clock, made, known = timed_server(folder)
     one = made()
     tell("30 s for a user", not one.overdue(129) and one.overdue(131) == "no user in time")
     near, far = socket.socketpair()
@@ -685,7 +726,7 @@ def served_by(path):
     group: its calls ask the gateway once each."""
     from oaut.library import Coclass, Interface, Library
     from oaut_dcom import connection, objects
-    from tests.support.fuzz import Transport
+    from tests.dcom.clients.fuzz import Transport
 
     library = Library(
         [Interface(uuid.UUID(int=1), "DItem", []), Coclass(uuid.UUID(int=2), "Item", [(1, 0)])]
@@ -907,6 +948,14 @@ def replies_of(stream):
         stream = stream[size:]
 
 
+def fragment(number, flags, size=5_000):
+    return (
+        wire.HEADER.pack(5, 0, 0, flags, 0x10, 24 + size, 0, number)
+        + struct.pack("<IHH", size, 0, 0)
+        + bytes(size)
+    )
+
+
 def the_shares_of_memory():
     """One user's calls in fragments take a half of the memory, and the call that finds none is
     refused by itself."""
@@ -922,7 +971,7 @@ def the_shares_of_memory():
 
     def made(user):
         from oaut_dcom import connection
-        from tests.support.fuzz import Transport
+        from tests.dcom.clients.fuzz import Transport
 
         one = connection.Connection(of, False)
         one.connection_made(Transport())
@@ -931,13 +980,6 @@ def the_shares_of_memory():
         one.group = of.join(one, one._number, user)
         one._contexts[0] = codes.IID_MANAGEMENT + bytes(4)
         return one
-
-    def fragment(number, flags, size=5_000):
-        return (
-            wire.HEADER.pack(5, 0, 0, flags, 0x10, 24 + size, 0, number)
-            + struct.pack("<IHH", size, 0, 0)
-            + bytes(size)
-        )
 
     try:
         joes = [made("JOE") for _ in range(3)]
@@ -996,9 +1038,8 @@ async def the_busy_gateway(path):
         it.close()
 
 
-def the_elements():
-    """An element after a property's parameters: which request is made, and which argument is at
-    fault."""
+def asked_of_a_table():
+    """A property with a parameter that holds an array, and what asks for it."""
     from oaut.library import Coclass, Form, Interface, Library, Parameter
     from oaut_dcom import dispatch, objects
 
@@ -1027,6 +1068,15 @@ def the_elements():
         except StopIteration as stop:
             return request, stop.value
 
+    return of, named, asked
+
+
+def the_elements():
+    """An element after a property's parameters: which request is made, and which argument is at
+    fault."""
+    from oaut_dcom import dispatch
+
+    of, named, asked = asked_of_a_table()
     # item.Table(5, 2), whose arguments come in the order 2, 5; docs/reference/records.md has the
     # requests
     request, told = asked(2, (2, double(5.0)), [], 0x80020005, 0)
@@ -1123,8 +1173,8 @@ def the_nexts():
     tell("the rest, and the end", nexts(100_000) == (4_616, 1))
 
 
-def the_hub():
-    """A loop over the hub lists the objects once, and not for each of them."""
+def hub_of_lists():
+    """A hub whose lists are made here, and what calls it."""
     from oaut.library import Coclass, Interface, Library
     from oaut.records import ask_list, ask_release
     from oaut_dcom import dispatch, objects
@@ -1176,6 +1226,16 @@ def the_hub():
         return int(read_field(told.field)) if variants.type_of(told.field) else None
 
     getattr(exporter, "listing", type("", (), {}))._clock = lambda: clock[0]
+    return of, made, clock, live, asked, exporter, replied, ended, call
+
+
+def the_hub():
+    """A loop over the hub lists the objects once, and not for each of them."""
+    from oaut.records import ask_list
+    from oaut_dcom import objects
+
+    kept = hub_of_lists()
+    _, _, clock, live, asked, _, _, _, call = kept
     got = [call(2)] + [call(0, place) for _ in range(40) for place in (1, 2, 3, 4, 5)]
     tell(
         "Count, and Item of each place",
@@ -1205,6 +1265,13 @@ def the_hub():
         (call(2), len(asked)) == (6, 4),
         len(asked),
     )
+    the_hub_of_objects_that_are_made(*kept)
+
+
+def the_hub_of_objects_that_are_made(of, made, clock, live, asked, exporter, replied, ended, call):
+    from oaut.records import ask_list, ask_release
+    from oaut_dcom import dispatch, objects
+
     ended(exporter.make(0))
     tell(
         "an object that this program makes is there at once",
@@ -1257,48 +1324,54 @@ def the_hub():
     tell("a list that another call has overtaken is not kept", asked == [ask_list()], asked)
 
 
-async def the_lines(path):
-    """What waits are told of the lines of a gateway, which has a line for each of them here."""
-    clients, loop = asyncio.Queue(), asyncio.get_running_loop()
+# what a line of a gateway begins with, and a change
+BEGINS = b'{"epoch":"00000000000000ab","next":1}\n'
+CHANGE = b'{"seq":%d,"kind":"put","object":%d,"member":1}\n'
 
-    async def serve(reader, writer):
+
+class Lines:
+    """A gateway that has a line for each watch here."""
+
+    def __init__(self, path):
+        self.clients, self.of, self.forgets = asyncio.Queue(), watch.Watches(path), []
+
+    async def serve(self, reader, writer):
         asked = await reader.readline()
-        await clients.put((asked, writer))
+        await self.clients.put((asked, writer))
 
-    listening = await asyncio.start_unix_server(serve, path)
-    of = watch.Watches(path)
-    forgets = []
-
-    def wait(milliseconds=600_000, coclass=None):
-        told = loop.create_future()
-        forgets.append(
-            of.wait(
+    def wait(self, milliseconds=600_000, coclass=None):
+        told = asyncio.get_running_loop().create_future()
+        self.forgets.append(
+            self.of.wait(
                 watch.Wait(coclass, milliseconds),
                 lambda reply: told.set_result(struct.unpack("<q", reply)[0] if reply else None),
             )
         )
         return told
 
-    async def each(what, wanted, *waits):
-        got = await asyncio.wait_for(asyncio.gather(*waits), 120)
-        tell(what, got == wanted, got)
 
-    begins, change = (
-        b'{"epoch":"00000000000000ab","next":1}\n',
-        b'{"seq":%d,"kind":"put","object":%d,"member":1}\n',
-    )
+async def each(what, wanted, *waits):
+    got = await asyncio.wait_for(asyncio.gather(*waits), 120)
+    tell(what, got == wanted, got)
+
+
+async def the_lines(path):
+    """What waits are told of the lines of a gateway."""
+    lines = Lines(path)
+    clients, forgets, wait = lines.clients, lines.forgets, lines.wait
+    listening = await asyncio.start_unix_server(lines.serve, path)
     first = wait(0)
     asked, gateway = await clients.get()
     tell("what the gateway is asked", asked == b"watch\n", asked)
-    gateway.write(begins)
+    gateway.write(BEGINS)
     await each("the first wait", [-1], first)
     await each("no change in time", [0], wait(10))
     gateway.write(
-        b"".join(change % (at, it) for at, it in enumerate((5, 6)))
+        b"".join(CHANGE % (at, it) for at, it in enumerate((5, 6)))
         + b'{"gap":9,"next":99}\n{"seq":99,"kind":"library","bytes":7}\n'
     )
     gateway.write(
-        change % (100, 4_294_967_295)
+        CHANGE % (100, 4_294_967_295)
         + b'{"restart":2,"next":101}\n'
         + b'{"seq":101,"kind":"put","object":7,"key":["'
         + b"x" * 300_000
@@ -1306,20 +1379,26 @@ async def the_lines(path):
     )
     for wanted in (5, 6, -1, 4_294_967_295, -1, 7):
         await each(f"a line about {wanted}", [wanted], wait())
-    gateway.write(change % (102, 7) * 30 + change % (132, 8))
+    gateway.write(CHANGE % (102, 7) * 30 + CHANGE % (132, 8))
     got = []
     while 8 not in got:
         got.append(await asyncio.wait_for(wait(), 120))
     tell("changes of one object one after another are few", len(got) < 10, got)
     waits = [wait(), wait(), wait()]
     forgets[-2]()
-    gateway.write(change % (102, 8) + change % (103, 9))
+    gateway.write(CHANGE % (102, 8) + CHANGE % (103, 9))
     await each("one that is forgotten is passed over", [8, 9], waits[0], waits[2])
     waits = [wait(), wait()]
     gateway.close()
     _, gateway = await clients.get()
-    gateway.write(begins + change % (1, 3))
+    gateway.write(BEGINS + CHANGE % (1, 3))
     await each("after an end it begins again", [-1, 3], *waits)
+    await the_lines_of_a_coclass(lines, listening, path)
+
+
+async def the_lines_of_a_coclass(lines, listening, path):
+    """And what waits are told as their lines end."""
+    clients, wait = lines.clients, lines.wait
     waiting, of_class = wait(), wait(coclass=uuid.UUID(int=5))
     asked, second = await clients.get()
     tell(
@@ -1327,7 +1406,7 @@ async def the_lines(path):
         asked == b"watch class=00000000-0000-0000-0000-000000000005\n",
         asked,
     )
-    second.write(begins)
+    second.write(BEGINS)
     await each("its first wait", [-1], of_class)
     later = [wait(coclass=uuid.UUID(int=it)) for it in (6, 7, 8)]
     await each("of too many watches the oldest ends", [-1], waiting)
@@ -1343,7 +1422,7 @@ async def the_lines(path):
     await each("nobody listens", [None], waiting)
     waiting = wait()
     await each("nobody listens from the start", [None], waiting)
-    of.close()
+    lines.of.close()
     await listening.wait_closed()
 
 
@@ -1390,6 +1469,8 @@ def run():
     the_numbers()
     the_refusals()
     the_cells()
+    the_null_texts_of_arrays()
+    the_values_for_scripts()
     the_elements()
     the_enumerators()
     the_hub()
@@ -1397,6 +1478,7 @@ def run():
     with tempfile.TemporaryDirectory() as folder:
         the_tokens(folder)
         the_users(folder)
+        the_files_of_users(folder)
         the_identity(folder)
         the_times(folder)
         asyncio.run(the_loss_of_locks(f"{folder}/gateway"))

@@ -20,6 +20,57 @@ def cells(*values):
     return made.done()
 
 
+def the_refusals(item):
+    got = item.invoke(1, PUT, (double(2.5),), (-3,))
+    words = (
+        "Item 1, Count: values of this type are not supported: the new value is declared long and "
+        "given as double; CURRENCY and DECIMAL hold this number"
+    )
+    tell(
+        "a refusal is an exception with VBScript's number",
+        (got.code, got.scode, got.argument) == (EXCEPTION, 0x800A01CA, 0),
+        (hex(got.code), hex(got.scode)),
+    )
+    tell(
+        "its words",
+        got.texts[0] == "Item"
+        and got.texts[1].startswith(words.replace("Item 1", got.texts[1].split(",")[0])),
+        got.texts,
+    )
+    got = item.invoke(8, PUT, (cells(1.5),), (-3,))
+    tell(
+        "a fraction in an array of shorts",
+        (got.code, got.scode) == (EXCEPTION, 0x800A01CA),
+        hex(got.scode),
+    )
+    got = item.invoke(99, GET)
+    tell("a host of Python asks whether a member is there", got.code == NOT_FOUND, hex(got.code))
+    got = item.invoke(99, GET | METHOD)
+    tell("VBScript asks otherwise", (got.code, got.scode) == (EXCEPTION, 0x800A01B6), hex(got.code))
+    got = item.invoke(1, PUT | 0x40000, ("x",), (-3,))
+    tell("without room for an EXCEPINFO", got.code == MISMATCH, hex(got.code))
+
+
+def the_hub(connection, ref, item):
+    hub = Proxy(connection.call, create(HUB).ipid)
+    number = hub.get(4, argument(ref))
+    tell("the hub takes doubles", hub.of(hub.get(1, double(float(number)))).get(1) == 2)
+    got = hub.invoke(1, GET, (double(0.5),))
+    tell("and refuses fractions", (got.code, got.scode) == (EXCEPTION, 0x800A000D), hex(got.scode))
+    got = hub.invoke(6, METHOD, (double(0.0), double(5.0), "Grid", argument(ref)))
+    tell(
+        "Redim with doubles",
+        not got.code and len(read_field(item.invoke(8, GET).field).cells) == 5,
+        got.texts,
+    )
+    got = item.invoke(7, PUT, (argument(ref),), (-3,))
+    tell(
+        "an object is no value",
+        (got.code, got.scode) == (EXCEPTION, 0x800A01CA) and "objects are not kept" in got.texts[1],
+        got.texts,
+    )
+
+
 def main():
     ref = create()
     connection = Dce()
@@ -54,51 +105,8 @@ def main():
     tell("an element that is a double", item.get(8, 1) == 9)
     item.put(9, "tea", double(5.0), "k")
     tell("a parameter that is a double", item.get(9, 5, "k") == "tea")
-    got = item.invoke(1, PUT, (double(2.5),), (-3,))
-    words = (
-        "Item 1, Count: values of this type are not supported: the new value is declared long and "
-        "given as double; CURRENCY and DECIMAL hold this number"
-    )
-    tell(
-        "a refusal is an exception with VBScript's number",
-        (got.code, got.scode, got.argument) == (EXCEPTION, 0x800A01CA, 0),
-        (hex(got.code), hex(got.scode)),
-    )
-    tell(
-        "its words",
-        got.texts[0] == "Item"
-        and got.texts[1].startswith(words.replace("Item 1", got.texts[1].split(",")[0])),
-        got.texts,
-    )
-    got = item.invoke(8, PUT, (cells(1.5),), (-3,))
-    tell(
-        "a fraction in an array of shorts",
-        (got.code, got.scode) == (EXCEPTION, 0x800A01CA),
-        hex(got.scode),
-    )
-    got = item.invoke(99, GET)
-    tell("a host of Python asks whether a member is there", got.code == NOT_FOUND, hex(got.code))
-    got = item.invoke(99, GET | METHOD)
-    tell("VBScript asks otherwise", (got.code, got.scode) == (EXCEPTION, 0x800A01B6), hex(got.code))
-    got = item.invoke(1, PUT | 0x40000, ("x",), (-3,))
-    tell("without room for an EXCEPINFO", got.code == MISMATCH, hex(got.code))
-    hub = Proxy(connection.call, create(HUB).ipid)
-    number = hub.get(4, argument(ref))
-    tell("the hub takes doubles", hub.of(hub.get(1, double(float(number)))).get(1) == 2)
-    got = hub.invoke(1, GET, (double(0.5),))
-    tell("and refuses fractions", (got.code, got.scode) == (EXCEPTION, 0x800A000D), hex(got.scode))
-    got = hub.invoke(6, METHOD, (double(0.0), double(5.0), "Grid", argument(ref)))
-    tell(
-        "Redim with doubles",
-        not got.code and len(read_field(item.invoke(8, GET).field).cells) == 5,
-        got.texts,
-    )
-    got = item.invoke(7, PUT, (argument(ref),), (-3,))
-    tell(
-        "an object is no value",
-        (got.code, got.scode) == (EXCEPTION, 0x800A01CA) and "objects are not kept" in got.texts[1],
-        got.texts,
-    )
+    the_refusals(item)
+    the_hub(connection, ref, item)
 
 
 if __name__ == "__main__":

@@ -143,6 +143,14 @@ def its_classes(level):
             told["pArgErr"] == 0 and text.endswith(wanted),
             text,
         )
+    the_type(level, item)
+    item.RemRelease()
+    tell(f"level {level}: the object outlives its references", get(1)["lVal"] == 7)
+    dcom.disconnect()
+
+
+def the_type(level, item):
+    """The type of an object, and its library."""
     tell(f"level {level}: GetTypeInfoCount", item.GetTypeInfoCount()["pctinfo"] == 1)
     info = item.GetTypeInfo()
     attributes = info.GetTypeAttr()["ppTypeAttr"]
@@ -164,9 +172,9 @@ def its_classes(level):
         page["wParamFlags"],
     )
     the_library(level, info)
-    item.RemRelease()
-    tell(f"level {level}: the object outlives its references", get(1)["lVal"] == 7)
-    dcom.disconnect()
+    the_names_of_a_type(level, info)
+    the_names_of_the_library(level, info)
+    the_types_of_the_library(level, info)
 
 
 def name_of(text, *words):
@@ -191,9 +199,8 @@ def interface_at(at):
     return data[8:24], orpc.read_objref(data)
 
 
-def the_library(level, info):
-    """ITypeLib and ITypeComp: impacket has GetTypeComp of them, and the rest goes by stubs over its
-    connection."""
+def the_names_of_a_type(level, info):
+    """ITypeComp: impacket has GetTypeComp alone, and the rest goes by stubs over its connection."""
     comp = info.GetTypeComp()
     call, type_id = over(comp), codes.IID_ITYPECOMP
 
@@ -241,6 +248,10 @@ def the_library(level, info):
         f"level {level}: Bind of none",
         (of, kind, function, [at.u32() for _ in range(4)]) == (None, 0, 0, [0, 0, 0, 0]),
     )
+
+
+def library_of(level, info):
+    """What calls a type's ITypeLib, what makes its stubs, and its reference."""
     at = Reader(over(info)(codes.IID_ITYPEINFO, 18, info.get_iPid(), THIS), 8)
     iid, library = interface_at(at)
     index = at.u32()
@@ -252,6 +263,12 @@ def the_library(level, info):
         return Reader(over(info)(codes.IID_ITYPELIB, opnum, library.ipid, stub), 8)
 
     number = lambda *them: Writer().raw(THIS).u32(*them).done()
+    return lib, number, library
+
+
+def the_library(level, info):
+    """ITypeLib, by stubs over impacket's connection."""
+    lib, number, library = library_of(level, info)
     at = lib(3)
     count = at.u32()
     tell(f"level {level}: GetTypeInfoCount of the library", (count, at.u32()) == (2, 0), count)
@@ -287,6 +304,10 @@ def the_library(level, info):
         and rest == [0, 1, 0, 0, 0, 0, 0],
         rest,
     )
+
+
+def the_names_of_the_library(level, info):
+    lib, number, library = library_of(level, info)
     names = [text_at(lib(9, number(it, 15))) for it in (0xFFFFFFFF, 0, 1, 2)]
     tell(
         f"level {level}: GetDocumentation of the library",
@@ -317,6 +338,13 @@ def the_library(level, info):
         f"level {level}: FindName of none",
         [at.u32() for _ in range(6)] + [at.u16(), text_at(at), at.u32()] == [0] * 7 + [None, 0],
     )
+
+
+def the_types_of_the_library(level, info):
+    comp = info.GetTypeComp()
+    call, type_id = over(comp), codes.IID_ITYPECOMP
+    lib, number, library = library_of(level, info)
+    found = [interface_at(lib(4, number(it))) for it in range(2)]
     at = lib(8)
     iid, of = interface_at(at)
     at = Reader(call(type_id, 4, of.ipid, name_of("ITEM")), 8)
@@ -343,11 +371,7 @@ def by_reference(vt, rest):
     return struct.pack("<IIHHHHI", 4, 0, vt, 0, 0, 0, vt & 0x6000 if vt & 0x2000 else vt) + rest
 
 
-def stubs(level):
-    """Arrays, references and the hub."""
-    dcom = connect(level)
-    interface = dcom.CoCreateInstanceEx(CLSID, IDISPATCH)
-    item = Proxy(over(interface), interface.get_iPid())
+def arrays(level, item):
     grid = array_field(2, [(2, -1), (3, 5)], [1, 2, 3, 4, 5, 6])
     item.put(8, grid)
     tell(
@@ -379,6 +403,10 @@ def stubs(level):
             f"level {level}: an array of {name}",
             read_field(got) == read_field(it) if len(it) < 60000 else got == it,
         )
+    return grid
+
+
+def scalars(level, item):
     scalars = (
         (16, -5),
         (17, 200),
@@ -417,6 +445,9 @@ def stubs(level):
         )
     item.put(2, "Ä" * 500_000)
     tell(f"level {level}: a text of 1,000,000 bytes", item.get(2) == "Ä" * 500_000)
+
+
+def refused_arguments(level, item):
     got = item.invoke(9, GET, ("k", "no"))
     tell(
         f"level {level}: a mismatch of an argument",
@@ -436,7 +467,10 @@ def stubs(level):
         (got.code, got.argument) == (0x80020008, 0),
         hex(got.code),
     )
-    # by reference, as scripts pass variables
+
+
+def arguments_by_reference(level, item):
+    """As scripts pass variables."""
     by_i4 = by_reference(0x4003, struct.pack("<II", 0x20000, 5))
     by_text = by_reference(
         0x4008, struct.pack("<IIIII", 0x20000, 0x20000, 1, 2, 1) + "k".encode("utf-16-le")
@@ -464,6 +498,17 @@ def stubs(level):
         not got.code and item.invoke(7, GET).field == wide,
         hex(got.code),
     )
+
+
+def stubs(level):
+    """Arrays, references and the hub."""
+    dcom = connect(level)
+    interface = dcom.CoCreateInstanceEx(CLSID, IDISPATCH)
+    item = Proxy(over(interface), interface.get_iPid())
+    grid = arrays(level, item)
+    scalars(level, item)
+    refused_arguments(level, item)
+    arguments_by_reference(level, item)
     item.put(8, grid)
     tell(f"level {level}: an element", item.get(8, 6, 0) == 5 and item.get(8, 5, -1) == 1)
     item.put(8, 70, 6, 0)
@@ -512,6 +557,25 @@ def the_hub(level, item, grid):
     tell(f"level {level}: hub.Unlock", hub.get(8, back, "Grid") == 0)
     got = hub.invoke(6, 1, (0, 3, "Grid", back))
     tell(f"level {level}: hub.Redim", not got.code and item.invoke(8, GET).field != grid, got.texts)
+    the_enumerator(level, hub, interface, call, count)
+    face = hub.get(11, back, "DItem")
+    tell(f"level {level}: hub.InterfaceOf", Proxy(call, face.ipid).get(9, 5, "k") == "milk")
+    got = hub.invoke(11, 1, ("No", back))
+    tell(
+        f"level {level}: hub.InterfaceOf of none",
+        (got.code, got.argument) == (0x80004002, 0),
+        hex(got.code),
+    )
+    got = hub.invoke(10, 1, ("No",))
+    tell(
+        f"level {level}: hub.Objects of none",
+        (got.code, got.argument) == (0x80020006, 0),
+        hex(got.code),
+    )
+    dcom.disconnect()
+
+
+def the_enumerator(level, hub, interface, call, count):
     enumerator = hub.get(-4)
     stub = (
         Writer()
@@ -552,21 +616,6 @@ def the_hub(level, item, grid):
     variants.walk(at)
     one = orpc.read_objref(variants.objref_of(at.data[start : at.at]))
     tell(f"level {level}: its first object", hub.of(one).get(1) is not None)
-    face = hub.get(11, back, "DItem")
-    tell(f"level {level}: hub.InterfaceOf", Proxy(call, face.ipid).get(9, 5, "k") == "milk")
-    got = hub.invoke(11, 1, ("No", back))
-    tell(
-        f"level {level}: hub.InterfaceOf of none",
-        (got.code, got.argument) == (0x80004002, 0),
-        hex(got.code),
-    )
-    got = hub.invoke(10, 1, ("No",))
-    tell(
-        f"level {level}: hub.Objects of none",
-        (got.code, got.argument) == (0x80020006, 0),
-        hex(got.code),
-    )
-    dcom.disconnect()
 
 
 def port(level=0):
@@ -596,6 +645,12 @@ def the_rest():
     refused("another OXID", lambda: IObjectExporter(port()).ResolveOxid2(oxid ^ 1, (7,)), "0x776")
     made = IObjectExporter(port()).ComplexPing(0, 0, (1, 2), ())
     IObjectExporter(port()).SimplePing(made["pSetId"])
+    the_users_that_are_refused()
+    the_names_of_users()
+    the_activations()
+
+
+def the_users_that_are_refused():
     refused(
         "a wrong password",
         lambda: connect(6, password="wrong").CoCreateInstanceEx(CLSID, IDISPATCH),
@@ -621,6 +676,10 @@ def the_rest():
         "NTLM version 1", lambda: connect(6).CoCreateInstanceEx(CLSID, IDISPATCH), "access_denied"
     )
     transport.DCERPCTransport.doesSupportNTLMv2 = old
+
+
+def the_names_of_users():
+    """And other classes and interfaces."""
     refused(
         "another class",
         lambda: connect(6).CoCreateInstanceEx(uuid.uuid4().bytes_le, IDISPATCH),
@@ -642,6 +701,9 @@ def the_rest():
         "a user's name in another case",
         connect(6, "JoE").CoCreateInstanceEx(HUB, IDISPATCH) is not None,
     )
+
+
+def the_activations():
     dcom = connect(6)
     factory = dcomrt.IRemoteSCMActivator(dcom.get_dce_rpc()).RemoteGetClassObject(
         CLSID, codes.IID_ICLASSFACTORY
